@@ -1,0 +1,96 @@
+-- Sizes and offsets in words (document 01, "Size and layout"), from the counts K, W, N and P.
+-- maxKeys ..: the limits. ranged, Ranged: the counts are in range. ..Size: words of a part. ..At: where a part begins.
+-- Assumes nothing.
+use mathlib.Core.Bool.{Bool, _&&_}
+use Prim.Native.Nat.{ℕ, _+_, _*_, _≤_}
+use lib.Dec.{leb}
+use Rattle.sizes.specs.declared.Counts.{Counts}
+use Rattle.sizes.specs.declared.Sizes.{Sizes}
+
+-- Four counts.
+abbrev pub countsOf : ℕ → ℕ → ℕ → ℕ → Counts
+countsOf k w n p = record { keys = k; writers = w; sites = n; runs = p }
+
+-- ---- limits: "Sheets K 1..32, writers W 1..16, offices N 1..8, runs P 1..8, jobs per run 1..8"
+
+abbrev pub maxKeys : ℕ
+maxKeys = 32
+
+abbrev pub maxWriters : ℕ
+maxWriters = 16
+
+abbrev pub maxSites : ℕ
+maxSites = 8
+
+abbrev pub maxRuns : ℕ
+maxRuns = 8
+
+abbrev pub maxJobs : ℕ
+maxJobs = 8
+
+-- 1 to top.
+unfoldable pub between : ℕ → ℕ → Bool
+between top x = leb 1 x && leb x top
+
+-- The four counts are in range.
+unfoldable pub ranged : Counts → Bool
+ranged z =
+    between maxKeys (z .keys) && (between maxWriters (z .writers) && (between maxSites (z .sites) && between maxRuns (z .runs)))
+
+-- The same as a statement.
+pub record Ranged (z : Counts) : Type 0 where
+  pub keys-low : 1 ≤ z .keys
+  pub keys-high : z .keys ≤ maxKeys
+  pub writers-low : 1 ≤ z .writers
+  pub writers-high : z .writers ≤ maxWriters
+  pub sites-low : 1 ≤ z .sites
+  pub sites-high : z .sites ≤ maxSites
+  pub runs-low : 1 ≤ z .runs
+  pub runs-high : z .runs ≤ maxRuns
+
+-- ---- sizes: "A version takes V = 1 + K·W words"
+
+-- A past: one clock for each key.
+unfoldable pub pastSize : Counts → ℕ
+pastSize z = z .keys * z .writers
+
+unfoldable pub versionSize : Counts → ℕ
+versionSize z = 1 + pastSize z
+
+-- A place (master, shelf or card): K versions.
+unfoldable pub placeSize : Counts → ℕ
+placeSize z = z .keys * versionSize z
+
+-- What a site keeps: its cache.
+unfoldable pub siteSize : Counts → ℕ
+siteSize z = placeSize z
+
+-- "a writer's count, then its past"
+unfoldable pub writerSize : Counts → ℕ
+writerSize z = 1 + pastSize z
+
+-- "runs P·(28 + K·V)": four words of status, 8 jobs of 3 words, the snapshot.
+unfoldable pub runSize : Counts → ℕ
+runSize z = 28 + placeSize z
+
+-- ---- offsets: "master K·V; shelves N·K·V; writers W·V; runs P·(28 + K·V)", after a header of 10 words
+
+unfoldable pub masterAt : Counts → ℕ
+masterAt z = 10
+
+unfoldable pub sitesAt : Counts → ℕ
+sitesAt z = masterAt z + placeSize z
+
+unfoldable pub writersAt : Counts → ℕ
+writersAt z = sitesAt z + z .sites * siteSize z
+
+unfoldable pub runsAt : Counts → ℕ
+runsAt z = writersAt z + z .writers * writerSize z
+
+unfoldable pub totalOf : Counts → ℕ
+totalOf z = runsAt z + z .runs * runSize z
+
+-- All of them.
+unfoldable pub sizesOf : Counts → Sizes
+sizesOf z =
+    record { master = masterAt z; sites = sitesAt z; writers = writersAt z; runs = runsAt z; total = totalOf z }
