@@ -1,0 +1,4 @@
+pub mod Words
+pub mod Reading
+pub mod Buffer
+pub mod Calls

@@ -1,0 +1,69 @@
+-- The words of a store, in document 01's order ("Size and layout"). Sizes and offsets: crate sizes.
+-- ..Words: the words of a part. storeWords: all of them.
+-- Assumes nothing.
+use mathlib.Core.List.{List, [], _∷_, _++_}
+use Prim.Native.Nat.{ℕ}
+use Rattle.words.specs.Lists.{blocks}
+use Rattle.clock.specs.Clock.{Clock}
+use Rattle.sizes.specs.Bounds.{masterAt, sitesAt, writersAt, runsAt, totalOf, maxJobs}
+use Rattle.sizes.specs.declared.Counts.{Counts}
+use Rattle.model.specs.Algebra.{Place}
+use Rattle.model.specs.Version.{Version}
+use Rattle.model.specs.Store.{Writer, Job, Run, Site, Store}
+
+unfoldable pub clockWords : Counts → Clock → List ℕ
+clockWords z c = blocks (z .writers) (λ w. c w ∷ [])
+
+unfoldable pub pastWords : Counts → (ℕ → Clock) → List ℕ
+pastWords z p = blocks (z .keys) (λ d. clockWords z (p d))
+
+-- "issue number, then row 0, row 1 and so on"
+unfoldable pub versionWords : Counts → Version → List ℕ
+versionWords z v = v .issue ∷ pastWords z (v .past)
+
+unfoldable pub placeWords : Counts → Place Version → List ℕ
+placeWords z p = blocks (z .keys) (λ k. versionWords z (p k))
+
+unfoldable pub siteWords : Counts → Site → List ℕ
+siteWords z x = placeWords z (x .cache)
+
+unfoldable pub sitesWords : Counts → (ℕ → Site) → List ℕ
+sitesWords z f = blocks (z .sites) (λ o. siteWords z (f o))
+
+-- "a writer's count, then its past"
+unfoldable pub writerWords : Counts → Writer → List ℕ
+writerWords z x = x .count ∷ pastWords z (x .past)
+
+unfoldable pub writersWords : Counts → (ℕ → Writer) → List ℕ
+writersWords z f = blocks (z .writers) (λ w. writerWords z (f w))
+
+-- "office, reads mask, upstream mask"
+unfoldable pub jobWords : Job → List ℕ
+jobWords j = j .site ∷ j .reads ∷ j .upstream ∷ []
+
+unfoldable pub jobsWords : (ℕ → Job) → List ℕ
+jobsWords f = blocks maxJobs (λ i. jobWords (f i))
+
+-- "state, number of jobs, done mask, read mask, 8 jobs of 3 words, then the card, K versions"
+unfoldable pub runWords : Counts → Run → List ℕ
+runWords z r = r .state ∷ r .jobs ∷ r .done ∷ r .read ∷ (jobsWords (r .job) ++ placeWords z (r .snapshot))
+
+unfoldable pub runsWords : Counts → (ℕ → Run) → List ℕ
+runsWords z f = blocks (z .runs) (λ r. runWords z (f r))
+
+-- "Header, 10 words: K, W, N, P, last issue number, then the offsets in words of master, shelves, writers and runs,
+-- then the total."
+unfoldable pub headerWords : Counts → ℕ → List ℕ
+headerWords z last =
+    z .keys ∷ z .writers ∷ z .sites ∷ z .runs ∷ last
+    ∷ masterAt z ∷ sitesAt z ∷ writersAt z ∷ runsAt z ∷ totalOf z ∷ []
+
+-- "The areas follow in that order without gaps."
+unfoldable pub storeWords : Store → List ℕ
+storeWords s =
+    let z = s .counts in
+    headerWords z (s .last)
+    ++ placeWords z (s .master)
+    ++ sitesWords z (s .site)
+    ++ writersWords z (s .writer)
+    ++ runsWords z (s .run)

@@ -1,0 +1,1 @@
+// The words of a store: definitions in specs/, laws in proofs/.

@@ -1,0 +1,34 @@
+-- The calls of document 01 with their arguments, and the rule of each on a store.
+-- New alone needs no store: crate layout has it, and the calls on a buffer.
+-- Assumes nothing.
+use mathlib.Core.List.{List, [], _∷_}
+use Prim.Native.Nat.{ℕ}
+use Rattle.model.specs.Store.{Store}
+use Rattle.model.specs.Outcome.{Outcome}
+use Rattle.model.specs.Caches.{fetchRule, evictRule}
+use Rattle.model.specs.Runs.{openRule, dropRule}
+use Rattle.model.specs.Prepare.{prepareRule}
+use Rattle.model.specs.Step.{stepRule}
+use Rattle.model.specs.Issue.{issueRule}
+use Rattle.model.specs.Look.{lookRule}
+
+-- A call on a store that is in form.
+pub data StoreCall : Type 0 where
+  openRun : ℕ → List ℕ → StoreCall  -- run, job words
+  fetch : ℕ → ℕ → StoreCall  -- office, sheet
+  evict : ℕ → ℕ → StoreCall  -- office, sheet
+  prepare : ℕ → StoreCall  -- run
+  step : ℕ → ℕ → StoreCall  -- run, job
+  issue : ℕ → ℕ → ℕ → StoreCall  -- run, writer, mask S
+  dropRun : ℕ → StoreCall  -- run
+  look : ℕ → ℕ → ℕ → StoreCall  -- place, its number, sheet
+
+unfoldable pub ruleOf : StoreCall → Store → Outcome
+ruleOf (openRun r l) = openRule r l
+ruleOf (fetch o k) = fetchRule o k
+ruleOf (evict o k) = evictRule o k
+ruleOf (prepare r) = prepareRule r
+ruleOf (step r j) = stepRule r j
+ruleOf (issue r w S) = issueRule r w S
+ruleOf (dropRun r) = dropRule r
+ruleOf (look p i k) = lookRule p i k

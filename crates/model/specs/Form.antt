@@ -1,0 +1,73 @@
+-- In form, the part that speaks of the store (document 01: "A desk is in form if ..").
+-- versionFormed, placeFormed, validJob, runFormed, wellFormed.
+-- Header, offsets and length are the buffer's: crate layout, `inForm`.
+-- Assumes nothing.
+use mathlib.Core.Bool.{Bool, cond, not, _&&_, _||_}
+use Prim.Native.Nat.{ℕ, _^_}
+use lib.Dec.{eqb, leb, ltb}
+use Rattle.words.specs.Tests.{allBelow}
+use Rattle.masks.specs.Mask.{testBit, maskBelow}
+use Rattle.clock.specs.Clock.{present}
+use Rattle.sizes.specs.Bounds.{between, maxJobs}
+use Rattle.sizes.specs.declared.Counts.{Counts}
+use Rattle.model.specs.Algebra.{Place, implies}
+use Rattle.model.specs.Version.{Version, held}
+use Rattle.model.specs.Store.{Job, Run, Store, planned, doneReads}
+
+-- Only zero counts.
+unfoldable pub zeroRows : Counts → Version → Bool
+zeroRows z v = allBelow (z .keys) (λ d. not (present (z .writers) (v .past d)))
+
+-- "an unheld version has only zero words and a held one a non-zero own row"
+unfoldable pub versionFormed : Counts → ℕ → Version → Bool
+versionFormed z k v = cond (held v) (present (z .writers) (v .past k)) (zeroRows z v)
+
+unfoldable pub placeFormed : Counts → Place Version → Bool
+placeFormed z p = allBelow (z .keys) (λ k. versionFormed z k (p k))
+
+-- "A valid job has an office below N, reads among K sheets (0 allowed), and upstream bits only of lower job numbers."
+unfoldable pub validJob : Counts → ℕ → Job → Bool
+validJob z i j = ltb (j .site) (z .sites) && (ltb (j .reads) (2 ^ z .keys) && ltb (j .upstream) (2 ^ i))
+
+unfoldable pub zeroJob : Job → Bool
+zeroJob j = eqb (j .site) 0 && (eqb (j .reads) 0 && eqb (j .upstream) 0)
+
+-- "a free run is all zero"
+unfoldable pub freeFormed : Counts → Run → Bool
+freeFormed z r =
+    eqb (r .jobs) 0 && (eqb (r .done) 0 && (eqb (r .read) 0
+    && (allBelow maxJobs (λ i. zeroJob (r .job i))
+    && allBelow (z .keys) (λ k. not (held (r .snapshot k)) && zeroRows z (r .snapshot k)))))
+
+-- "has 1..8 jobs, zero words beyond them, valid jobs"
+unfoldable pub jobsFormed : Counts → Run → Bool
+jobsFormed z r =
+    between maxJobs (r .jobs)
+    && allBelow maxJobs (λ i. cond (ltb i (r .jobs)) (validJob z i (r .job i)) (zeroJob (r .job i)))
+
+-- "a done mask below 2^jobs, a read mask that is just the done jobs' reads"
+unfoldable pub masksFormed : Counts → Run → Bool
+masksFormed z r =
+    ltb (r .done) (2 ^ r .jobs)
+    && eqb (r .read) (maskBelow (z .keys) (doneReads (r .jobs) (r .job) (r .done)))
+
+-- "carried sheets among the plan's sheets, each read sheet on the card"
+unfoldable pub snapshotFormed : Counts → Run → Bool
+snapshotFormed z r =
+    placeFormed z (r .snapshot)
+    && allBelow (z .keys) (λ k.
+    implies (held (r .snapshot k)) (planned (r .jobs) (r .job) k)
+    && implies (testBit (r .read) k) (held (r .snapshot k)))
+
+-- "any other run is in state 1 or 2 and .."
+unfoldable pub runFormed : Counts → Run → Bool
+runFormed z r =
+    cond (eqb (r .state) 0) (freeFormed z r)
+    (leb (r .state) 2 && (jobsFormed z r && (masksFormed z r && snapshotFormed z r)))
+
+unfoldable pub wellFormed : Store → Bool
+wellFormed s =
+    let z = s .counts in
+    placeFormed z (s .master)
+    && (allBelow (z .sites) (λ o. placeFormed z (s .site o .cache))
+    && allBelow (z .runs) (λ r. runFormed z (s .run r)))

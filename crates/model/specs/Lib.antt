@@ -1,0 +1,13 @@
+pub mod Algebra
+pub mod Version
+pub mod Sets
+pub mod Store
+pub mod Form
+pub mod Outcome
+pub mod Caches
+pub mod Runs
+pub mod Prepare
+pub mod Step
+pub mod Issue
+pub mod Look
+pub mod Calls

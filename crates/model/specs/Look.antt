@@ -1,0 +1,41 @@
+-- Look: the issue number and own row of a version.
+-- Assumes nothing.
+use mathlib.Core.Bool.{Bool, cond, not, _&&_, _||_}
+use mathlib.Core.List.{List, [], _∷_}
+use Prim.Native.Nat.{ℕ}
+use lib.Dec.{eqb, leb}
+use Rattle.words.specs.Lists.{blocks}
+use Rattle.clock.specs.Clock.{Clock}
+use Rattle.model.specs.Algebra.{Place}
+use Rattle.model.specs.Version.{Version, held}
+use Rattle.model.specs.Store.{Store}
+use Rattle.model.specs.Outcome.{Outcome, done, refuse, unless}
+
+-- "place (0 master, 1 shelf, 2 card), its number (0 for the master)"
+unfoldable pub lookPlace : Store → ℕ → ℕ → Place Version
+lookPlace s p i = cond (eqb p 0) (s .master) (cond (eqb p 1) (s .site i .cache) (s .run i .snapshot))
+
+-- How many places there are of each kind.
+unfoldable pub lookLimit : Store → ℕ → ℕ
+lookLimit s p = cond (eqb p 0) 1 (cond (eqb p 1) (s .counts .sites) (s .counts .runs))
+
+unfoldable pub lookCause : Store → ℕ → ℕ → ℕ → ℕ
+lookCause s p i k =
+    refuse (leb 3 p) 3
+    (refuse (leb (lookLimit s p) i) 3
+    (refuse (leb (s .counts .keys) k) 3
+    (refuse (not (held (lookPlace s p i k))) 8
+    0)))
+
+-- The counts of W writers, in order.
+unfoldable pub rowNumbers : ℕ → Clock → List ℕ
+rowNumbers W c = blocks W (λ w. c w ∷ [])
+
+-- "answers issue number and own row. Changes nothing."
+unfoldable pub lookDone : Store → ℕ → ℕ → ℕ → Outcome
+lookDone s p i k =
+    let v = lookPlace s p i k in
+    done (v .issue ∷ rowNumbers (s .counts .writers) (v .past k)) s
+
+unfoldable pub lookRule : ℕ → ℕ → ℕ → Store → Outcome
+lookRule p i k s = unless (lookCause s p i k) (lookDone s p i k)

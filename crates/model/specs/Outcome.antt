@@ -1,0 +1,63 @@
+-- What a call comes to, the refusal table as a chain of causes, and the table of states.
+-- Outcome, refuse, unless, refusedBy; allowed: "Which state a call needs".
+-- Assumes nothing.
+use mathlib.Core.Bool.{Bool, true, false, cond}
+use mathlib.Core.List.{List, [], _∷_}
+use Prim.Native.Nat.{ℕ, _+_, _*_}
+use lib.Dec.{eqb}
+use lib.ListN.{getD}
+use Rattle.model.specs.Store.{Store}
+
+pub data Outcome : Type 0 where
+  refused : ℕ → Outcome  -- "turned down": the cause's number; every word stays
+  broken : ℕ → Store → Outcome  -- step alone: the mask, and the next store
+  done : List ℕ → Store → Outcome  -- ok: the answer's numbers, and the next store
+
+-- One row of the refusal table: the number n where the cause holds, otherwise the rows below it. 0: no cause.
+unfoldable pub refuse : Bool → ℕ → ℕ → ℕ
+refuse true n rest = n
+refuse false n rest = rest
+
+-- Refused for a cause other than 0.
+unfoldable pub unless : ℕ → Outcome → Outcome
+unless n x = cond (eqb n 0) x (refused n)
+
+-- ---- states
+
+abbrev pub freeState : ℕ
+freeState = 0
+
+abbrev pub openState : ℕ
+openState = 1
+
+abbrev pub brokenState : ℕ
+brokenState = 2
+
+-- The calls that ask for a state, in the order of the table's rows.
+abbrev pub openRow : ℕ
+openRow = 0
+
+abbrev pub prepareRow : ℕ
+prepareRow = 1
+
+abbrev pub stepRow : ℕ
+stepRow = 2
+
+abbrev pub issueRow : ℕ
+issueRow = 3
+
+abbrev pub dropRow : ℕ
+dropRow = 4
+
+-- "Which state a call needs: open: free; prepare, step, issue: open; drop: open or broken."
+-- A row for each call; free, open, broken.
+abbrev pub stateTable : List ℕ
+stateTable =
+    1 ∷ 0 ∷ 0 ∷
+    0 ∷ 1 ∷ 0 ∷
+    0 ∷ 1 ∷ 0 ∷
+    0 ∷ 1 ∷ 0 ∷
+    0 ∷ 1 ∷ 1 ∷ []
+
+unfoldable pub allowed : ℕ → ℕ → Bool
+allowed call state = eqb (getD stateTable (call * 3 + state) 0) 1

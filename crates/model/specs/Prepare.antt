@@ -1,0 +1,81 @@
+-- Prepare: what the jobs of a run read is fetched, and the snapshot ("card") becomes the merge of their caches.
+-- fetchReads, preparedCaches, sitesMerged serve versions and copies alike.
+-- Assumes nothing.
+use mathlib.Core.Bool.{Bool, cond, not, _&&_}
+use mathlib.Core.List.{[], _∷_}
+use Prim.Native.Nat.{ℕ}
+use lib.Dec.{eqb, leb}
+use Rattle.words.specs.Tests.{Items, anyBelow}
+use Rattle.words.specs.Numbers.{foldBelow}
+use Rattle.words.specs.Lists.{putAt}
+use Rattle.masks.specs.Mask.{testBit, maskBelow}
+use Rattle.sizes.specs.declared.Counts.{Counts}
+use Rattle.model.specs.Algebra.{Algebra, Place, empty, lacking}
+use Rattle.model.specs.Version.{Version, held, versions}
+use Rattle.model.specs.Sets.{fetched, unfetchable}
+use Rattle.model.specs.Store.{Job, Run, Store, Site, planned, withRun, withSites, withSnapshot}
+use Rattle.model.specs.Outcome.{Outcome, done, refuse, unless, allowed, prepareRow}
+
+module _ {A : Type 0} (alg : Algebra A) (K : ℕ) (master : Place A) (job : ℕ → Job) where
+  -- What job j has to fetch: "its reads that its shelf lacks".
+  unfoldable pub jobStart : ℕ → (ℕ → Place A) → Items
+  jobStart j cache = lacking alg K (cache (job j .site)) (testBit (job j .reads))
+
+  -- The caches after job j's fetch.
+  unfoldable pub fetchReads : ℕ → (ℕ → Place A) → ℕ → Place A
+  fetchReads j cache =
+      putAt cache (job j .site) (fetched alg K master (cache (job j .site)) (jobStart j cache))
+
+  -- "for each job in number order": the caches after the first n jobs' fetches.
+  unfoldable pub preparedCaches : ℕ → (ℕ → Place A) → ℕ → Place A
+  preparedCaches n cache = foldBelow n fetchReads cache
+
+  -- A key that one of n jobs has to fetch isn't held by the master.
+  unfoldable pub unpreparable : ℕ → (ℕ → Place A) → Bool
+  unpreparable n cache = anyBelow n (λ j. unfetchable alg K master (jobStart j (preparedCaches j cache)))
+
+-- Some of n jobs is at site o.
+unfoldable pub usesSite : ℕ → (ℕ → Job) → Items
+usesSite n job o = anyBelow n (λ j. eqb (job j .site) o)
+
+-- "the merge, over the jobs' offices (lowest number first, each once), of their shelves cut down to the plan's sheets"
+unfoldable pub sitesMerged : {A : Type 0} → Algebra A → ℕ → Items → Items → (ℕ → Place A) → Place A
+sitesMerged alg N sites plan cache k =
+    foldBelow N (λ o a. cond (sites o && plan k) (alg .merge a (cache o k)) a) (alg .nothing)
+
+unfoldable pub siteCaches : Store → ℕ → Place Version
+siteCaches s o = s .site o .cache
+
+unfoldable pub prepareCause : Store → ℕ → ℕ
+prepareCause s r =
+    let z = s .counts in
+    let a = s .run r in
+    refuse (leb (z .runs) r) 3
+    (refuse (not (allowed prepareRow (a .state))) 4
+    (refuse (not (eqb (a .done) 0)) 6
+    (refuse (unpreparable (versions (z .writers)) (z .keys) (s .master) (a .job) (a .jobs) (siteCaches s)) 7
+    0)))
+
+-- The caches after the fetches of run r's jobs.
+unfoldable pub prepareCaches : Store → ℕ → ℕ → Place Version
+prepareCaches s r =
+    let z = s .counts in
+    let a = s .run r in
+    preparedCaches (versions (z .writers)) (z .keys) (s .master) (a .job) (a .jobs) (siteCaches s)
+
+unfoldable pub prepareSnapshot : Store → ℕ → Place Version
+prepareSnapshot s r =
+    let z = s .counts in
+    let a = s .run r in
+    sitesMerged (versions (z .writers)) (z .sites) (usesSite (a .jobs) (a .job)) (planned (a .jobs) (a .job))
+    (prepareCaches s r)
+
+-- "Answers the carried mask."
+unfoldable pub prepareDone : Store → ℕ → Outcome
+prepareDone s r =
+    done (maskBelow (s .counts .keys) (λ k. held (prepareSnapshot s r k)) ∷ [])
+    (withRun (withSites s (λ o. record { cache = prepareCaches s r o })) r
+    (withSnapshot (s .run r) (prepareSnapshot s r)))
+
+unfoldable pub prepareRule : ℕ → Store → Outcome
+prepareRule r s = unless (prepareCause s r) (prepareDone s r)

@@ -1,0 +1,98 @@
+-- Step: a job reads its keys, from the snapshot ("card"), its site's cache or the master.
+-- stepReads (R), stepStart (what is fetched), stepCache (the cache after the fetch), stepPull (C), stepMoved.
+-- Assumes nothing.
+use mathlib.Core.Bool.{Bool, cond, not, _&&_, _||_}
+use mathlib.Core.List.{[], _∷_}
+use Prim.Native.Nat.{ℕ}
+use lib.Bits.{bitOr}
+use lib.Dec.{eqb, leb}
+use Rattle.words.specs.Tests.{Items, anyBelow}
+use Rattle.masks.specs.Mask.{testBit, withBit, maskBelow}
+use Rattle.sizes.specs.Bounds.{maxJobs}
+use Rattle.model.specs.Algebra.{Algebra, Place, lacking}
+use Rattle.model.specs.Version.{Version, versions}
+use Rattle.model.specs.Sets.{fetchSet, fetched, unfetchable, pullSet, pulled}
+use Rattle.model.specs.Store.{Run, Store, planned, withCache, withRun, withState, withJobDone}
+use Rattle.model.specs.Outcome.{Outcome, broken, done, refuse, unless, allowed, stepRow, freeState, brokenState}
+
+-- "reads R that the card lacks and the shelf lacks are fetched together"
+unfoldable pub readStart : {A : Type 0} → Algebra A → ℕ → Place A → Place A → Items → Items
+readStart alg K card cache reads = lacking alg K cache (lacking alg K card reads)
+
+module _ (s : Store) (r j : ℕ) where
+  unfoldable pub stepSite : ℕ
+  stepSite = s .run r .job j .site
+
+  -- R
+  unfoldable pub stepReads : Items
+  stepReads = testBit (s .run r .job j .reads)
+
+  unfoldable pub stepStart : Items
+  stepStart =
+      readStart (versions (s .counts .writers)) (s .counts .keys) (s .run r .snapshot) (s .site stepSite .cache) stepReads
+
+  -- T
+  unfoldable pub stepFetch : Items
+  stepFetch =
+      fetchSet (versions (s .counts .writers)) (s .counts .keys) (s .master) (s .site stepSite .cache) stepStart
+
+  unfoldable pub stepCache : Place Version
+  stepCache =
+      fetched (versions (s .counts .writers)) (s .counts .keys) (s .master) (s .site stepSite .cache) stepStart
+
+  unfoldable pub stepPlan : Items
+  stepPlan = planned (s .run r .jobs) (s .run r .job)
+
+  -- C
+  unfoldable pub stepPull : Items
+  stepPull =
+      pullSet (versions (s .counts .writers)) (s .counts .keys) stepPlan (s .run r .snapshot) stepCache stepReads
+
+  -- The card after a step that doesn't break.
+  unfoldable pub stepSnapshot : Place Version
+  stepSnapshot =
+      pulled (versions (s .counts .writers)) (s .counts .keys) stepPlan (s .run r .snapshot) stepCache stepReads
+
+  -- "If C has a sheet of the read mask, the run is broken .. with those sheets."
+  unfoldable pub stepMoved : Items
+  stepMoved k = stepPull k && testBit (s .run r .read) k
+
+  -- "a job not below its run's number of jobs (below 8 if the run is free)"
+  unfoldable pub jobLimit : ℕ
+  jobLimit = cond (eqb (s .run r .state) freeState) maxJobs (s .run r .jobs)
+
+  -- "job done, or an upstream job not done"
+  unfoldable pub notReady : Bool
+  notReady =
+      testBit (s .run r .done) j
+      || anyBelow maxJobs (λ i. testBit (s .run r .job j .upstream) i && not (testBit (s .run r .done) i))
+
+  unfoldable pub stepCause : ℕ
+  stepCause =
+      refuse (leb (s .counts .runs) r) 3
+      (refuse (leb jobLimit j) 3
+      (refuse (not (allowed stepRow (s .run r .state))) 4
+      (refuse notReady 6
+      (refuse (unfetchable (versions (s .counts .writers)) (s .counts .keys) (s .master) stepStart) 7
+      0))))
+
+  -- "its state becomes 2, nothing else changes (the shelf too is as before the fetch)"
+  unfoldable pub stepBroken : Outcome
+  stepBroken =
+      broken (maskBelow (s .counts .keys) stepMoved) (withRun s r (withState (s .run r) brokenState))
+
+  -- "R outside C (card), R in C not fetched in this step (shelf), R in C fetched (master)"
+  unfoldable pub stepDone : Outcome
+  stepDone =
+      let K = s .counts .keys in
+      done (maskBelow K (λ k. stepReads k && not (stepPull k))
+      ∷ maskBelow K (λ k. stepReads k && (stepPull k && not (stepFetch k)))
+      ∷ maskBelow K (λ k. stepReads k && (stepPull k && stepFetch k)) ∷ [])
+      (withRun (withCache s stepSite stepCache) r
+      (withJobDone (s .run r) (withBit (s .run r .done) j)
+      (bitOr (s .run r .read) (s .run r .job j .reads)) stepSnapshot))
+
+unfoldable pub stepRule : ℕ → ℕ → Store → Outcome
+stepRule r j s =
+    unless (stepCause s r j)
+    (cond (anyBelow (s .counts .keys) (stepMoved s r j)) (stepBroken s r j) (stepDone s r j))

@@ -1,0 +1,174 @@
+-- The store ("desk"): what a buffer of words stands for.
+-- Writer, Job, Run, Site (an office and its shelf), Store; planned ("plan's sheets"), doneReads; with..: one part changed.
+-- Assumes nothing.
+use mathlib.Core.Bool.{Bool, _&&_}
+use Prim.Native.Nat.{ℕ}
+use Rattle.words.specs.Tests.{Items, anyBelow}
+use Rattle.words.specs.Lists.{putAt}
+use Rattle.masks.specs.Mask.{testBit}
+use Rattle.clock.specs.Clock.{Clock}
+use Rattle.sizes.specs.declared.Counts.{Counts}
+use Rattle.model.specs.Algebra.{Place}
+use Rattle.model.specs.Version.{Version, zeroPast, unheld}
+
+-- "a writer's count, then its past"
+pub record Writer : Type 0 where
+  pub count : ℕ
+  pub past : ℕ → Clock
+
+-- "office, reads mask, upstream mask"
+pub record Job : Type 0 where
+  pub site : ℕ
+  pub reads : ℕ
+  pub upstream : ℕ
+
+-- "state (0 free, 1 open, 2 broken), number of jobs, done mask, read mask, 8 jobs, then the card"
+pub record Run : Type 0 where
+  pub state : ℕ
+  pub jobs : ℕ
+  pub done : ℕ
+  pub read : ℕ
+  pub job : ℕ → Job
+  pub snapshot : Place Version
+
+-- An office: its shelf.
+pub record Site : Type 0 where
+  pub cache : Place Version
+
+-- last: the last issue number.
+pub record Store : Type 0 where
+  pub counts : Counts
+  pub last : ℕ
+  pub master : Place Version
+  pub site : ℕ → Site
+  pub writer : ℕ → Writer
+  pub run : ℕ → Run
+
+-- ---- what stands where nothing does
+
+abbrev pub emptyPlace : Place Version
+emptyPlace k = unheld
+
+abbrev pub noWriter : Writer
+noWriter = record { count = 0; past = zeroPast }
+
+abbrev pub noJob : Job
+noJob = record { site = 0; reads = 0; upstream = 0 }
+
+abbrev pub noJobs : ℕ → Job
+noJobs j = noJob
+
+abbrev pub noSite : Site
+noSite = record { cache = emptyPlace }
+
+abbrev pub freeRun : Run
+freeRun = record { state = 0; jobs = 0; done = 0; read = 0; job = noJobs; snapshot = emptyPlace }
+
+-- "a fresh desk: nothing held, every run free, all counts zero"
+unfoldable pub fresh : Counts → Store
+fresh z = record {
+  counts = z;
+  last = 0;
+  master = emptyPlace;
+  site = λ o. noSite;
+  writer = λ w. noWriter;
+  run = λ r. freeRun;
+}
+
+-- ---- what the jobs of a run read
+
+-- "the plan's sheets (all its jobs' reads)", of n jobs.
+unfoldable pub planned : ℕ → (ℕ → Job) → Items
+planned n job k = anyBelow n (λ j. testBit (job j .reads) k)
+
+-- What the jobs of a done mask read.
+unfoldable pub doneReads : ℕ → (ℕ → Job) → ℕ → Items
+doneReads n job done k = anyBelow n (λ j. testBit done j && testBit (job j .reads) k)
+
+-- ---- the store with one part changed
+
+unfoldable pub withMaster : Store → Place Version → Store
+withMaster s p = record {
+  counts = s .counts;
+  last = s .last;
+  master = p;
+  site = s .site;
+  writer = s .writer;
+  run = s .run;
+}
+
+unfoldable pub withLast : Store → ℕ → Store
+withLast s n = record {
+  counts = s .counts;
+  last = n;
+  master = s .master;
+  site = s .site;
+  writer = s .writer;
+  run = s .run;
+}
+
+unfoldable pub withSites : Store → (ℕ → Site) → Store
+withSites s f = record {
+  counts = s .counts;
+  last = s .last;
+  master = s .master;
+  site = f;
+  writer = s .writer;
+  run = s .run;
+}
+
+unfoldable pub withCache : Store → ℕ → Place Version → Store
+withCache s o p = withSites s (putAt (s .site) o (record { cache = p }))
+
+unfoldable pub withWriter : Store → ℕ → Writer → Store
+withWriter s w x = record {
+  counts = s .counts;
+  last = s .last;
+  master = s .master;
+  site = s .site;
+  writer = putAt (s .writer) w x;
+  run = s .run;
+}
+
+unfoldable pub withRun : Store → ℕ → Run → Store
+withRun s r x = record {
+  counts = s .counts;
+  last = s .last;
+  master = s .master;
+  site = s .site;
+  writer = s .writer;
+  run = putAt (s .run) r x;
+}
+
+-- ---- a run with one part changed
+
+unfoldable pub withState : Run → ℕ → Run
+withState a x = record {
+  state = x;
+  jobs = a .jobs;
+  done = a .done;
+  read = a .read;
+  job = a .job;
+  snapshot = a .snapshot;
+}
+
+unfoldable pub withSnapshot : Run → Place Version → Run
+withSnapshot a p = record {
+  state = a .state;
+  jobs = a .jobs;
+  done = a .done;
+  read = a .read;
+  job = a .job;
+  snapshot = p;
+}
+
+-- The run after a job: done and read masks, and the snapshot.
+unfoldable pub withJobDone : Run → ℕ → ℕ → Place Version → Run
+withJobDone a done read p = record {
+  state = a .state;
+  jobs = a .jobs;
+  done = done;
+  read = read;
+  job = a .job;
+  snapshot = p;
+}

@@ -1,0 +1,1 @@
+// The model of document 01: definitions only, in specs/.
