@@ -1,0 +1,125 @@
+-- Demand 3: one claim about a whole list of calls on the buffer that an accepted new left.
+-- Counted (b), Snapshot (c), Pick, Works, BreakExact (d), Holds (all of it at one point of the list), Consistent.
+-- Assumes nothing.
+use mathlib.Core.Path.{_≡_}
+use mathlib.Core.Bool.{Bool, true, false, cond, So}
+use mathlib.Core.Logic.{_↔_}
+use mathlib.Core.List.{List, [], _∷_, _++_}
+use Prim.Native.Nat.{ℕ, _<_}
+use lib.ListN.{length}
+use Rattle.words.specs.Tests.{Items}
+use Rattle.masks.specs.Mask.{testBit}
+use Rattle.sizes.specs.declared.Counts.{Counts}
+use Rattle.model.specs.Algebra.{Place, needsMet, causalCut, overlappingCut}
+use Rattle.model.specs.Version.{Version, held, merge, unheld, versions}
+use Rattle.model.specs.Store.{Store, planned}
+use Rattle.model.specs.Outcome.{Outcome, refused, broken, done}
+use Rattle.model.specs.Step.{stepRule, stepReads, stepCache, stepPlan}
+use Rattle.layout.specs.Reading.{storeOf}
+use Rattle.layout.specs.Buffer.{inForm}
+use Rattle.layout.specs.Calls.{Call, newOn, isOk}
+use Rattle.history.specs.History.{History, HappensBefore, saved}
+use Rattle.history.specs.Copies.{Copy, counted}
+use Rattle.history.specs.Book.{Book}
+use Rattle.consistency.specs.Trace.{ReadSet, Trace, start, follow}
+
+-- ---- (b) "each version on master, shelves and cards is the one that document 01's book gives"
+
+abbrev pub Counted : ℕ → History → Place Version → Place Copy → Type 0
+Counted K h p c = (k : ℕ) → k < K → p k ≡ counted K h (c k)
+
+-- ---- (c) "two finished jobs of one run, at one office or two, share one causal snapshot"
+
+pub record Snapshot (K : ℕ) (h : History) (x y : ReadSet) : Type 0 where
+  -- "a sheet that both read is one version"
+  pub one-version : (k : ℕ) → k < K → So (x .keys k) → So (y .keys k) → x .version k ≡ y .version k
+  -- "each save of a sheet that either read, if by the book it stands behind anything either read, is included in the
+  -- version read": for x and y in either order, and for each with itself
+  pub included : (e i d j : ℕ) → e < K → d < K → So (x .keys e) → So (x .copy e i) → So (y .keys d)
+      → HappensBefore h d j e i → So (y .copy d j)
+
+pub data Among (x : ReadSet) : List ReadSet → Type 0 where
+  first : {xs : List ReadSet} → Among x (x ∷ xs)
+  later : {y : ReadSet} {xs : List ReadSet} → Among x xs → Among x (y ∷ xs)
+
+-- ---- (d) "a step in the list that is not turned down breaks its run exactly if no choice .. "
+
+-- "for each sheet of the plan, of the card's version, the office's (after the step's fetch), their merge or none"
+pub data Pick : Type 0 where
+  cards : Pick
+  sites : Pick
+  merged : Pick
+  neither : Pick
+
+unfoldable pub pickOf : Pick → Version → Version → Version
+pickOf cards card cache = card
+pickOf sites card cache = cache
+pickOf merged card cache = merge card cache
+pickOf neither card cache = unheld
+
+-- The choice made for run r's job j: nothing outside of the plan.
+unfoldable pub chosen : Store → ℕ → ℕ → (ℕ → Pick) → Place Version
+chosen s r j pick k =
+    cond (stepPlan s r j k) (pickOf (pick k) (s .run r .snapshot k) (stepCache s r j k)) unheld
+
+-- It "holds all that the job reads, leaves the sheets already read as they were and meets every need among the plan's
+-- sheets".
+pub record Works (s : Store) (r j : ℕ) (pick : ℕ → Pick) : Type 0 where
+  pub holds : (k : ℕ) → k < s .counts .keys → So (stepReads s r j k) → So (held (chosen s r j pick k))
+  pub keeps : (k : ℕ) → k < s .counts .keys → So (testBit (s .run r .read) k)
+      → chosen s r j pick k ≡ s .run r .snapshot k
+  pub meets : So (needsMet (versions (s .counts .writers)) (s .counts .keys) (stepPlan s r j) (chosen s r j pick))
+
+unfoldable pub isRefused : Outcome → Bool
+isRefused (refused n) = true
+isRefused (broken m s) = false
+isRefused (done a s) = false
+
+unfoldable pub isBroken : Outcome → Bool
+isBroken (refused n) = false
+isBroken (broken m s) = true
+isBroken (done a s) = false
+
+-- Of a step made now.
+abbrev pub BreakExact : Store → ℕ → ℕ → Type 0
+BreakExact s r j =
+    isRefused (stepRule r j s) ≡ false
+    → So (isBroken (stepRule r j s)) ↔ ¬ ((pick : ℕ → Pick) × Works s r j pick)
+
+-- ---- all of it, at one point of the list: store, book, and what finished jobs have read
+
+pub record Holds (s : Store) (b : Book) (finished : ℕ → List ReadSet) : Type 0 where
+  pub counts : s .counts ≡ b .counts
+  -- (a) "each shelf is a causal cut"
+  pub cuts : (o : ℕ) → o < s .counts .sites
+      → So (causalCut (versions (s .counts .writers)) (s .counts .keys) (s .site o .cache))
+  -- (b)
+  pub master : Counted (s .counts .keys) (b .history) (s .master) (b .master)
+  pub caches : (o : ℕ) → o < s .counts .sites
+      → Counted (s .counts .keys) (b .history) (s .site o .cache) (b .cache o)
+  pub snapshots : (r : ℕ) → r < s .counts .runs
+      → Counted (s .counts .keys) (b .history) (s .run r .snapshot) (b .run r .snapshot)
+  -- (c)
+  pub shared : (r : ℕ) (x y : ReadSet) → Among x (finished r) → Among y (finished r)
+      → Snapshot (s .counts .keys) (b .history) x y
+  -- (d)
+  pub breaks : (r j : ℕ) → BreakExact s r j
+  -- Besides: each card is a keyset-overlapping cut for its plan, and the master holds every save.
+  pub overlaps : (r : ℕ) → r < s .counts .runs
+      → So (overlappingCut (versions (s .counts .writers)) (s .counts .keys)
+          (planned (s .run r .jobs) (s .run r .job)) (s .run r .snapshot))
+  pub every-save : (k i : ℕ) → k < s .counts .keys → So (saved (b .history) k i) → So (b .master k i)
+
+-- At a point: the buffer is in form too, so that a store that spoils itself and then refuses all won't do.
+pub record HoldsAt (t : Trace) : Type 0 where
+  pub formed : So (inForm (t .buffer))
+  pub holds : Holds (storeOf (t .buffer)) (t .book) (t .finished)
+
+-- ---- the claim about the list: it holds at each of its points, the first and the last included
+
+abbrev pub Consistent : List Call → Trace → Type 0
+Consistent cs t = (sofar rest : List Call) → cs ≡ sofar ++ rest → HoldsAt (follow sofar t)
+
+-- Demand 3, for every list of calls after an accepted new, on any buffer.
+abbrev pub Demand3 : Type 0
+Demand3 = (l : List ℕ) (z : Counts) → So (isOk (newOn l z)) → (cs : List Call) → Consistent cs (start z l)

@@ -1,0 +1,66 @@
+-- A list of calls followed: the buffer, the book beside it, and what the finished jobs of each run have read.
+-- ReadSet, Trace, start, advance, follow.
+-- Assumes nothing.
+use mathlib.Core.Bool.{Bool, true, false, cond}
+use mathlib.Core.List.{List, [], _∷_}
+use Prim.Native.Nat.{ℕ}
+use Rattle.words.specs.Tests.{Items}
+use Rattle.words.specs.Lists.{putAt}
+use Rattle.masks.specs.Mask.{testBit}
+use Rattle.sizes.specs.declared.Counts.{Counts}
+use Rattle.model.specs.Algebra.{Place}
+use Rattle.model.specs.Version.{Version}
+use Rattle.model.specs.Calls.{StoreCall, openRun, fetch, evict, prepare, step, issue, dropRun, look}
+use Rattle.layout.specs.Reading.{storeOf}
+use Rattle.layout.specs.Calls.{Call, new, on, callOn, leaves, isOk, newOn}
+use Rattle.history.specs.Copies.{Copy}
+use Rattle.history.specs.Book.{Book, freshBook, bookStep}
+
+-- "A job whose step is answered ok is finished and has read its sheets, as that step left them on the card."
+pub record ReadSet : Type 0 where
+  pub keys : Items
+  pub version : Place Version
+  pub copy : Place Copy
+
+-- finished r: what the finished jobs of run r have read, since it was opened.
+pub record Trace : Type 0 where
+  pub buffer : List ℕ
+  pub book : Book
+  pub finished : ℕ → List ReadSet
+
+-- "The list starts on what an accepted new left."
+unfoldable pub start : Counts → List ℕ → Trace
+start z l = record { buffer = leaves (newOn l z) l; book = freshBook z; finished = λ r. [] }
+
+-- Run r's snapshot for the keys that its job j reads.
+unfoldable pub readNow : ℕ → ℕ → List ℕ → Book → ReadSet
+readNow r j l b = record {
+  keys = testBit (b .run r .job j .reads);
+  version = storeOf l .run r .snapshot;
+  copy = b .run r .snapshot;
+}
+
+-- A call answered ok, on what has been read: l and b are the buffer and the book after it.
+-- "A run lasts from its open until it is freed."
+unfoldable pub finish : Call → List ℕ → Book → (ℕ → List ReadSet) → ℕ → List ReadSet
+finish (new k w n p) l b f = λ r. []
+finish (on (openRun r js)) l b f = putAt f r []
+finish (on (fetch o k)) l b f = f
+finish (on (evict o k)) l b f = f
+finish (on (prepare r)) l b f = f
+finish (on (step r j)) l b f = putAt f r (readNow r j l b ∷ f r)
+finish (on (issue r w S)) l b f = putAt f r []
+finish (on (dropRun r)) l b f = putAt f r []
+finish (on (look p i k)) l b f = f
+
+-- One call. The book gets the call, and whether it was answered ok.
+unfoldable pub advance : Call → Trace → Trace
+advance c t =
+    let out = callOn c (t .buffer) in
+    let l = leaves out (t .buffer) in
+    let b = bookStep c (isOk out) (t .book) in
+    record { buffer = l; book = b; finished = cond (isOk out) (finish c l b (t .finished)) (t .finished) }
+
+unfoldable pub follow : List Call → Trace → Trace
+follow [] t = t
+follow (c ∷ cs) t = follow cs (advance c t)

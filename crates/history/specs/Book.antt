@@ -1,0 +1,155 @@
+-- The history model (document 01: "the book"), fed each call with its arguments and whether it was answered ok.
+-- BookRun, Book, freshBook; bookStep: one call.
+-- Assumes nothing.
+use mathlib.Core.Bool.{Bool, true, false, cond, _&&_, _||_}
+use mathlib.Core.List.{List, [], _∷_}
+use Prim.Native.Nat.{ℕ}
+use lib.Dec.{eqb}
+use lib.ListN.{length}
+use Rattle.words.specs.Tests.{Items, only, none}
+use Rattle.words.specs.Lists.{putAt}
+use Rattle.masks.specs.Mask.{testBit}
+use Rattle.sizes.specs.Bounds.{countsOf}
+use Rattle.sizes.specs.declared.Counts.{Counts}
+use Rattle.model.specs.Algebra.{Place}
+use Rattle.model.specs.Sets.{fetched, evicted, pulled}
+use Rattle.model.specs.Store.{Job, planned, noJobs}
+use Rattle.model.specs.Runs.{listedCount, listedJobs}
+use Rattle.model.specs.Prepare.{preparedCaches, sitesMerged, usesSite}
+use Rattle.model.specs.Step.{readStart}
+use Rattle.model.specs.Calls.{StoreCall, openRun, fetch, evict, prepare, step, issue, dropRun, look}
+use Rattle.layout.specs.Calls.{Call, new, on}
+use Rattle.history.specs.History.{Issue, History, inPast}
+use Rattle.history.specs.Copies.{Copy, copies}
+
+-- "each run's jobs and read sheets", and its card.
+pub record BookRun : Type 0 where
+  pub jobs : ℕ
+  pub job : ℕ → Job
+  pub read : Items
+  pub snapshot : Place Copy
+
+pub record Book : Type 0 where
+  pub counts : Counts
+  pub history : History
+  pub master : Place Copy
+  pub cache : ℕ → Place Copy
+  pub run : ℕ → BookRun
+
+abbrev pub noCopies : Place Copy
+noCopies k = none
+
+abbrev pub noRun : BookRun
+noRun = record { jobs = 0; job = noJobs; read = none; snapshot = noCopies }
+
+-- "New: all empty."
+unfoldable pub freshBook : Counts → Book
+freshBook z = record { counts = z; history = []; master = noCopies; cache = λ o. noCopies; run = λ r. noRun }
+
+unfoldable pub withBookCaches : Book → (ℕ → Place Copy) → Book
+withBookCaches b f = record {
+  counts = b .counts;
+  history = b .history;
+  master = b .master;
+  cache = f;
+  run = b .run;
+}
+
+unfoldable pub withBookRun : Book → ℕ → BookRun → Book
+withBookRun b r x = record {
+  counts = b .counts;
+  history = b .history;
+  master = b .master;
+  cache = b .cache;
+  run = putAt (b .run) r x;
+}
+
+-- ---- "Fetch, evict, prepare, step: the rules above on copies, T, E and C too."
+
+-- "Open: the jobs are entered."
+unfoldable pub bookOpen : ℕ → List ℕ → Book → Book
+bookOpen r l b =
+    withBookRun b r (record { jobs = listedCount l; job = listedJobs l; read = none; snapshot = noCopies })
+
+unfoldable pub bookFetch : ℕ → ℕ → Book → Book
+bookFetch o k b =
+    withBookCaches b (putAt (b .cache) o
+    (fetched (copies (b .counts .keys) (b .history)) (b .counts .keys) (b .master) (b .cache o) (only k)))
+
+unfoldable pub bookEvict : ℕ → ℕ → Book → Book
+bookEvict o k b =
+    withBookCaches b (putAt (b .cache) o
+    (evicted (copies (b .counts .keys) (b .history)) (b .counts .keys) (b .cache o) (only k)))
+
+unfoldable pub bookPrepare : ℕ → Book → Book
+bookPrepare r b =
+    let K = b .counts .keys in
+    let alg = copies K (b .history) in
+    let a = b .run r in
+    let caches = preparedCaches alg K (b .master) (a .job) (a .jobs) (b .cache) in
+    let plan = planned (a .jobs) (a .job) in
+    withBookRun (withBookCaches b caches) r (record {
+      jobs = a .jobs;
+      job = a .job;
+      read = a .read;
+      snapshot = sitesMerged alg (b .counts .sites) (usesSite (a .jobs) (a .job)) plan caches;
+    })
+
+unfoldable pub bookStepJob : ℕ → ℕ → Book → Book
+bookStepJob r j b =
+    let K = b .counts .keys in
+    let alg = copies K (b .history) in
+    let a = b .run r in
+    let o = a .job j .site in
+    let reads = testBit (a .job j .reads) in
+    let cache = fetched alg K (b .master) (b .cache o) (readStart alg K (a .snapshot) (b .cache o) reads) in
+    withBookRun (withBookCaches b (putAt (b .cache) o cache)) r (record {
+      jobs = a .jobs;
+      job = a .job;
+      read = λ k. a .read k || reads k;
+      snapshot = pulled alg K (planned (a .jobs) (a .job)) (a .snapshot) cache reads;
+    })
+
+-- ---- issue
+
+-- "writer, mask, the copies its run had read"
+unfoldable pub entry : ℕ → ℕ → ℕ → Book → Issue
+entry r w S b = record { writer = w; keys = testBit S; read = λ k i. b .run r .read k && b .run r .snapshot k i }
+
+-- "for each k in S the master's copy takes in what the new version includes": "its own save and all saves of its sheet
+-- behind it"
+unfoldable pub bookIssue : ℕ → ℕ → ℕ → Book → Book
+bookIssue r w S b =
+    let h = entry r w S b ∷ b .history in
+    record {
+      counts = b .counts;
+      history = h;
+      master = λ k.
+          cond (testBit S k) (λ i. b .master k i || inPast (b .counts .keys) h (length (b .history)) k i) (b .master k);
+      cache = b .cache;
+      run = putAt (b .run) r noRun;
+    }
+
+-- "Issue: if S isn't empty it is entered .. Any issue, and drop, clear the run."
+unfoldable pub bookIssued : ℕ → ℕ → ℕ → Book → Book
+bookIssued r w S b = cond (eqb S 0) (withBookRun b r noRun) (bookIssue r w S b)
+
+-- ---- one call answered ok
+
+unfoldable pub bookRule : StoreCall → Book → Book
+bookRule (openRun r l) b = bookOpen r l b
+bookRule (fetch o k) b = bookFetch o k b
+bookRule (evict o k) b = bookEvict o k b
+bookRule (prepare r) b = bookPrepare r b
+bookRule (step r j) b = bookStepJob r j b
+bookRule (issue r w S) b = bookIssued r w S b
+bookRule (dropRun r) b = withBookRun b r noRun
+bookRule (look p i k) b = b
+
+unfoldable pub bookOk : Call → Book → Book
+bookOk (new k w n p) b = freshBook (countsOf k w n p)
+bookOk (on c) b = bookRule c b
+
+-- "Not ok, or look: nothing changes."
+unfoldable pub bookStep : Call → Bool → Book → Book
+bookStep c ok b = cond ok (bookOk c b) b

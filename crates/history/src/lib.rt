@@ -1,0 +1,1 @@
+// The history model (document 01's book): definitions in specs/.
