@@ -14,10 +14,6 @@ use Rattle.sizes.specs.Bounds.{maxKeys, maxWriters, maxSites, maxRuns, b
 
 -- ---- counts in range
 
-between-in : (top x : ℕ) → 1 ≤ x → x ≤ top → So (between top x)
-unfolding between
-between-in top x a b = and-intro (le-leb 1 x a) (le-leb x top b)
-
 between-out : (top x : ℕ) → So (between top x) → (1 ≤ x) × (x ≤ top)
 unfolding between
 between-out top x p =
@@ -25,13 +21,9 @@ between-out top x p =
     let b = and-right (leb 1 x) (leb x top) p in
     (leb-le 1 x a, leb-le x top b)
 
-pub ranged-in : (z : Counts) → Ranged z → So (ranged z)
-unfolding ranged
-ranged-in z R =
-    and-intro (between-in maxKeys (z .keys) (R .keys-low) (R .keys-high))
-    (and-intro (between-in maxWriters (z .writers) (R .writers-low) (R .writers-high))
-    (and-intro (between-in maxSites (z .sites) (R .sites-low) (R .sites-high))
-    (between-in maxRuns (z .runs) (R .runs-low) (R .runs-high))))
+between-in : (top x : ℕ) → 1 ≤ x → x ≤ top → So (between top x)
+unfolding between
+between-in top x a b = and-intro (le-leb 1 x a) (le-leb x top b)
 
 pub ranged-out : (z : Counts) → So (ranged z) → Ranged z
 unfolding ranged
@@ -56,6 +48,14 @@ ranged-out z p =
       runs-low = runs .0;
       runs-high = runs .1;
     }
+
+pub ranged-in : (z : Counts) → Ranged z → So (ranged z)
+unfolding ranged
+ranged-in z R =
+    and-intro (between-in maxKeys (z .keys) (R .keys-low) (R .keys-high))
+    (and-intro (between-in maxWriters (z .writers) (R .writers-low) (R .writers-high))
+    (and-intro (between-in maxSites (z .sites) (R .sites-low) (R .sites-high))
+    (between-in maxRuns (z .runs) (R .runs-low) (R .runs-high))))
 
 -- ---- sizes and areas
 
