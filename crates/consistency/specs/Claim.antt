@@ -107,7 +107,7 @@ pub record Holds (s : Store) (b : Book) (finished : ℕ → List ReadSet) : Type
   -- Besides: each card is a keyset-overlapping cut for its plan, and the master holds every save.
   pub overlaps : (r : ℕ) → r < s .counts .runs
       → So (overlappingCut (versions (s .counts .writers)) (s .counts .keys)
-          (planned (s .run r .jobs) (s .run r .job)) (s .run r .snapshot))
+      (planned (s .run r .jobs) (s .run r .job)) (s .run r .snapshot))
   pub every-save : (k i : ℕ) → k < s .counts .keys → So (saved (b .history) k i) → So (b .master k i)
 
 -- At a point: the buffer is in form too, so that a store that spoils itself and then refuses all won't do.

@@ -1,5 +1,6 @@
 -- The least set that holds a start set and is closed under a relation, of items below n.
--- Reach: what is meant. closure: what is computed. Closed, outside. edges, Rows: a relation as rows of masks.
+-- Reach: what is meant. closure: what is computed. Closed, outside.
+-- edges, Rows: a relation as rows of masks.
 -- Assumes nothing.
 use mathlib.Core.Path.{_≡_}
 use mathlib.Core.Bool.{Bool, not, _&&_, _||_, So}
