@@ -1,5 +1,5 @@
 -- What a call comes to, the refusal table as a chain of causes, and the table of states.
--- Outcome, refuse, unless, refusedBy; allowed: "Which state a call needs".
+-- Outcome, answer; refuse, unless; allowed: "Which state a call needs".
 -- Assumes nothing.
 use mathlib.Core.Bool.{Bool, true, false, cond}
 use mathlib.Core.List.{List, [], _∷_}
@@ -12,6 +12,12 @@ pub data Outcome : Type 0 where
   refused : ℕ → Outcome  -- "turned down": the cause's number; every word stays
   broken : ℕ → Store → Outcome  -- step alone: the mask, and the next store
   done : List ℕ → Store → Outcome  -- ok: the answer's numbers, and the next store
+
+-- The answer in words: 0 ok, 1 broken, 2 refused, then the numbers that the text prints.
+unfoldable pub answer : Outcome → List ℕ
+answer (refused n) = 2 ∷ n ∷ []
+answer (broken m s) = 1 ∷ m ∷ []
+answer (done a s) = 0 ∷ a
 
 -- One row of the refusal table: the number n where the cause holds, otherwise the rows below it. 0: no cause.
 unfoldable pub refuse : Bool → ℕ → ℕ → ℕ
