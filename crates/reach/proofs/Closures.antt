@@ -3,7 +3,7 @@
 -- closure-iff, -unique: it is what is reached. closure-mono, -same: a larger start and more edges.
 -- closure-between, closure-fixed, outside-falls: for a recursion that grows a set.
 -- Assumes nothing.
-use mathlib.Core.Path.{_≡_, sym, _∙_}
+use mathlib.Core.Path.{_≡_, _∙_}
 use mathlib.Core.Bool.{false, not, _&&_, So}
 use mathlib.Core.Logic.{_⊎_, inl, inr, _↔_}
 use Prim.Native.Nat.{ℕ, zero, suc, _≤_, _<_}
