@@ -1,5 +1,6 @@
 -- Clocks (document 01: "one count per writer"), of writers below W.
--- dominates ("covers"), concurrent ("rivals"), present (not all zero), join (the larger count at each place).
+-- dominates ("covers"), concurrent ("rivals"), present (not all zero).
+-- join: the larger count at each place.
 -- clockAt: the clock in a buffer from an index on.
 -- Assumes nothing.
 use mathlib.Core.Bool.{Bool, not, _&&_}

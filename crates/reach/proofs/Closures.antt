@@ -3,7 +3,7 @@
 -- closure-iff, -unique: it is what is reached. closure-mono, -same: a larger start and more edges.
 -- closure-between, closure-fixed, outside-falls: for a recursion that grows a set.
 -- Assumes nothing.
-use mathlib.Core.Path.{_≡_, sym, _∙_}
+use mathlib.Core.Path.{_≡_, _∙_}
 use mathlib.Core.Bool.{false, not, _&&_, So}
 use mathlib.Core.Logic.{_⊎_, inl, inr, _↔_}
 use Prim.Native.Nat.{ℕ, zero, suc, _≤_, _<_}
@@ -33,12 +33,12 @@ outside-falls n a b h i l p q =
 
 -- ---- rounds
 
-round-grows : (n : ℕ) (edge : ℕ → Items) (m : Items) (d : ℕ) → So (m d) → So (round n edge m d)
+pub round-grows : (n : ℕ) (edge : ℕ → Items) (m : Items) (d : ℕ) → So (m d) → So (round n edge m d)
 unfolding round
 round-grows n edge m d p = or-left _ p
 
-round-adds : (n : ℕ) (edge : ℕ → Items) (m : Items) (t d : ℕ) → t < n → So (m t) → So (edge t d)
-    → So (round n edge m d)
+pub round-adds : (n : ℕ) (edge : ℕ → Items) (m : Items) (t d : ℕ) → t < n
+    → So (m t) → So (edge t d) → So (round n edge m d)
 unfolding round
 round-adds n edge m t d l p q =
     or-right (m d) (any-intro n (λ t. m t && edge t d) t l (and-intro p q))
@@ -193,6 +193,17 @@ pub closure-between : (n : ℕ) (edge : ℕ → Items) (s m : Items) → Within 
 closure-between n edge s m low up d l =
     same-test (closure-least n edge m (closure n edge s) up (closure-closed n edge s) d l)
     (closure-mono n edge edge s m (λ t _ i _ q. q) low d l)
+
+-- A round stays within the closure.
+pub round-within : (n : ℕ) (edge : ℕ → Items) (m : Items)
+    → Within n (round n edge m) (closure n edge m)
+round-within n edge m d l p =
+    elim (round-from n edge m d p) [
+      | inl q ↦ closure-start n edge m d q
+      | inr q ↦
+          let y = closure-start n edge m (q .0) (q .2) in
+          closure-closed n edge m (q .0) d (q .1) l y (q .3)
+    ]
 
 -- A closed set is its own closure: where the recursion ends.
 pub closure-fixed : (n : ℕ) (edge : ℕ → Items) (m : Items) → Closed n edge m

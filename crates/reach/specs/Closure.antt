@@ -2,8 +2,7 @@
 -- Reach: what is meant. closure: what is computed. Closed, outside.
 -- edges, Rows: a relation as rows of masks.
 -- Assumes nothing.
-use mathlib.Core.Path.{_≡_}
-use mathlib.Core.Bool.{Bool, not, _&&_, _||_, So}
+use mathlib.Core.Bool.{not, _&&_, _||_, So}
 use mathlib.Core.List.{List}
 use Prim.Native.Nat.{ℕ, zero, suc, _≤_, _<_, _^_}
 use lib.ListN.{getD, length}
