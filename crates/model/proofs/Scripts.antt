@@ -1,26 +1,10 @@
--- Case A of document 01, through the rules on stores.
+-- Scripts of calls on a store, and their answers: case A of document 01 and a longer one.
+-- nextStore, run, answers: a list of calls carried out. case-a, longer: the scripts, and what they answer.
 -- Assumes nothing.
-use mathlib.Core.Path.{_≡_, refl}
 use mathlib.Core.List.{List, [], _∷_}
 use Prim.Native.Nat.{ℕ}
-use Rattle.words.specs.Tests.{anyBelow, allBelow, only}
-use Rattle.words.specs.Numbers.{foldBelow, countBelow, when}
-use Rattle.words.specs.Lists.{putAt, upto, blocks}
-use Rattle.masks.specs.Mask.{testBit, withBit, withIf, maskBelow}
-use Rattle.reach.specs.Closure.{closure, rounds, round}
-use Rattle.clock.specs.Clock.{dominates, present, join}
-use Rattle.sizes.specs.Bounds.{countsOf, between}
-use Rattle.model.specs.Algebra.{lacking}
-use Rattle.model.specs.Version.{held, dependency, supersedes, larger, merge}
-use Rattle.model.specs.Sets.{draws, drawSet, fetchSet, fetched, unfetchable, evictSet, evicted, pullSet, pulled}
-use Rattle.model.specs.Store.{Store, fresh, planned, doneReads, withMaster, withLast, withSites, withCache, withWriter, withRun, withState, withSnapshot, withJobDone}
-use Rattle.model.specs.Form.{validJob}
-use Rattle.model.specs.Outcome.{Outcome, refused, broken, done, answer, refuse, unless, allowed}
-use Rattle.model.specs.Caches.{fetchCause, fetchDone, fetchRule, evictCause, evictDone, evictRule}
-use Rattle.model.specs.Runs.{listedJob, listedCount, listedJobs, listValid, openCause, openedRun, openDone, openRule, dropCause, dropDone, dropRule}
-use Rattle.model.specs.Step.{readStart, stepSite, stepReads, stepStart, stepFetch, stepCache, stepPlan, stepPull, stepSnapshot, stepMoved, jobLimit, notReady, stepCause, stepBroken, stepDone, stepRule}
-use Rattle.model.specs.Issue.{issueCause, takenIn, newPast, newVersion, issuedMaster, issueSaved, issueDone, issueRule}
-use Rattle.model.specs.Look.{lookPlace, lookLimit, lookCause, rowNumbers, lookDone, lookRule}
+use Rattle.model.specs.Store.{Store}
+use Rattle.model.specs.Outcome.{Outcome, refused, broken, done, answer}
 use Rattle.model.specs.Calls.{StoreCall, openRun, fetch, evict, prepare, step, issue, dropRun, look, ruleOf}
 
 abbrev pub nextStore : Outcome → Store → Store
@@ -32,22 +16,98 @@ abbrev pub answers : List StoreCall → Store → List (List ℕ)
 answers [] s = []
 answers (c ∷ cs) s = answer (ruleOf c s) ∷ answers cs (nextStore (ruleOf c s) s)
 
-abbrev pub caseA : List StoreCall
-caseA =
-    openRun 0 (0 ∷ 0 ∷ 0 ∷ []) ∷ step 0 0 ∷ issue 0 0 3 ∷ fetch 0 0 ∷ openRun 0 (0 ∷ 1 ∷ 0 ∷ []) ∷ step 0 0
-    ∷ issue 0 1 2 ∷ openRun 0 (0 ∷ 1 ∷ 0 ∷ 1 ∷ 2 ∷ 1 ∷ []) ∷ step 0 1 ∷ step 0 0 ∷ step 0 1 ∷ look 2 0 1
+abbrev pub run : List StoreCall → Store → Store
+run [] s = s
+run (c ∷ cs) s = run cs (nextStore (ruleOf c s) s)
+
+-- The ways to answer, as words.
+abbrev pub ok₁ : ℕ → List ℕ
+ok₁ a = 0 ∷ a ∷ []
+
+abbrev pub ok₃ : ℕ → ℕ → ℕ → List ℕ
+ok₃ a b c = 0 ∷ a ∷ b ∷ c ∷ []
+
+abbrev pub broke : ℕ → List ℕ
+broke m = 1 ∷ m ∷ []
+
+abbrev pub not-taken : ℕ → List ℕ
+not-taken n = 2 ∷ n ∷ []
+
+-- ---- case A, after `new 2 2 2 1`
+
+abbrev pub case-a-script : List StoreCall
+case-a-script =
+    openRun 0 (0 ∷ 0 ∷ 0 ∷ []) ∷ step 0 0 ∷ issue 0 0 3 ∷ fetch 0 0
+    ∷ openRun 0 (0 ∷ 1 ∷ 0 ∷ []) ∷ step 0 0 ∷ issue 0 1 2
+    ∷ openRun 0 (0 ∷ 1 ∷ 0 ∷ 1 ∷ 2 ∷ 1 ∷ []) ∷ step 0 1 ∷ step 0 0 ∷ step 0 1 ∷ look 2 0 1
     ∷ fetch 1 1 ∷ evict 0 1 ∷ []
 
-pub case-a : answers caseA (fresh (countsOf 2 2 2 1)) ≡
-    (0 ∷ 1 ∷ []) ∷ (0 ∷ 0 ∷ 0 ∷ 0 ∷ []) ∷ (0 ∷ 1 ∷ []) ∷ (0 ∷ 3 ∷ []) ∷ (0 ∷ 1 ∷ []) ∷ (0 ∷ 0 ∷ 1 ∷ 0 ∷ [])
-    ∷ (0 ∷ 2 ∷ []) ∷ (0 ∷ 2 ∷ []) ∷ (2 ∷ 6 ∷ []) ∷ (0 ∷ 0 ∷ 1 ∷ 0 ∷ []) ∷ (0 ∷ 2 ∷ 0 ∷ 0 ∷ [])
-    ∷ (0 ∷ 1 ∷ 1 ∷ 0 ∷ []) ∷ (0 ∷ 3 ∷ []) ∷ (0 ∷ 3 ∷ []) ∷ []
-unfolding anyBelow allBelow only foldBelow putAt upto blocks testBit withBit withIf maskBelow closure rounds round
-    dominates present join between lacking held dependency supersedes larger merge draws drawSet fetchSet fetched
-    unfetchable evictSet evicted pullSet pulled fresh planned withMaster withLast withSites withCache withWriter withRun
-    withState withSnapshot withJobDone validJob answer refuse unless allowed fetchCause fetchDone fetchRule evictCause
-    evictDone evictRule listedJob listedCount listedJobs listValid openCause openedRun openDone openRule readStart
-    stepSite stepReads stepStart stepFetch stepCache stepPlan stepPull stepSnapshot stepMoved jobLimit notReady stepCause
-    stepBroken stepDone stepRule issueCause takenIn newPast newVersion issuedMaster issueSaved issueDone issueRule
-    lookPlace lookLimit lookCause rowNumbers lookDone lookRule ruleOf
-case-a = refl
+abbrev pub case-a-answers : List (List ℕ)
+case-a-answers =
+    ok₁ 1 ∷ ok₃ 0 0 0 ∷ ok₁ 1 ∷ ok₁ 3
+    ∷ ok₁ 1 ∷ ok₃ 0 1 0 ∷ ok₁ 2
+    ∷ ok₁ 2 ∷ not-taken 6 ∷ ok₃ 0 1 0 ∷ ok₃ 2 0 0 ∷ ok₃ 1 1 0
+    ∷ ok₁ 3 ∷ ok₁ 3 ∷ []
+
+-- ---- a longer script, after `new 3 2 2 2`: rival writes merge, keys are evicted, a run is prepared, a run breaks
+
+abbrev pub longer-script : List StoreCall
+longer-script =
+    -- Writer 0 saves keys 0 and 1; writer 1, who has read nothing, saves 1: a rival, merged on the master.
+    openRun 0 (0 ∷ 0 ∷ 0 ∷ []) ∷ step 0 0 ∷ issue 0 0 3
+    ∷ openRun 1 (1 ∷ 0 ∷ 0 ∷ []) ∷ step 1 0 ∷ issue 1 1 2 ∷ look 0 0 1
+    -- Site 0 takes 1, and 0 with it; evicting 0 takes 1 along.
+    ∷ fetch 0 1 ∷ evict 0 0 ∷ look 1 0 1 ∷ fetch 0 0 ∷ look 1 0 0
+    -- Run 0 reads 0 at site 0. Writer 0, having read 0, saves 0 and 2; site 1 takes 2, which needs the new 0.
+    ∷ openRun 0 (0 ∷ 1 ∷ 0 ∷ 1 ∷ 4 ∷ 0 ∷ []) ∷ step 0 0
+    ∷ openRun 1 (0 ∷ 1 ∷ 0 ∷ []) ∷ step 1 0 ∷ issue 1 0 5 ∷ fetch 1 2
+    -- Run 0 can't read 2 beside its older 0.
+    ∷ step 0 1 ∷ step 0 1 ∷ step 0 2 ∷ dropRun 0
+    -- The same jobs, prepared: site 0 fetches what it lacks, the card is the merge of both caches, and both go through.
+    ∷ openRun 0 (0 ∷ 1 ∷ 0 ∷ 1 ∷ 4 ∷ 1 ∷ []) ∷ prepare 0 ∷ step 0 0 ∷ prepare 0 ∷ step 0 1 ∷ look 2 0 2
+    ∷ issue 0 1 7 ∷ look 0 0 2 ∷ issue 0 1 0 ∷ []
+
+abbrev pub longer-answers : List (List ℕ)
+longer-answers =
+    ok₁ 1 ∷ ok₃ 0 0 0 ∷ ok₁ 1
+    ∷ ok₁ 1 ∷ ok₃ 0 0 0 ∷ ok₁ 2 ∷ ok₃ 2 1 1
+    ∷ ok₁ 3 ∷ ok₁ 3 ∷ not-taken 8 ∷ ok₁ 3 ∷ ok₃ 1 1 0
+    ∷ ok₁ 2 ∷ ok₃ 0 1 0
+    ∷ ok₁ 1 ∷ ok₃ 0 1 0 ∷ ok₁ 3 ∷ ok₁ 7
+    ∷ broke 1 ∷ not-taken 4 ∷ not-taken 3 ∷ ok₁ 0
+    ∷ ok₁ 2 ∷ ok₁ 5 ∷ ok₃ 1 0 0 ∷ not-taken 6 ∷ ok₃ 4 0 0 ∷ ok₃ 3 2 0
+    ∷ ok₁ 4 ∷ ok₃ 4 2 2 ∷ not-taken 4 ∷ []
+
+-- ---- after `new 2 2 1 2`: refusals in the table's order; a key outside of the plan isn't carried; an old version that
+-- meets the needs stays
+
+abbrev pub refusals-script : List StoreCall
+refusals-script =
+    step 0 7 ∷ step 0 8 ∷ openRun 2 (0 ∷ 0 ∷ []) ∷ openRun 0 [] ∷ openRun 0 (1 ∷ 0 ∷ 0 ∷ [])
+    ∷ openRun 0 (0 ∷ 4 ∷ 0 ∷ []) ∷ openRun 0 (0 ∷ 0 ∷ 1 ∷ []) ∷ openRun 0 (0 ∷ 1 ∷ 0 ∷ [])
+    ∷ openRun 0 (0 ∷ 1 ∷ []) ∷ prepare 0 ∷ step 0 0 ∷ issue 0 0 4 ∷ issue 0 2 3 ∷ issue 0 0 3
+    ∷ dropRun 0 ∷ dropRun 0 ∷ prepare 1 ∷ fetch 0 0 ∷ fetch 1 0 ∷ fetch 0 2 ∷ evict 0 0
+    ∷ evict 0 2 ∷ openRun 0 (0 ∷ 0 ∷ 0 ∷ []) ∷ step 0 1 ∷ step 0 0 ∷ step 0 0 ∷ prepare 0
+    ∷ issue 0 0 3 ∷ fetch 0 0 ∷ openRun 0 (0 ∷ 2 ∷ 0 ∷ []) ∷ step 0 0 ∷ look 2 0 1
+    ∷ look 2 0 0 ∷ look 1 0 0 ∷ look 0 1 0 ∷ look 3 0 0 ∷ look 2 2 0 ∷ issue 0 1 1
+    ∷ fetch 0 1 ∷ look 1 0 0 ∷ fetch 0 0 ∷ []
+
+abbrev pub refusals-answers : List (List ℕ)
+refusals-answers =
+    not-taken 4 ∷ not-taken 3 ∷ not-taken 3 ∷ not-taken 5 ∷ not-taken 5 ∷ not-taken 5
+    ∷ not-taken 5 ∷ ok₁ 1 ∷ not-taken 4 ∷ not-taken 7 ∷ not-taken 7 ∷ not-taken 3
+    ∷ not-taken 3 ∷ not-taken 6 ∷ ok₁ 0 ∷ not-taken 4 ∷ not-taken 4 ∷ not-taken 7
+    ∷ not-taken 3 ∷ not-taken 3 ∷ not-taken 8 ∷ not-taken 3 ∷ ok₁ 1 ∷ not-taken 3 ∷ ok₃ 0 0 0
+    ∷ not-taken 6 ∷ not-taken 6 ∷ ok₁ 1 ∷ ok₁ 3 ∷ ok₁ 1 ∷ ok₃ 0 2 0 ∷ ok₃ 1 1 0 ∷ not-taken 8
+    ∷ ok₃ 1 1 0 ∷ not-taken 3 ∷ not-taken 3 ∷ not-taken 3 ∷ ok₁ 2 ∷ ok₁ 2 ∷ ok₃ 1 1 0 ∷ ok₁ 1 ∷ []
+
+-- ---- after `new 2 2 2 1`: what a run has read stands behind what it issues
+
+abbrev pub reading-script : List StoreCall
+reading-script =
+    openRun 0 (0 ∷ 0 ∷ 0 ∷ []) ∷ step 0 0 ∷ issue 0 0 1 ∷ openRun 0 (0 ∷ 1 ∷ 0 ∷ [])
+    ∷ step 0 0 ∷ issue 0 1 2 ∷ fetch 1 1 ∷ look 1 1 1 ∷ evict 1 0 ∷ []
+
+abbrev pub reading-answers : List (List ℕ)
+reading-answers =
+    ok₁ 1 ∷ ok₃ 0 0 0 ∷ ok₁ 1 ∷ ok₁ 1 ∷ ok₃ 0 0 1 ∷ ok₁ 2 ∷ ok₁ 3 ∷ ok₃ 2 0 1 ∷ ok₁ 3 ∷ []

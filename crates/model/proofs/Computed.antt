@@ -1,0 +1,53 @@
+-- The readings and the scripts computed by the definitions.
+-- Assumes nothing.
+use mathlib.Core.Path.{_≡_, refl}
+use mathlib.Core.Bool.{true}
+use mathlib.Core.List.{List}
+use Prim.Native.Nat.{ℕ}
+use lib.ListN.{replicate}
+use Rattle.words.specs.Tests.{anyBelow, allBelow, only}
+use Rattle.words.specs.Numbers.{foldBelow}
+use Rattle.words.specs.Lists.{putAt, upto, blocks}
+use Rattle.masks.specs.Mask.{testBit, withBit, withIf, maskBelow}
+use Rattle.reach.specs.Closure.{closure, rounds, round}
+use Rattle.clock.specs.Clock.{dominates, concurrent, present, join}
+use Rattle.sizes.specs.Bounds.{countsOf, between}
+use Rattle.model.specs.Algebra.{lacking, needsMet, causalCut, overlappingCut}
+use Rattle.model.specs.Version.{held, dependency, supersedes, larger, merge}
+use Rattle.model.specs.Sets.{draws, drawSet, fetchSet, fetched, unfetchable, evictSet, evicted, pullSet, pulled}
+use Rattle.model.specs.Store.{fresh, planned, doneReads, withMaster, withLast, withSites, withCache, withWriter, withRun, withState, withSnapshot, withJobDone}
+use Rattle.model.specs.Form.{zeroRows, versionFormed, placeFormed, validJob, zeroJob, freeFormed, jobsFormed, masksFormed, snapshotFormed, runFormed, wellFormed}
+use Rattle.model.specs.Outcome.{answer, refuse, unless, allowed}
+use Rattle.model.specs.Caches.{fetchCause, fetchDone, fetchRule, evictCause, evictDone, evictRule}
+use Rattle.model.specs.Runs.{listedJob, listedCount, listedJobs, listValid, openCause, openedRun, openDone, openRule, dropCause, dropDone, dropRule}
+use Rattle.model.specs.Prepare.{jobStart, fetchReads, preparedCaches, unpreparable, usesSite, sitesMerged, siteCaches, prepareCause, prepareCaches, prepareSnapshot, prepareDone, prepareRule}
+use Rattle.model.specs.Step.{readStart, stepSite, stepReads, stepStart, stepFetch, stepCache, stepPlan, stepPull, stepSnapshot, stepMoved, jobLimit, notReady, stepCause, stepBroken, stepDone, stepRule}
+use Rattle.model.specs.Issue.{issueCause, takenIn, newPast, newVersion, issuedMaster, issueSaved, issueDone, issueRule}
+use Rattle.model.specs.Look.{lookPlace, lookLimit, lookCause, rowNumbers, lookDone, lookRule}
+use Rattle.model.specs.Calls.{ruleOf}
+use Rattle.model.proofs.Readings.{marked, sentences, unmarked, unmarked-answers}
+use Rattle.model.proofs.Scripts.{answers, case-a-script, case-a-answers, longer-script, longer-answers, refusals-script, refusals-answers, reading-script, reading-answers}
+
+-- The ten marked readings pass, and each script is answered as it should be, answer by answer.
+pub record Computed : Type 0 where
+  pub ten : marked ≡ replicate 10 true
+  pub texts : sentences ≡ replicate 3 true
+  pub others : unmarked ≡ unmarked-answers
+  pub case-a : answers case-a-script (fresh (countsOf 2 2 2 1)) ≡ case-a-answers
+  pub refusals : answers refusals-script (fresh (countsOf 2 2 1 2)) ≡ refusals-answers
+  pub reading : answers reading-script (fresh (countsOf 2 2 2 1)) ≡ reading-answers
+  pub longer : answers longer-script (fresh (countsOf 3 2 2 2)) ≡ longer-answers
+
+pub computed : Computed
+unfolding needsMet causalCut overlappingCut concurrent doneReads zeroRows versionFormed placeFormed zeroJob freeFormed jobsFormed masksFormed
+    snapshotFormed runFormed wellFormed anyBelow allBelow only foldBelow putAt upto blocks testBit withBit withIf maskBelow closure rounds round
+    dominates present join between lacking held dependency supersedes larger merge draws drawSet fetchSet fetched
+    unfetchable evictSet evicted pullSet pulled fresh planned withMaster withLast withSites withCache withWriter withRun
+    withState withSnapshot withJobDone validJob answer refuse unless allowed fetchCause fetchDone fetchRule evictCause
+    evictDone evictRule listedJob listedCount listedJobs listValid openCause openedRun openDone openRule dropCause
+    dropDone dropRule jobStart fetchReads preparedCaches unpreparable usesSite sitesMerged siteCaches prepareCause
+    prepareCaches prepareSnapshot prepareDone prepareRule readStart
+    stepSite stepReads stepStart stepFetch stepCache stepPlan stepPull stepSnapshot stepMoved jobLimit notReady stepCause
+    stepBroken stepDone stepRule issueCause takenIn newPast newVersion issuedMaster issueSaved issueDone issueRule
+    lookPlace lookLimit lookCause rowNumbers lookDone lookRule ruleOf
+computed = record { ten = refl; texts = refl; others = refl; case-a = refl; refusals = refl; reading = refl; longer = refl }

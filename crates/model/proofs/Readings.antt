@@ -1,0 +1,181 @@
+-- Document 01's "Readings that mislead" as tests: the ten marked ones as one list, and the others on a store.
+-- `Computed` proves that each of them passes.
+-- Assumes nothing.
+use mathlib.Core.Bool.{Bool, true, false, not, _&&_}
+use mathlib.Core.List.{List, [], _∷_}
+use Prim.Native.Nat.{ℕ, zero, suc}
+use lib.Dec.{eqb}
+use lib.ListN.{getD}
+use Rattle.words.specs.Tests.{only}
+use Rattle.words.specs.Lists.{putAt}
+use Rattle.masks.specs.Mask.{testBit, maskBelow}
+use Rattle.clock.specs.Clock.{Clock, dominates, concurrent}
+use Rattle.sizes.specs.Bounds.{countsOf}
+use Rattle.model.specs.Algebra.{Place, causalCut, overlappingCut}
+use Rattle.model.specs.Version.{Version, zeroPast, unheld, dependency, supersedes, merge, versions}
+use Rattle.model.specs.Sets.{evictSet}
+use Rattle.model.specs.Store.{Store, Job, noJob, fresh, withCache, withRun, withMaster}
+use Rattle.model.specs.Form.{wellFormed}
+use Rattle.model.specs.Outcome.{answer}
+use Rattle.model.specs.Look.{rowNumbers}
+use Rattle.model.specs.Calls.{StoreCall, openRun, step, ruleOf}
+use Rattle.model.proofs.Scripts.{ok₁, ok₃, broke, not-taken}
+
+-- ---- ways to write the examples
+
+abbrev pub same : List ℕ → List ℕ → Bool
+same [] [] = true
+same [] (y ∷ ys) = false
+same (x ∷ xs) [] = false
+same (x ∷ xs) (y ∷ ys) = eqb x y && same xs ys
+
+abbrev pub clock : List ℕ → Clock
+clock l w = getD l w 0
+
+-- A version with these rows, one after the other from key 0 on.
+abbrev pub version : ℕ → List (List ℕ) → Version
+version n rows = record { issue = n; past = λ d. clock (getD rows d []) }
+
+abbrev pub place : List Version → Place Version
+place l k = getD l k unheld
+
+abbrev pub sameVersion : Version → Version → Bool
+sameVersion a b =
+    eqb (a .issue) (b .issue)
+    && (same (rowNumbers 2 (a .past 0)) (rowNumbers 2 (b .past 0))
+    && same (rowNumbers 2 (a .past 1)) (rowNumbers 2 (b .past 1)))
+
+abbrev zero-zero : List ℕ
+zero-zero = 0 ∷ 0 ∷ []
+
+abbrev one-zero : List ℕ
+one-zero = 1 ∷ 0 ∷ []
+
+abbrev zero-one : List ℕ
+zero-one = 0 ∷ 1 ∷ []
+
+abbrev one-one : List ℕ
+one-one = 1 ∷ 1 ∷ []
+
+abbrev two-zero : List ℕ
+two-zero = 2 ∷ 0 ∷ []
+
+-- ---- the ten marked readings
+
+-- "clock (1,0) doesn't cover (0,1), nor the reverse"
+abbrev pub first : Bool
+first = concurrent 2 (clock one-zero) (clock zero-one)
+
+-- "(1,1) covers both"
+abbrev pub second : Bool
+second = dominates 2 (clock one-one) (clock one-zero) && dominates 2 (clock one-one) (clock zero-one)
+
+-- "equal clocks cover"
+abbrev pub third : Bool
+third = dominates 2 (clock one-zero) (clock one-zero)
+
+-- "merge of rows (2,0) and (1,3) is (2,3)"
+abbrev pub fourth : Bool
+fourth =
+    let a = version 1 (two-zero ∷ []) in
+    let b = version 2 ((1 ∷ 3 ∷ []) ∷ []) in
+    sameVersion (merge a b) (version 2 ((2 ∷ 3 ∷ []) ∷ []))
+
+-- "merge with an unheld version is the other"
+abbrev pub fifth : Bool
+fifth =
+    let a = version 3 (two-zero ∷ zero-one ∷ []) in
+    sameVersion (merge a unheld) a && sameVersion (merge unheld a) a
+
+-- "sheet u needs e at (1,0); the shelf's e is newer and needs k. Evicting k takes e and u, though u doesn't need k":
+-- k is 0, e is 1 and u is 2.
+abbrev evicting : Place Version
+evicting =
+    place (version 1 (one-zero ∷ []) ∷ version 2 (one-zero ∷ two-zero ∷ [])
+    ∷ version 1 (zero-zero ∷ one-zero ∷ one-zero ∷ []) ∷ [])
+
+abbrev pub sixth : Bool
+sixth =
+    eqb (maskBelow 3 (evictSet (versions 2) 3 evicting (only 0))) 7
+    && (dependency 2 2 (evicting 2) 1 && not (dependency 2 2 (evicting 2) 0))
+
+-- A run whose card has sheet 0 at (1,0), read or not; the shelf has 0 at (2,0), and 1 that needs 0 at a clock.
+-- Job 0 reads sheet 0, job 1 sheet 1.
+abbrev jobs : ℕ → Job
+jobs i =
+    getD (record { site = 0; reads = 1; upstream = 0 } ∷ record { site = 0; reads = 2; upstream = 0 } ∷ []) i noJob
+
+abbrev pub shelf-of : List ℕ → Place Version
+shelf-of need = place (version 2 (two-zero ∷ []) ∷ version 2 (need ∷ two-zero ∷ []) ∷ [])
+
+abbrev pub store-of : ℕ → List ℕ → Store
+store-of read need =
+    withRun (withCache (withMaster (fresh (countsOf 2 2 1 1)) (shelf-of two-zero)) 0 (shelf-of need)) 0 (record {
+      state = 1;
+      jobs = 2;
+      done = read;
+      read = read;
+      job = jobs;
+      snapshot = place (version 1 (one-zero ∷ []) ∷ []);
+    })
+
+-- The step of job 1 on a store that is in form.
+abbrev pub stepping : ℕ → List ℕ → List ℕ → Bool
+stepping read need expected =
+    wellFormed (store-of read need) && same (answer (ruleOf (step 0 1) (store-of read need))) expected
+
+-- "sheet 0 was read at (1,0). The shelf has 0 at (2,0), and 1 that needs 0 at (1,0). A job reading 1 goes through."
+abbrev pub seventh : Bool
+seventh = stepping 1 one-zero (ok₃ 0 2 0)
+
+-- "if 1 needs 0 at (2,0), broken with mask 1"
+abbrev pub eighth : Bool
+eighth = stepping 1 two-zero (broke 1)
+
+-- "if 0 is carried but not read, no break"
+abbrev pub ninth : Bool
+ninth = stepping 0 two-zero (ok₃ 0 2 0)
+
+-- "an unheld sheet doesn't meet a need of (1,0)"
+abbrev pub tenth : Bool
+tenth = not (supersedes 2 0 unheld (clock one-zero))
+
+abbrev pub marked : List Bool
+marked =
+    first ∷ second ∷ third ∷ fourth ∷ fifth ∷ sixth ∷ seventh ∷ eighth ∷ ninth ∷ tenth ∷ []
+
+-- ---- unmarked ones (those about new are in crate layout)
+
+-- "Document 001's "supersede" is read so; a rival doesn't meet a need."
+abbrev pub rival : Bool
+rival = not (supersedes 2 0 (version 1 (one-zero ∷ [])) (clock zero-one))
+
+-- A causal cut: sixth's place is one, and without e it isn't one, nor with e older than u's need.
+abbrev pub cut : Bool
+cut =
+    causalCut (versions 2) 3 evicting
+    && (not (causalCut (versions 2) 3 (putAt evicting 1 unheld))
+    && not (causalCut (versions 2) 3 (putAt evicting 1 (version 1 (zero-zero ∷ zero-one ∷ [])))))
+
+-- A keyset-overlapping cut for u and k: e may be missing, and nothing else may be held.
+abbrev pub overlap : Bool
+overlap =
+    overlappingCut (versions 2) 3 (testBit 5) (putAt evicting 1 unheld)
+    && not (overlappingCut (versions 2) 3 (testBit 5) evicting)
+
+abbrev pub sentences : List Bool
+sentences = rival ∷ cut ∷ overlap ∷ []
+
+abbrev words : ℕ → List ℕ
+words zero = []
+words (suc n) = 0 ∷ 1 ∷ 0 ∷ words n
+
+-- "Open takes 8 jobs; 9 give 5. Step 0 0 on a free run gives 4."
+abbrev pub unmarked : List (List ℕ)
+unmarked =
+    answer (ruleOf (openRun 0 (words 8)) (fresh (countsOf 2 2 1 1)))
+    ∷ answer (ruleOf (openRun 0 (words 9)) (fresh (countsOf 2 2 1 1)))
+    ∷ answer (ruleOf (step 0 0) (fresh (countsOf 2 2 1 1))) ∷ []
+
+abbrev pub unmarked-answers : List (List ℕ)
+unmarked-answers = ok₁ 8 ∷ not-taken 5 ∷ not-taken 4 ∷ []
