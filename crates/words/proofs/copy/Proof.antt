@@ -57,7 +57,7 @@ loop-again c =
     ap (λ (m : List ℕ). getD m (a .src + i) 0) (l .loop .inv .2)
     ∙ put-read (a .words .now) (a .dst) (a .src) (a .n) i f (l .before .pre) (omega arith) in (
       omega arith,
-      length-set (l .loop .words) (a .dst + i) x ∙ l .loop .inv .1,
+      rw length-set (l .loop .inv .1),
       put-step (a .words .now) (a .dst) i f (l .loop .words) x (l .loop .inv .2) read,
     )
 

@@ -1,8 +1,8 @@
 -- `words::zero` meets its contract: after i turns i words are stored.
 -- Assumes nothing.
 use native.Mathlib.Omega.{arith}
-use mathlib.Core.Path.{_≡_, refl, _∙_}
-use Prim.Native.Nat.{_≤_, _-_, _+_}
+use mathlib.Core.Path.{_≡_, refl}
+use Prim.Native.Nat.{_≤_, _-_}
 use lib.ListN.{length, length-set}
 use Rattle.words.specs.Words.{put}
 use Rattle.words.proofs.Words.{put-step}
@@ -41,7 +41,7 @@ loop-again c =
     let a = l .before .args in
     let i = l .loop .i in (
       omega arith,
-      length-set (l .loop .words) (a .at + i) 0 ∙ l .loop .inv .1,
+      rw length-set (l .loop .inv .1),
       put-step (a .words .now) (a .at) i (λ _. 0) (l .loop .words) 0 (l .loop .inv .2) refl,
     )
 
