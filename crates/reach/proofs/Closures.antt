@@ -121,15 +121,15 @@ rounds-reached (suc f) n edge start m h d l p =
 
 -- ---- the least closed set
 
-pub closure-start : (n : ℕ) (edge : ℕ → Items) (start : Items) (d : ℕ) → So (start d)
-    → So (closure n edge start d)
-unfolding closure
-closure-start n edge start = rounds-grow n n edge start
-
 pub closure-closed : (n : ℕ) (edge : ℕ → Items) (start : Items)
     → Closed n edge (closure n edge start)
 unfolding closure
 closure-closed n edge start = enough-rounds n n edge start (outside-top n start)
+
+pub closure-start : (n : ℕ) (edge : ℕ → Items) (start : Items) (d : ℕ) → So (start d)
+    → So (closure n edge start d)
+unfolding closure
+closure-start n edge start = rounds-grow n n edge start
 
 pub closure-reached : (n : ℕ) (edge : ℕ → Items) (start : Items) (d : ℕ) → d < n
     → So (closure n edge start d) → Reach n edge start d

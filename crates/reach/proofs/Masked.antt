@@ -32,12 +32,16 @@ unfolding when
 test-when true x j = refl
 test-when false x j = test-none j
 
+-- Row t, where t is a member of the mask m.
+abbrev pub ownRow : List ℕ → ℕ → ℕ → ℕ
+ownRow l m t = when (testBit m t) (getD l t 0)
+
 -- The union of the members' rows.
 pub drawn-mask : (l : List ℕ) (k m : ℕ) → ((t : ℕ) → t < k → getD l t 0 < 2 ^ k)
-    → unionBelow k (λ t. when (testBit m t) (getD l t 0)) ≡ maskBelow k (led l k m)
+    → unionBelow k (ownRow l m) ≡ maskBelow k (led l k m)
 unfolding edges
 drawn-mask l k m h =
-    let row : ℕ → ℕ = λ t. when (testBit m t) (getD l t 0) in
+    let row = ownRow l m in
     mask-ext-below k (unionBelow k row) (maskBelow k (led l k m))
     (union-lt k row k (λ t i. omega (arith, h t i, when-le (testBit m t) (getD l t 0))))
     (mask-lt k (led l k m) k (omega arith))
@@ -73,8 +77,13 @@ module _ (l : List ℕ) (k m r : ℕ) (P : Rows l k m) (e : r ≡ maskBelow k (l
   unfolding round
   test-next d i = test-or m r d ∙ ap (testBit m d ||_) (rw e (test-mask k (led l k m) d i))
 
-  pub next-lt : bitOr m r < 2 ^ k
-  next-lt = or-lt k m r (P .below) (rw e (mask-lt k (led l k m) k (omega arith)))
+  pub next-rows : Rows l k (bitOr m r)
+  next-rows = record {
+    small = P .small;
+    long = P .long;
+    below = or-lt k m r (P .below) (rw e (mask-lt k (led l k m) k (omega arith)));
+    rows = P .rows;
+  }
 
   keeps : Within k (testBit m) (testBit (bitOr m r))
   keeps d i p = test-next d i ∙ round-grows k (edges l) (testBit m) d p
@@ -83,7 +92,8 @@ module _ (l : List ℕ) (k m r : ℕ) (P : Rows l k m) (e : r ≡ maskBelow k (l
   pub next-less : bitOr m r ≢ m → outside k (testBit (bitOr m r)) < outside k (testBit m)
   next-less f =
       elim (same-or-more k (testBit m) (testBit (bitOr m r)) keeps) [
-        | inl g ↦ absurd (f (sym (mask-ext-below k m (bitOr m r) (P .below) next-lt g)))
+        | inl g ↦
+            absurd (f (sym (mask-ext-below k m (bitOr m r) (P .below) (next-rows .below) g)))
         | inr g ↦
             outside-falls k (testBit m) (testBit (bitOr m r)) keeps (g .0) (g .1) (g .2) (g .3)
       ]
