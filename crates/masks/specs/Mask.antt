@@ -1,7 +1,8 @@
 -- Masks: a number whose bit k, of value 2 ^ k, stands for item k.
--- testBit: item k is in it. withBit, withIf: one item more. maskBelow: the mask of a set. without: the difference.
--- unionBelow: the union of some masks. Assumes nothing.
-use mathlib.Core.Bool.{Bool, true, false, cond}
+-- testBit: item k is in it. withBit, withIf: one item more. maskBelow: the mask of a set.
+-- without: the difference. unionBelow: the union of some masks.
+-- Assumes nothing.
+use mathlib.Core.Bool.{Bool, cond}
 use Prim.Native.Nat.{ℕ, zero, suc, _/_, _%_, _^_}
 use lib.Bits.{bitOr, bitAnd, bitXor}
 use lib.Dec.{eqb}

@@ -1,5 +1,6 @@
 -- Sizes and offsets in words (document 01, "Size and layout"), from the counts K, W, N and P.
--- maxKeys ..: the limits. ranged, Ranged: the counts are in range. ..Size: words of a part. ..At: where a part begins.
+-- maxKeys ..: the limits. ranged, Ranged: the counts are in range. ..Size: words of a part.
+-- ..At: where a part begins. totalOf: all words.
 -- Assumes nothing.
 use mathlib.Core.Bool.{Bool, _&&_}
 use Prim.Native.Nat.{ℕ, _+_, _*_, _≤_}
@@ -35,7 +36,9 @@ between top x = leb 1 x && leb x top
 -- The four counts are in range.
 unfoldable pub ranged : Counts → Bool
 ranged z =
-    between maxKeys (z .keys) && (between maxWriters (z .writers) && (between maxSites (z .sites) && between maxRuns (z .runs)))
+    between maxKeys (z .keys)
+    && (between maxWriters (z .writers)
+    && (between maxSites (z .sites) && between maxRuns (z .runs)))
 
 -- The same as a statement.
 pub record Ranged (z : Counts) : Type 0 where
@@ -73,7 +76,8 @@ writerSize z = 1 + pastSize z
 unfoldable pub runSize : Counts → ℕ
 runSize z = 28 + placeSize z
 
--- ---- offsets: "master K·V; shelves N·K·V; writers W·V; runs P·(28 + K·V)", after a header of 10 words
+-- ---- offsets, after a header of 10 words:
+-- ---- "master K·V; shelves N·K·V; writers W·V; runs P·(28 + K·V)"
 
 unfoldable pub masterAt : Counts → ℕ
 masterAt z = 10
@@ -92,5 +96,34 @@ totalOf z = runsAt z + z .runs * runSize z
 
 -- All of them.
 unfoldable pub sizesOf : Counts → Sizes
-sizesOf z =
-    record { master = masterAt z; sites = sitesAt z; writers = writersAt z; runs = runsAt z; total = totalOf z }
+sizesOf z = record {
+  master = masterAt z;
+  sites = sitesAt z;
+  writers = writersAt z;
+  runs = runsAt z;
+  total = totalOf z;
+}
+
+-- ---- one part of many
+
+-- Site o, its cache first.
+unfoldable pub siteAt : Counts → ℕ → ℕ
+siteAt z o = sitesAt z + o * siteSize z
+
+unfoldable pub writerAt : Counts → ℕ → ℕ
+writerAt z u = writersAt z + u * writerSize z
+
+unfoldable pub runAt : Counts → ℕ → ℕ
+runAt z r = runsAt z + r * runSize z
+
+-- The snapshot of run r, after four words of status and 8 jobs of 3 words.
+unfoldable pub snapshotAt : Counts → ℕ → ℕ
+snapshotAt z r = runAt z r + 28
+
+-- The version of key k in the place at an index.
+unfoldable pub keyAt : Counts → ℕ → ℕ → ℕ
+keyAt z at k = at + k * versionSize z
+
+-- Row d, the clock for key d, of the version at an index.
+unfoldable pub rowAt : Counts → ℕ → ℕ → ℕ
+rowAt z at d = at + (1 + d * z .writers)

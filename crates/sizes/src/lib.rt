@@ -1,7 +1,7 @@
 // The counts of a store, their limits, and the offsets and total that follow from them.
 ghost use mathlib.Core.Path.{_≡_};
 ghost use Prim.Native.Nat.{ℕ, _<_, _≤_};
-ghost use Rattle.sizes.specs.Bounds.{Ranged, countsOf, sizesOf};
+ghost use Rattle.sizes.specs.Bounds.{Ranged, countsOf, sizesOf, maxKeys, maxWriters, maxSites, maxRuns, maxJobs};
 
 // Sheets, writers, offices and runs (document 01: K, W, N, P).
 pub struct Counts {
@@ -38,16 +38,25 @@ impl Sizes {
     {
         let version = 1 + keys * writers;
         let place = keys * version;
-        let caches = 10 + place;
-        let authors = caches + sites * place;
-        let plans = authors + writers * version;
-        let total = plans + runs * (28 + place);
+        let sites_at = 10 + place;
+        let writers_at = sites_at + sites * place;
+        let runs_at = writers_at + writers * version;
+        let total = runs_at + runs * (28 + place);
         Sizes {
             master: 10,
-            sites: caches,
-            writers: authors,
-            runs: plans,
+            sites: sites_at,
+            writers: writers_at,
+            runs: runs_at,
             total,
         }
     }
+
+    // The limits above are those of the definitions.
+    pub fn limits()
+        ensures keys { λ _. do ⌜ (← ⟦Sizes::MAX_KEYS⟧ .entry) ≡ maxKeys ⌝ }
+        ensures writers { λ _. do ⌜ (← ⟦Sizes::MAX_WRITERS⟧ .entry) ≡ maxWriters ⌝ }
+        ensures sites { λ _. do ⌜ (← ⟦Sizes::MAX_SITES⟧ .entry) ≡ maxSites ⌝ }
+        ensures runs { λ _. do ⌜ (← ⟦Sizes::MAX_RUNS⟧ .entry) ≡ maxRuns ⌝ }
+        ensures jobs { λ _. do ⌜ (← ⟦Sizes::MAX_JOBS⟧ .entry) ≡ maxJobs ⌝ }
+    {}
 }

@@ -5,7 +5,7 @@ use mathlib.Core.Bool.{Bool, true, false, not, _&&_, _||_, So, true≢false, fal
 use mathlib.Core.Logic.{_⊎_, inl, inr, _≢_}
 use Prim.Native.Nat.{ℕ, _≤_, _<_}
 use native.Mathlib.Omega.{arith}
-use lib.Dec.{leb, ltb, eqb, T, leb→le, le→leb, nleb→lt, eqb→eq, eqb-refl}
+use lib.Dec.{leb, eqb, T, leb→le, le→leb, nleb→lt, eqb→eq, eqb-refl}
 
 -- ---- one test
 

@@ -1,15 +1,15 @@
 -- Laws of tests of every number below a bound.
 -- Assumes nothing.
 use mathlib.Core.Path.{_≡_, refl, sym, ap, _∙_}
-use mathlib.Core.Bool.{Bool, true, false, _&&_, _||_, So, false≢true, true≢false}
-use mathlib.Core.Logic.{_⊎_, inl, inr, ⊎-elim}
+use mathlib.Core.Bool.{false, _&&_, _||_, So, false≢true, true≢false}
+use mathlib.Core.Logic.{_⊎_, inl, inr}
 use Prim.Native.Nat.{ℕ, zero, suc, _+_, _≤_, _<_}
 use native.Mathlib.Omega.{arith}
 use native.Mathlib.Nat.{not-suc-le-zero}
 use native.Mathlib.Numerals.{add-one}
 use native.Mathlib.Decide.{decLt, ℕ-discrete}
-use Rattle.words.specs.Tests.{Items, anyBelow, allBelow, Within}
-use Rattle.words.proofs.Bools.{test, and-intro, and-left, and-right, and-cases, and-false-right, or-left, or-right, or-cases, or-none, or-true-right, same-test}
+use Rattle.words.specs.Tests.{Items, anyBelow, allBelow}
+use Rattle.words.proofs.Bools.{and-intro, and-left, and-right, and-cases, and-false-right, or-left, or-right, or-cases, or-none}
 
 -- Below `suc n`: the last one, or below n.
 pub below-cases {ℓ} : {X : Type ℓ} (i n : ℕ) → i < suc n → (i ≡ n → X) → (i < n → X) → X
@@ -42,6 +42,11 @@ any-none zero p h i l = absurd (not-suc-le-zero l)
 any-none (suc n) p h i l =
     let r = or-none (anyBelow n p) (p n) h in
     below-cases i n l (λ e. rw e (r .1)) (λ k. any-none n p (r .0) i k)
+
+pub any-no : (n : ℕ) (p : Items) → ((i : ℕ) → i < n → p i ≡ false) → anyBelow n p ≡ false
+unfolding anyBelow
+any-no zero p h = refl
+any-no (suc n) p h = rw (any-no n p (λ i l. h i (omega arith)), h n (omega arith))
 
 pub any-same : (n : ℕ) (p q : Items) → ((i : ℕ) → i < n → p i ≡ q i) → anyBelow n p ≡ anyBelow n q
 unfolding anyBelow

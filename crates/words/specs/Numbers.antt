@@ -1,5 +1,6 @@
 -- Numbers over the items below a bound.
--- countBelow: how many pass. largest: the largest value. when: a value where a test passes. foldBelow: steps in turn.
+-- when: a value where a test passes. countBelow: how many pass. largest: the largest value.
+-- foldBelow: steps in turn.
 -- Assumes nothing.
 use mathlib.Core.Bool.{Bool, cond}
 use Prim.Native.Nat.{ℕ, zero, suc, _+_, max}

@@ -1,0 +1,114 @@
+-- Clocks are ordered by dominates, and join is the least clock above two.
+-- dominates-..: an order. join-..: the least upper bound. present-..: who is in a clock.
+-- Assumes nothing.
+use mathlib.Core.Path.{_≡_, sym, fun-ext}
+use mathlib.Core.Bool.{Bool, true, false, So}
+use mathlib.Core.Logic.{_↔_, _⊎_, inl, inr}
+use Prim.Native.Nat.{ℕ, _≤_, _<_, max}
+use native.Mathlib.Omega.{arith}
+use lib.Dec.{leb}
+use Rattle.words.proofs.Bools.{test, clash, leb-le, le-leb, leb-gt}
+use Rattle.words.proofs.Tests.{any-intro, any-some, any-same, all-intro, all-at, all-same}
+use Rattle.clock.specs.Clock.{Clock, dominates, Dominates, present, join}
+
+-- The test and the statement.
+pub dominates-iff : (W : ℕ) (p q : Clock) → So (dominates W p q) ↔ Dominates W p q
+unfolding dominates
+dominates-iff W p q =
+    let less : ℕ → Bool = λ w. leb (q w) (p w) in (
+      λ s w l. leb-le (q w) (p w) (all-at W less s w l),
+      λ c. all-intro W less (λ w l. le-leb (q w) (p w) (c w l)),
+    )
+
+-- ---- an order
+
+pub dominates-refl : (W : ℕ) (p : Clock) → Dominates W p p
+dominates-refl W p w l = omega arith
+
+pub dominates-trans : (W : ℕ) (p q r : Clock) → Dominates W p q → Dominates W q r → Dominates W p r
+dominates-trans W p q r a b w l = omega (arith, a w l, b w l)
+
+pub dominates-antisym : (W : ℕ) (p q : Clock) → Dominates W p q → Dominates W q p
+    → (w : ℕ) → w < W → p w ≡ q w
+dominates-antisym W p q a b w l = omega (arith, a w l, b w l)
+
+-- Only counts below W matter.
+pub dominates-same : (W : ℕ) (p p′ q q′ : Clock)
+    → ((w : ℕ) → w < W → p w ≡ p′ w) → ((w : ℕ) → w < W → q w ≡ q′ w)
+    → dominates W p q ≡ dominates W p′ q′
+unfolding dominates
+dominates-same W p p′ q q′ h k =
+    all-same W (λ w. leb (q w) (p w)) (λ w. leb (q′ w) (p′ w)) (λ w l. rw (h w l, k w l))
+
+-- How a loop answers the test.
+pub dominates-yes : (W : ℕ) (p q : Clock) → Dominates W p q → true ≡ dominates W p q
+dominates-yes W p q c = sym (dominates-iff W p q .1 c)
+
+pub dominates-no : (W : ℕ) (p q : Clock) (w : ℕ) → w < W → p w < q w → false ≡ dominates W p q
+dominates-no W p q w l h =
+    test (dominates W p q) (λ y. absurd (no-more (dominates-iff W p q .0 y w l))) (λ n. sym n)
+  where
+    no-more : q w ≤ p w → ⊥
+    no-more k = omega arith
+
+-- ---- join, the least upper bound
+
+pub join-left : (W : ℕ) (p q : Clock) → Dominates W (join p q) p
+unfolding join
+join-left W p q w l = omega arith
+
+pub join-right : (W : ℕ) (p q : Clock) → Dominates W (join p q) q
+unfolding join
+join-right W p q w l = omega arith
+
+pub join-least : (W : ℕ) (p q r : Clock) → Dominates W r p → Dominates W r q
+    → Dominates W r (join p q)
+unfolding join
+join-least W p q r a b w l = omega (arith, a w l, b w l)
+
+-- With no bound on the writers clocks are equal as functions.
+pub join-comm : (p q : Clock) → join p q ≡ join q p
+unfolding join
+join-comm p q = fun-ext (λ w. omega arith)
+
+pub join-assoc : (p q r : Clock) → join (join p q) r ≡ join p (join q r)
+unfolding join
+join-assoc p q r = fun-ext (λ w. omega arith)
+
+pub join-idem : (p : Clock) → join p p ≡ p
+unfolding join
+join-idem p = fun-ext (λ w. omega arith)
+
+-- ---- who is in a clock
+
+pub present-some : (W : ℕ) (p : Clock) → So (present W p) → (w : ℕ) × (w < W) × (1 ≤ p w)
+unfolding present
+present-some W p s =
+    let r = any-some W (λ w. leb 1 (p w)) s in (r .0, r .1, leb-le 1 (p (r .0)) (r .2))
+
+pub present-intro : (W : ℕ) (p : Clock) (w : ℕ) → w < W → 1 ≤ p w → So (present W p)
+unfolding present
+present-intro W p w l h = any-intro W (λ w. leb 1 (p w)) w l (le-leb 1 (p w) h)
+
+-- Only counts below W matter.
+pub present-same : (W : ℕ) (p q : Clock) → ((w : ℕ) → w < W → p w ≡ q w)
+    → present W p ≡ present W q
+unfolding present
+present-same W p q h = any-same W (λ w. leb 1 (p w)) (λ w. leb 1 (q w)) (λ w l. rw (h w l))
+
+-- A clock in which nobody is present is zero.
+pub absent : (W : ℕ) (p : Clock) → present W p ≡ false → (w : ℕ) → w < W → p w ≡ 0
+absent W p n w l =
+    test (leb 1 (p w))
+    (λ y. clash (present-intro W p w l (leb-le 1 (p w) y)) n)
+    (λ y. omega (arith, leb-gt 1 (p w) y))
+
+pub join-present : (W : ℕ) (p q : Clock) → So (present W (join p q))
+    → So (present W p) ⊎ So (present W q)
+unfolding join
+join-present W p q s =
+    let r = present-some W (join p q) s in
+    let h : 1 ≤ max (p (r .0)) (q (r .0)) = r .2 in
+    test (leb 1 (p (r .0)))
+    (λ y. inl (present-intro W p (r .0) (r .1) (omega (arith, leb-le))))
+    (λ n. inr (present-intro W q (r .0) (r .1) (omega (arith, leb-gt))))

@@ -1,0 +1,160 @@
+-- Bounds of sizes and offsets: all that a caller needs to know of them.
+-- ranged-in, ranged-out: the test and the record. largest: products. ordered: the areas, in order.
+-- ..-lies: where a part lies.
+-- Assumes nothing.
+use mathlib.Core.Path.{_≡_, refl}
+use mathlib.Core.Bool.{So, _&&_}
+use Prim.Native.Nat.{ℕ, _+_, _*_, _≤_, _<_}
+use native.Mathlib.Nat.{suc-mul, mul-le-mul, mul-le-mul-right}
+use native.Mathlib.Omega.{arith}
+use lib.Dec.{leb}
+use Rattle.words.proofs.Bools.{and-intro, and-left, and-right, leb-le, le-leb}
+use Rattle.sizes.specs.declared.Counts.{Counts}
+use Rattle.sizes.specs.Bounds.{maxKeys, maxWriters, maxSites, maxRuns, between, ranged, Ranged, pastSize, versionSize, placeSize, siteSize, writerSize, runSize, masterAt, sitesAt, writersAt, runsAt, totalOf, siteAt, writerAt, runAt, snapshotAt, keyAt, rowAt}
+
+-- ---- counts in range
+
+between-out : (top x : ℕ) → So (between top x) → (1 ≤ x) × (x ≤ top)
+unfolding between
+between-out top x p =
+    let a = and-left (leb 1 x) (leb x top) p in
+    let b = and-right (leb 1 x) (leb x top) p in
+    (leb-le 1 x a, leb-le x top b)
+
+between-in : (top x : ℕ) → 1 ≤ x → x ≤ top → So (between top x)
+unfolding between
+between-in top x a b = and-intro (le-leb 1 x a) (le-leb x top b)
+
+pub ranged-out : (z : Counts) → So (ranged z) → Ranged z
+unfolding ranged
+ranged-out z p =
+    let k = between maxKeys (z .keys) in
+    let w = between maxWriters (z .writers) in
+    let n = between maxSites (z .sites) in
+    let r = between maxRuns (z .runs) in
+    let rest = and-right k (w && (n && r)) p in
+    let last = and-right w (n && r) rest in
+    let keys = between-out maxKeys (z .keys) (and-left k (w && (n && r)) p) in
+    let writers = between-out maxWriters (z .writers) (and-left w (n && r) rest) in
+    let sites = between-out maxSites (z .sites) (and-left n r last) in
+    let runs = between-out maxRuns (z .runs) (and-right n r last) in
+    record {
+      keys-low = keys .0;
+      keys-high = keys .1;
+      writers-low = writers .0;
+      writers-high = writers .1;
+      sites-low = sites .0;
+      sites-high = sites .1;
+      runs-low = runs .0;
+      runs-high = runs .1;
+    }
+
+pub ranged-in : (z : Counts) → Ranged z → So (ranged z)
+unfolding ranged
+ranged-in z R =
+    and-intro (between-in maxKeys (z .keys) (R .keys-low) (R .keys-high))
+    (and-intro (between-in maxWriters (z .writers) (R .writers-low) (R .writers-high))
+    (and-intro (between-in maxSites (z .sites) (R .sites-low) (R .sites-high))
+    (between-in maxRuns (z .runs) (R .runs-low) (R .runs-high))))
+
+-- ---- sizes and areas
+
+-- The largest sizes.
+pub record Largest (z : Counts) : Type 0 where
+  pub past : pastSize z ≤ 512
+  pub version : versionSize z ≤ 513
+  pub place : placeSize z ≤ 16416
+  pub site : siteSize z ≤ 16416
+  pub writer : writerSize z ≤ 513
+  pub run : runSize z ≤ 16444
+  pub sites : z .sites * siteSize z ≤ 131328
+  pub writers : z .writers * writerSize z ≤ 8208
+  pub runs : z .runs * runSize z ≤ 131552
+
+pub largest : (z : Counts) → Ranged z → Largest z
+unfolding pastSize versionSize placeSize siteSize writerSize runSize
+largest z R =
+    let past : pastSize z ≤ 32 * 16 = mul-le-mul (R .keys-high) (R .writers-high) in
+    let version : versionSize z ≤ 513 = omega arith in
+    let place : placeSize z ≤ 32 * 513 = mul-le-mul (R .keys-high) version in
+    let run : runSize z ≤ 16444 = omega arith in
+    record {
+      past = past;
+      version = version;
+      place = place;
+      site = place;
+      writer = version;
+      run = run;
+      sites = mul-le-mul (R .sites-high) place;
+      writers = mul-le-mul (R .writers-high) version;
+      runs = mul-le-mul (R .runs-high) run;
+    }
+
+-- Each area begins where the one before it ends, and the total is small.
+pub record Ordered (z : Counts) : Type 0 where
+  pub master : masterAt z ≡ 10
+  pub sites : sitesAt z ≡ masterAt z + placeSize z
+  pub writers : writersAt z ≡ sitesAt z + z .sites * siteSize z
+  pub runs : runsAt z ≡ writersAt z + z .writers * writerSize z
+  pub total : totalOf z ≡ runsAt z + z .runs * runSize z
+  pub top : totalOf z ≤ 287514
+
+pub ordered : (z : Counts) → Ranged z → Ordered z
+unfolding masterAt sitesAt writersAt runsAt totalOf
+ordered z R =
+    let m = largest z R in
+    record {
+      master = refl;
+      sites = refl;
+      writers = refl;
+      runs = refl;
+      total = refl;
+      top = omega arith;
+    }
+
+-- ---- parts
+
+-- The n words at an index lie from a on and end within b.
+pub record Lies (a b at n : ℕ) : Type 0 where
+  pub starts : a ≤ at
+  pub ends : at + n ≤ b
+
+-- Part s of k parts of v words.
+part-lies : (at s k v : ℕ) → s < k → Lies at (at + k * v) (at + s * v) v
+part-lies at s k v h =
+    let e : s * v + v ≤ k * v = omega (arith, mul-le-mul-right v h, suc-mul s v) in
+    record { starts = omega arith; ends = omega arith }
+
+pub site-lies : (z : Counts) (o : ℕ) → o < z .sites
+    → Lies (sitesAt z) (writersAt z) (siteAt z o) (siteSize z)
+unfolding siteAt writersAt
+site-lies z o h = part-lies (sitesAt z) o (z .sites) (siteSize z) h
+
+pub writer-lies : (z : Counts) (u : ℕ) → u < z .writers
+    → Lies (writersAt z) (runsAt z) (writerAt z u) (writerSize z)
+unfolding writerAt runsAt
+writer-lies z u h = part-lies (writersAt z) u (z .writers) (writerSize z) h
+
+pub run-lies : (z : Counts) (r : ℕ) → r < z .runs
+    → Lies (runsAt z) (totalOf z) (runAt z r) (runSize z)
+unfolding runAt totalOf
+run-lies z r h = part-lies (runsAt z) r (z .runs) (runSize z) h
+
+-- The snapshot is the last part of its run.
+pub snapshot-lies : (z : Counts) (r : ℕ)
+    → Lies (runAt z r + 28) (runAt z r + runSize z) (snapshotAt z r) (placeSize z)
+unfolding snapshotAt runSize
+snapshot-lies z r = record { starts = omega arith; ends = omega arith }
+
+-- Key k lies in its place, row d in its version.
+pub key-lies : (z : Counts) (at k : ℕ) → k < z .keys
+    → Lies at (at + placeSize z) (keyAt z at k) (versionSize z)
+unfolding keyAt placeSize
+key-lies z at k h = part-lies at k (z .keys) (versionSize z) h
+
+pub row-lies : (z : Counts) (at d : ℕ) → d < z .keys
+    → Lies (at + 1) (at + versionSize z) (rowAt z at d) (z .writers)
+unfolding rowAt versionSize pastSize
+row-lies z at d h =
+    let e = part-lies (at + 1) d (z .keys) (z .writers) h in
+    record { starts = omega (arith, e .starts); ends = omega (arith, e .ends) }
