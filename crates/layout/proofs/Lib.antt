@@ -1,1 +1,13 @@
+pub mod Codec
+pub mod Parts
+pub mod Shapes
+pub mod Whole
+pub mod Fit
+pub mod Updates
+pub mod Follow
+pub mod Formed
+pub mod Plans
+pub mod Kept
+pub mod KeptOpen
+pub mod KeptIssue
 pub mod Scripted
