@@ -3,3 +3,4 @@ pub mod Merges
 pub mod Needs
 pub mod Cuts
 pub mod Pulls
+pub mod Steps
