@@ -1,5 +1,6 @@
 -- Demand 3: one claim about a whole list of calls on the buffer that an accepted new left.
--- Counted (b), Snapshot (c), Pick, Works, BreakExact (d), Holds (all of it at one point of the list), Consistent.
+-- Counted (b), Snapshot (c), Pick, Works, BreakExact (d), Holds (all of it at one point of the
+-- list), Consistent.
 -- Assumes nothing.
 use mathlib.Core.Path.{_≡_}
 use mathlib.Core.Bool.{Bool, true, false, cond, So}
@@ -33,8 +34,8 @@ Counted K h p c = (k : ℕ) → k < K → p k ≡ counted K h (c k)
 pub record Snapshot (K : ℕ) (h : History) (x y : ReadSet) : Type 0 where
   -- "a sheet that both read is one version"
   pub one-version : (k : ℕ) → k < K → So (x .keys k) → So (y .keys k) → x .version k ≡ y .version k
-  -- "each save of a sheet that either read, if by the book it stands behind anything either read, is included in the
-  -- version read": for x and y in either order, and for each with itself
+  -- "each save of a sheet that either read, if by the book it stands behind anything either read,
+  -- is included in the version read": for x and y in either order, and for each with itself
   pub included : (e i d j : ℕ) → e < K → d < K → So (x .keys e) → So (x .copy e i) → So (y .keys d)
       → HappensBefore h d j e i → So (y .copy d j)
 
@@ -44,7 +45,8 @@ pub data Among (x : ReadSet) : List ReadSet → Type 0 where
 
 -- ---- (d) "a step in the list that is not turned down breaks its run exactly if no choice .. "
 
--- "for each sheet of the plan, of the card's version, the office's (after the step's fetch), their merge or none"
+-- "for each sheet of the plan, of the card's version, the office's (after the step's fetch),
+-- their merge or none"
 pub data Pick : Type 0 where
   cards : Pick
   sites : Pick
@@ -62,13 +64,15 @@ unfoldable pub chosen : Store → ℕ → ℕ → (ℕ → Pick) → Place Versi
 chosen s r j pick k =
     cond (stepPlan s r j k) (pickOf (pick k) (s .run r .snapshot k) (stepCache s r j k)) unheld
 
--- It "holds all that the job reads, leaves the sheets already read as they were and meets every need among the plan's
--- sheets".
+-- It "holds all that the job reads, leaves the sheets already read as they were and meets every
+-- need among the plan's sheets".
 pub record Works (s : Store) (r j : ℕ) (pick : ℕ → Pick) : Type 0 where
-  pub holds : (k : ℕ) → k < s .counts .keys → So (stepReads s r j k) → So (held (chosen s r j pick k))
+  pub holds : (k : ℕ) → k < s .counts .keys → So (stepReads s r j k)
+      → So (held (chosen s r j pick k))
   pub keeps : (k : ℕ) → k < s .counts .keys → So (testBit (s .run r .read) k)
       → chosen s r j pick k ≡ s .run r .snapshot k
-  pub meets : So (needsMet (versions (s .counts .writers)) (s .counts .keys) (stepPlan s r j) (chosen s r j pick))
+  pub meets : So (needsMet (versions (s .counts .writers)) (s .counts .keys) (stepPlan s r j)
+      (chosen s r j pick))
 
 unfoldable pub isRefused : Outcome → Bool
 isRefused (refused n) = true
@@ -108,9 +112,11 @@ pub record Holds (s : Store) (b : Book) (finished : ℕ → List ReadSet) : Type
   pub overlaps : (r : ℕ) → r < s .counts .runs
       → So (overlappingCut (versions (s .counts .writers)) (s .counts .keys)
       (planned (s .run r .jobs) (s .run r .job)) (s .run r .snapshot))
-  pub every-save : (k i : ℕ) → k < s .counts .keys → So (saved (b .history) k i) → So (b .master k i)
+  pub every-save : (k i : ℕ) → k < s .counts .keys → So (saved (b .history) k i)
+      → So (b .master k i)
 
--- At a point: the buffer is in form too, so that a store that spoils itself and then refuses all won't do.
+-- At a point: the buffer is in form too, so that a store that spoils itself and then refuses all
+-- won't do.
 pub record HoldsAt (t : Trace) : Type 0 where
   pub formed : So (inForm (t .buffer))
   pub holds : Holds (storeOf (t .buffer)) (t .book) (t .finished)
@@ -122,4 +128,6 @@ Consistent cs t = (sofar rest : List Call) → cs ≡ sofar ++ rest → HoldsAt 
 
 -- Demand 3, for every list of calls after an accepted new, on any buffer.
 abbrev pub Demand3 : Type 0
-Demand3 = (l : List ℕ) (z : Counts) → So (isOk (newOn l z)) → (cs : List Call) → Consistent cs (start z l)
+Demand3 =
+    (l : List ℕ) (z : Counts) → So (isOk (newOn l z))
+    → (cs : List Call) → Consistent cs (start z l)

@@ -1,4 +1,5 @@
--- A list of calls followed: the buffer, the book beside it, and what the finished jobs of each run have read.
+-- A list of calls followed: the buffer, the book beside it, and what the finished jobs of each
+-- run have read.
 -- ReadSet, Trace, start, advance, follow.
 -- Assumes nothing.
 use mathlib.Core.Bool.{Bool, true, false, cond}
@@ -16,7 +17,8 @@ use Rattle.layout.specs.Calls.{Call, new, on, callOn, leaves, isOk, newOn}
 use Rattle.history.specs.Copies.{Copy}
 use Rattle.history.specs.Book.{Book, freshBook, bookStep}
 
--- "A job whose step is answered ok is finished and has read its sheets, as that step left them on the card."
+-- "A job whose step is answered ok is finished and has read its sheets, as that step left them on
+-- the card."
 pub record ReadSet : Type 0 where
   pub keys : Items
   pub version : Place Version
@@ -59,7 +61,11 @@ advance c t =
     let out = callOn c (t .buffer) in
     let l = leaves out (t .buffer) in
     let b = bookStep c (isOk out) (t .book) in
-    record { buffer = l; book = b; finished = cond (isOk out) (finish c l b (t .finished)) (t .finished) }
+    record {
+      buffer = l;
+      book = b;
+      finished = cond (isOk out) (finish c l b (t .finished)) (t .finished);
+    }
 
 unfoldable pub follow : List Call → Trace → Trace
 follow [] t = t

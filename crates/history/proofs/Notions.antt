@@ -1,6 +1,8 @@
 -- What the proofs about histories and copies speak of.
--- PastLaws: all that is used of "stands behind", apart from how it grows. Sound: a history that the calls made.
--- Good: a set of writes that a copy of a key can be. ClosedIn: a cut on copies, within a scope of keys.
+-- PastLaws: all that is used of "stands behind", apart from how it grows. Sound: a history that
+-- the calls made.
+-- Good: a set of writes that a copy of a key can be. ClosedIn: a cut on copies, within a scope of
+-- keys.
 -- Assumes nothing.
 use mathlib.Core.Path.{_≡_}
 use mathlib.Core.Bool.{Bool, So}
@@ -39,7 +41,8 @@ pub record Good (K : ℕ) (h : History) (k : ℕ) (c : Copy) : Type 0 where
 pub record ClosedIn (K : ℕ) (h : History) (scope : Items) (p : Place Copy) : Type 0 where
   pub writes : (d i : ℕ) → d < K → So (p d i) → (i < length h) × So (saved h d i)
   pub within : (d i : ℕ) → d < K → So (p d i) → So (scope d)
-  pub closed : (k i d j : ℕ) → k < K → d < K → So (scope d) → So (p k i) → So (inPast K h i d j) → So (p d j)
+  pub closed : (k i d j : ℕ) → k < K → d < K → So (scope d) → So (p k i) → So (inPast K h i d j)
+      → So (p d j)
 
 -- A causal cut on copies.
 abbrev pub ClosedAll : ℕ → History → Place Copy → Type 0

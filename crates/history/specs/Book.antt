@@ -1,4 +1,5 @@
--- The history model (document 01: "the book"), fed each call with its arguments and whether it was answered ok.
+-- The history model (document 01: "the book"), fed each call with its arguments and whether it
+-- was answered ok.
 -- BookRun, Book, freshBook; bookStep: one call.
 -- Assumes nothing.
 use mathlib.Core.Bool.{Bool, true, false, cond, _&&_, _||_}
@@ -44,7 +45,13 @@ noRun = record { jobs = 0; job = noJobs; read = none; snapshot = noCopies }
 
 -- "New: all empty."
 unfoldable pub freshBook : Counts → Book
-freshBook z = record { counts = z; history = []; master = noCopies; cache = λ o. noCopies; run = λ r. noRun }
+freshBook z = record {
+  counts = z;
+  history = [];
+  master = noCopies;
+  cache = λ o. noCopies;
+  run = λ r. noRun;
+}
 
 unfoldable pub withBookCaches : Book → (ℕ → Place Copy) → Book
 withBookCaches b f = record {
@@ -69,17 +76,23 @@ withBookRun b r x = record {
 -- "Open: the jobs are entered."
 unfoldable pub bookOpen : ℕ → List ℕ → Book → Book
 bookOpen r l b =
-    withBookRun b r (record { jobs = listedCount l; job = listedJobs l; read = none; snapshot = noCopies })
+    withBookRun b r (record {
+      jobs = listedCount l;
+      job = listedJobs l;
+      read = none;
+      snapshot = noCopies;
+    })
 
 unfoldable pub bookFetch : ℕ → ℕ → Book → Book
 bookFetch o k b =
+    let K = b .counts .keys in
     withBookCaches b (putAt (b .cache) o
-    (fetched (copies (b .counts .keys) (b .history)) (b .counts .keys) (b .master) (b .cache o) (only k)))
+    (fetched (copies K (b .history)) K (b .master) (b .cache o) (only k)))
 
 unfoldable pub bookEvict : ℕ → ℕ → Book → Book
 bookEvict o k b =
-    withBookCaches b (putAt (b .cache) o
-    (evicted (copies (b .counts .keys) (b .history)) (b .counts .keys) (b .cache o) (only k)))
+    let K = b .counts .keys in
+    withBookCaches b (putAt (b .cache) o (evicted (copies K (b .history)) K (b .cache o) (only k)))
 
 unfoldable pub bookPrepare : ℕ → Book → Book
 bookPrepare r b =
@@ -102,7 +115,8 @@ bookStepJob r j b =
     let a = b .run r in
     let o = a .job j .site in
     let reads = testBit (a .job j .reads) in
-    let cache = fetched alg K (b .master) (b .cache o) (readStart alg K (a .snapshot) (b .cache o) reads) in
+    let missing = readStart alg K (a .snapshot) (b .cache o) reads in
+    let cache = fetched alg K (b .master) (b .cache o) missing in
     withBookRun (withBookCaches b (putAt (b .cache) o cache)) r (record {
       jobs = a .jobs;
       job = a .job;
@@ -114,18 +128,22 @@ bookStepJob r j b =
 
 -- "writer, mask, the copies its run had read"
 unfoldable pub entry : ℕ → ℕ → ℕ → Book → Issue
-entry r w S b = record { writer = w; keys = testBit S; read = λ k i. b .run r .read k && b .run r .snapshot k i }
+entry r w S b = record {
+  writer = w;
+  keys = testBit S;
+  read = λ k i. b .run r .read k && b .run r .snapshot k i;
+}
 
--- "for each k in S the master's copy takes in what the new version includes": "its own save and all saves of its sheet
--- behind it"
+-- "for each k in S the master's copy takes in what the new version includes": "its own save and
+-- all saves of its sheet behind it"
 unfoldable pub bookIssue : ℕ → ℕ → ℕ → Book → Book
 bookIssue r w S b =
     let h = entry r w S b ∷ b .history in
+    let new = inPast (b .counts .keys) h (length (b .history)) in
     record {
       counts = b .counts;
       history = h;
-      master = λ k.
-          cond (testBit S k) (λ i. b .master k i || inPast (b .counts .keys) h (length (b .history)) k i) (b .master k);
+      master = λ k. cond (testBit S k) (λ i. b .master k i || new k i) (b .master k);
       cache = b .cache;
       run = putAt (b .run) r noRun;
     }

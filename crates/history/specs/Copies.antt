@@ -1,4 +1,5 @@
--- Copies (document 01: "a copy: a set of saves, empty if not held"), what the rules ask of them, and a copy counted.
+-- Copies (document 01: "a copy: a set of saves, empty if not held"), what the rules ask of them,
+-- and a copy counted.
 -- Copy; reaches; copies: the algebra. lastIn, counted.
 -- Assumes nothing.
 use mathlib.Core.Bool.{Bool, not, _&&_, _||_}
@@ -36,7 +37,13 @@ module _ (K : ℕ) (h : History) where
   union a b i = a i || b i
 
   abbrev pub copies : Algebra Copy
-  copies = record { nothing = none; held = heldCopy; needs = needsCopy; meets = meetsCopy; merge = union }
+  copies = record {
+    nothing = none;
+    held = heldCopy;
+    needs = needsCopy;
+    meets = meetsCopy;
+    merge = union;
+  }
 
   -- ---- "A version on the desk is its copy counted"
 
@@ -48,8 +55,9 @@ module _ (K : ℕ) (h : History) where
   unfoldable pub byWriter : ℕ → Items
   byWriter w i = eqb (writerOf h i) w
 
-  -- "the largest issue number in it; in row d, for each writer, how many issues by that writer the book has up to that
-  -- writer's last save of d in the copy or behind a save in it; 0 wherever there is none"
+  -- "the largest issue number in it; in row d, for each writer, how many issues by that writer
+  -- the book has up to that writer's last save of d in the copy or behind a save in it; 0
+  -- wherever there is none"
   unfoldable pub counted : Copy → Version
   counted c = record {
     issue = lastIn c;

@@ -58,8 +58,12 @@ pub record Taken : Type 0 where
   pub largest : (l : List ℕ) → 287514 ≤ length l → answer (callOn (new 32 16 8 8) l) ≡ ok₁ 287514
 
 pub in-range : Taken
-unfolding callOn newOn newCause ranged between refuse unless answer pastSize versionSize placeSize siteSize writerSize runSize masterAt sitesAt writersAt runsAt totalOf
-in-range = record { smallest = λ l h. rw (le-leb 46 (length l) h); largest = λ l h. rw (le-leb 287514 (length l) h) }
+unfolding callOn newOn newCause ranged between refuse unless answer pastSize versionSize placeSize
+    siteSize writerSize runSize masterAt sitesAt writersAt runsAt totalOf
+in-range = record {
+  smallest = λ l h. rw (le-leb 46 (length l) h);
+  largest = λ l h. rw (le-leb 287514 (length l) h);
+}
 
 -- ---- the scripts, on a buffer of any words and two words more than the total
 
@@ -81,19 +85,22 @@ pub record Scripted : Type 0 where
   pub longer : map answer (outcomes calls-longer words-longer) ≡ ok₁ 185 ∷ longer-answers
 
 pub scripted : Scripted
-unfolding anyBelow allBelow only foldBelow putAt upto blocks testBit withBit withIf maskBelow closure rounds round
-    dominates present join between ranged pastSize versionSize placeSize siteSize writerSize runSize masterAt sitesAt
-    writersAt runsAt totalOf lacking held dependency supersedes larger merge draws drawSet fetchSet fetched
-    unfetchable evictSet evicted pullSet pulled fresh planned doneReads withMaster withLast withSites withCache
-    withWriter withRun withState withSnapshot withJobDone zeroRows versionFormed placeFormed validJob zeroJob freeFormed
-    jobsFormed masksFormed snapshotFormed runFormed wellFormed answer refuse unless allowed fetchCause fetchDone
-    fetchRule evictCause evictDone evictRule listedJob listedCount listedJobs listValid openCause openedRun openDone
-    openRule dropCause dropDone dropRule jobStart fetchReads preparedCaches unpreparable usesSite sitesMerged
-    siteCaches prepareCause prepareCaches prepareSnapshot prepareDone prepareRule readStart stepSite stepReads
-    stepStart stepFetch stepCache stepPlan stepPull stepSnapshot stepMoved jobLimit notReady stepCause stepBroken
-    stepDone stepRule issueCause takenIn newPast newVersion issuedMaster issueSaved issueDone issueRule lookPlace
-    lookLimit lookCause rowNumbers lookDone lookRule ruleOf clockWords pastWords versionWords placeWords siteWords
-    sitesWords writerWords writersWords jobWords jobsWords runWords runsWords headerWords storeWords readClock readPast
-    readVersion readPlace readSite readWriter readJob readJobs readRun countsIn storeOf written headerRight shaped inForm
-    newCause newOn onStore callOn leaves outcomes after
+unfolding anyBelow allBelow only foldBelow putAt upto blocks testBit withBit withIf maskBelow
+    closure rounds round dominates present join between ranged pastSize versionSize placeSize
+    siteSize writerSize runSize masterAt sitesAt writersAt runsAt totalOf lacking held dependency
+    supersedes larger merge draws drawSet fetchSet fetched unfetchable evictSet evicted pullSet
+    pulled fresh planned doneReads withMaster withLast withSites withCache withWriter withRun
+    withState withSnapshot withJobDone zeroRows versionFormed placeFormed validJob zeroJob
+    freeFormed jobsFormed masksFormed snapshotFormed runFormed wellFormed answer refuse unless
+    allowed fetchCause fetchDone fetchRule evictCause evictDone evictRule listedJob listedCount
+    listedJobs listValid openCause openedRun openDone openRule dropCause dropDone dropRule
+    jobStart fetchReads preparedCaches unpreparable usesSite sitesMerged siteCaches prepareCause
+    prepareCaches prepareSnapshot prepareDone prepareRule readStart stepSite stepReads stepStart
+    stepFetch stepCache stepPlan stepPull stepSnapshot stepMoved jobLimit notReady stepCause
+    stepBroken stepDone stepRule issueCause takenIn newPast newVersion issuedMaster issueSaved
+    issueDone issueRule lookPlace lookLimit lookCause rowNumbers lookDone lookRule ruleOf
+    clockWords pastWords versionWords placeWords siteWords sitesWords writerWords writersWords
+    jobWords jobsWords runWords runsWords headerWords storeWords readClock readPast readVersion
+    readPlace readSite readWriter readJob readJobs readRun countsIn storeOf written headerRight
+    shaped inForm newCause newOn onStore callOn leaves outcomes after
 scripted = record { case-a = refl; case-a-past = refl; longer = refl }

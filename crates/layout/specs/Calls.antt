@@ -1,4 +1,5 @@
--- The nine calls on a buffer of words: outcome and buffer after it, for any buffer and any numbers.
+-- The nine calls on a buffer of words: outcome and buffer after it, for any buffer and any
+-- numbers.
 -- Call, callOn, leaves; after: a list of calls.
 -- Assumes nothing.
 use mathlib.Core.Bool.{Bool, true, false, cond, not}
@@ -29,7 +30,8 @@ newCause l z =
 unfoldable pub newOn : List ℕ → Counts → Outcome
 newOn l z = unless (newCause l z) (done (totalOf z ∷ []) (fresh z))
 
--- A rule on the store that a buffer holds: "Buffer too short, or (not for new) desk not in form" is 1, before all else.
+-- A rule on the store that a buffer holds: "Buffer too short, or (not for new) desk not in form"
+-- is 1, before all else.
 unfoldable pub onStore : List ℕ → (Store → Outcome) → Outcome
 onStore l rule = cond (inForm l) (rule (storeOf l)) (refused 1)
 

@@ -34,7 +34,11 @@ unfoldable pub readWriter : Counts → List ℕ → ℕ → Writer
 readWriter z l at = record { count = readWord l at; past = readPast z l (at + 1) }
 
 unfoldable pub readJob : List ℕ → ℕ → Job
-readJob l at = record { site = readWord l at; reads = readWord l (at + 1); upstream = readWord l (at + 1 + 1) }
+readJob l at = record {
+  site = readWord l at;
+  reads = readWord l (at + 1);
+  upstream = readWord l (at + 1 + 1);
+}
 
 unfoldable pub readJobs : List ℕ → ℕ → ℕ → Job
 readJobs l at = upto maxJobs noJob (λ i. readJob l (at + i * 3))
@@ -51,7 +55,12 @@ readRun z l at = record {
 
 -- The counts in the header.
 unfoldable pub countsIn : List ℕ → Counts
-countsIn l = record { keys = readWord l 0; writers = readWord l 1; sites = readWord l 2; runs = readWord l 3 }
+countsIn l = record {
+  keys = readWord l 0;
+  writers = readWord l 1;
+  sites = readWord l 2;
+  runs = readWord l 3;
+}
 
 -- The store in the first words of a buffer.
 unfoldable pub storeOf : List ℕ → Store

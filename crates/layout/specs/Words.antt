@@ -1,4 +1,5 @@
--- The words of a store, in document 01's order ("Size and layout"). Sizes and offsets: crate sizes.
+-- The words of a store, in document 01's order ("Size and layout"). Sizes and offsets: crate
+-- sizes.
 -- ..Words: the words of a part. storeWords: all of them.
 -- Assumes nothing.
 use mathlib.Core.List.{List, [], _∷_, _++_}
@@ -46,13 +47,14 @@ jobsWords f = blocks maxJobs (λ i. jobWords (f i))
 
 -- "state, number of jobs, done mask, read mask, 8 jobs of 3 words, then the card, K versions"
 unfoldable pub runWords : Counts → Run → List ℕ
-runWords z r = r .state ∷ r .jobs ∷ r .done ∷ r .read ∷ (jobsWords (r .job) ++ placeWords z (r .snapshot))
+runWords z r =
+    r .state ∷ r .jobs ∷ r .done ∷ r .read ∷ (jobsWords (r .job) ++ placeWords z (r .snapshot))
 
 unfoldable pub runsWords : Counts → (ℕ → Run) → List ℕ
 runsWords z f = blocks (z .runs) (λ r. runWords z (f r))
 
--- "Header, 10 words: K, W, N, P, last issue number, then the offsets in words of master, shelves, writers and runs,
--- then the total."
+-- "Header, 10 words: K, W, N, P, last issue number, then the offsets in words of master, shelves,
+-- writers and runs, then the total."
 unfoldable pub headerWords : Counts → ℕ → List ℕ
 headerWords z last =
     z .keys ∷ z .writers ∷ z .sites ∷ z .runs ∷ last

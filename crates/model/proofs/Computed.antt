@@ -39,15 +39,26 @@ pub record Computed : Type 0 where
   pub longer : answers longer-script (fresh (countsOf 3 2 2 2)) ≡ longer-answers
 
 pub computed : Computed
-unfolding needsMet causalCut overlappingCut concurrent doneReads zeroRows versionFormed placeFormed zeroJob freeFormed jobsFormed masksFormed
-    snapshotFormed runFormed wellFormed anyBelow allBelow only foldBelow putAt upto blocks testBit withBit withIf maskBelow closure rounds round
-    dominates present join between lacking held dependency supersedes larger merge draws drawSet fetchSet fetched
-    unfetchable evictSet evicted pullSet pulled fresh planned withMaster withLast withSites withCache withWriter withRun
-    withState withSnapshot withJobDone validJob answer refuse unless allowed fetchCause fetchDone fetchRule evictCause
-    evictDone evictRule listedJob listedCount listedJobs listValid openCause openedRun openDone openRule dropCause
-    dropDone dropRule jobStart fetchReads preparedCaches unpreparable usesSite sitesMerged siteCaches prepareCause
-    prepareCaches prepareSnapshot prepareDone prepareRule readStart
-    stepSite stepReads stepStart stepFetch stepCache stepPlan stepPull stepSnapshot stepMoved jobLimit notReady stepCause
-    stepBroken stepDone stepRule issueCause takenIn newPast newVersion issuedMaster issueSaved issueDone issueRule
-    lookPlace lookLimit lookCause rowNumbers lookDone lookRule ruleOf
-computed = record { ten = refl; texts = refl; others = refl; case-a = refl; refusals = refl; reading = refl; longer = refl }
+unfolding needsMet causalCut overlappingCut concurrent doneReads zeroRows versionFormed
+    placeFormed zeroJob freeFormed jobsFormed masksFormed snapshotFormed runFormed wellFormed
+    anyBelow allBelow only foldBelow putAt upto blocks testBit withBit withIf maskBelow closure
+    rounds round dominates present join between lacking held dependency supersedes larger merge
+    draws drawSet fetchSet fetched unfetchable evictSet evicted pullSet pulled fresh planned
+    withMaster withLast withSites withCache withWriter withRun withState withSnapshot withJobDone
+    validJob answer refuse unless allowed fetchCause fetchDone fetchRule evictCause evictDone
+    evictRule listedJob listedCount listedJobs listValid openCause openedRun openDone openRule
+    dropCause dropDone dropRule jobStart fetchReads preparedCaches unpreparable usesSite
+    sitesMerged siteCaches prepareCause prepareCaches prepareSnapshot prepareDone prepareRule
+    readStart stepSite stepReads stepStart stepFetch stepCache stepPlan stepPull stepSnapshot
+    stepMoved jobLimit notReady stepCause stepBroken stepDone stepRule issueCause takenIn newPast
+    newVersion issuedMaster issueSaved issueDone issueRule lookPlace lookLimit lookCause
+    rowNumbers lookDone lookRule ruleOf
+computed = record {
+  ten = refl;
+  texts = refl;
+  others = refl;
+  case-a = refl;
+  refusals = refl;
+  reading = refl;
+  longer = refl;
+}

@@ -1,4 +1,5 @@
--- Document 01's "Readings that mislead" as tests: the ten marked ones as one list, and the others on a store.
+-- Document 01's "Readings that mislead" as tests: the ten marked ones as one list, and the others
+-- on a store.
 -- `Computed` proves that each of them passes.
 -- Assumes nothing.
 use mathlib.Core.Bool.{Bool, true, false, not, _&&_}
@@ -68,7 +69,8 @@ first = concurrent 2 (clock one-zero) (clock zero-one)
 
 -- "(1,1) covers both"
 abbrev pub second : Bool
-second = dominates 2 (clock one-one) (clock one-zero) && dominates 2 (clock one-one) (clock zero-one)
+second =
+    dominates 2 (clock one-one) (clock one-zero) && dominates 2 (clock one-one) (clock zero-one)
 
 -- "equal clocks cover"
 abbrev pub third : Bool
@@ -87,8 +89,8 @@ fifth =
     let a = version 3 (two-zero ∷ zero-one ∷ []) in
     sameVersion (merge a unheld) a && sameVersion (merge unheld a) a
 
--- "sheet u needs e at (1,0); the shelf's e is newer and needs k. Evicting k takes e and u, though u doesn't need k":
--- k is 0, e is 1 and u is 2.
+-- "sheet u needs e at (1,0); the shelf's e is newer and needs k. Evicting k takes e and u, though
+-- u doesn't need k": k is 0, e is 1 and u is 2.
 abbrev evicting : Place Version
 evicting =
     place (version 1 (one-zero ∷ []) ∷ version 2 (one-zero ∷ two-zero ∷ [])
@@ -99,18 +101,22 @@ sixth =
     eqb (maskBelow 3 (evictSet (versions 2) 3 evicting (only 0))) 7
     && (dependency 2 2 (evicting 2) 1 && not (dependency 2 2 (evicting 2) 0))
 
--- A run whose card has sheet 0 at (1,0), read or not; the shelf has 0 at (2,0), and 1 that needs 0 at a clock.
+-- A run whose card has sheet 0 at (1,0), read or not; the shelf has 0 at (2,0), and 1 that needs
+-- 0 at a clock.
 -- Job 0 reads sheet 0, job 1 sheet 1.
+abbrev reading : ℕ → Job
+reading m = record { site = 0; reads = m; upstream = 0 }
+
 abbrev jobs : ℕ → Job
-jobs i =
-    getD (record { site = 0; reads = 1; upstream = 0 } ∷ record { site = 0; reads = 2; upstream = 0 } ∷ []) i noJob
+jobs i = getD (reading 1 ∷ reading 2 ∷ []) i noJob
 
 abbrev pub shelf-of : List ℕ → Place Version
 shelf-of need = place (version 2 (two-zero ∷ []) ∷ version 2 (need ∷ two-zero ∷ []) ∷ [])
 
 abbrev pub store-of : ℕ → List ℕ → Store
 store-of read need =
-    withRun (withCache (withMaster (fresh (countsOf 2 2 1 1)) (shelf-of two-zero)) 0 (shelf-of need)) 0 (record {
+    let master = withMaster (fresh (countsOf 2 2 1 1)) (shelf-of two-zero) in
+    withRun (withCache master 0 (shelf-of need)) 0 (record {
       state = 1;
       jobs = 2;
       done = read;
@@ -122,9 +128,11 @@ store-of read need =
 -- The step of job 1 on a store that is in form.
 abbrev pub stepping : ℕ → List ℕ → List ℕ → Bool
 stepping read need expected =
-    wellFormed (store-of read need) && same (answer (ruleOf (step 0 1) (store-of read need))) expected
+    let s = store-of read need in
+    wellFormed s && same (answer (ruleOf (step 0 1) s)) expected
 
--- "sheet 0 was read at (1,0). The shelf has 0 at (2,0), and 1 that needs 0 at (1,0). A job reading 1 goes through."
+-- "sheet 0 was read at (1,0). The shelf has 0 at (2,0), and 1 that needs 0 at (1,0). A job
+-- reading 1 goes through."
 abbrev pub seventh : Bool
 seventh = stepping 1 one-zero (ok₃ 0 2 0)
 

@@ -1,5 +1,6 @@
 -- Scripts of calls on a store, and their answers: case A of document 01 and a longer one.
--- nextStore, run, answers: a list of calls carried out. case-a, longer: the scripts, and what they answer.
+-- nextStore, run, answers: a list of calls carried out. case-a, longer: the scripts, and what
+-- they answer.
 -- Assumes nothing.
 use mathlib.Core.List.{List, [], _∷_}
 use Prim.Native.Nat.{ℕ}
@@ -49,22 +50,27 @@ case-a-answers =
     ∷ ok₁ 2 ∷ not-taken 6 ∷ ok₃ 0 1 0 ∷ ok₃ 2 0 0 ∷ ok₃ 1 1 0
     ∷ ok₁ 3 ∷ ok₁ 3 ∷ []
 
--- ---- a longer script, after `new 3 2 2 2`: rival writes merge, keys are evicted, a run is prepared, a run breaks
+-- ---- a longer script, after `new 3 2 2 2`: rival writes merge, keys are evicted, a run is
+-- prepared, a run breaks
 
 abbrev pub longer-script : List StoreCall
 longer-script =
-    -- Writer 0 saves keys 0 and 1; writer 1, who has read nothing, saves 1: a rival, merged on the master.
+    -- Writer 0 saves keys 0 and 1; writer 1, who has read nothing, saves 1: a rival, merged on
+    -- the master.
     openRun 0 (0 ∷ 0 ∷ 0 ∷ []) ∷ step 0 0 ∷ issue 0 0 3
     ∷ openRun 1 (1 ∷ 0 ∷ 0 ∷ []) ∷ step 1 0 ∷ issue 1 1 2 ∷ look 0 0 1
     -- Site 0 takes 1, and 0 with it; evicting 0 takes 1 along.
     ∷ fetch 0 1 ∷ evict 0 0 ∷ look 1 0 1 ∷ fetch 0 0 ∷ look 1 0 0
-    -- Run 0 reads 0 at site 0. Writer 0, having read 0, saves 0 and 2; site 1 takes 2, which needs the new 0.
+    -- Run 0 reads 0 at site 0. Writer 0, having read 0, saves 0 and 2; site 1 takes 2, which
+    -- needs the new 0.
     ∷ openRun 0 (0 ∷ 1 ∷ 0 ∷ 1 ∷ 4 ∷ 0 ∷ []) ∷ step 0 0
     ∷ openRun 1 (0 ∷ 1 ∷ 0 ∷ []) ∷ step 1 0 ∷ issue 1 0 5 ∷ fetch 1 2
     -- Run 0 can't read 2 beside its older 0.
     ∷ step 0 1 ∷ step 0 1 ∷ step 0 2 ∷ dropRun 0
-    -- The same jobs, prepared: site 0 fetches what it lacks, the card is the merge of both caches, and both go through.
-    ∷ openRun 0 (0 ∷ 1 ∷ 0 ∷ 1 ∷ 4 ∷ 1 ∷ []) ∷ prepare 0 ∷ step 0 0 ∷ prepare 0 ∷ step 0 1 ∷ look 2 0 2
+    -- The same jobs, prepared: site 0 fetches what it lacks, the card is the merge of both
+    -- caches, and both go through.
+    ∷ openRun 0 (0 ∷ 1 ∷ 0 ∷ 1 ∷ 4 ∷ 1 ∷ []) ∷ prepare 0 ∷ step 0 0 ∷ prepare 0 ∷ step 0 1
+    ∷ look 2 0 2
     ∷ issue 0 1 7 ∷ look 0 0 2 ∷ issue 0 1 0 ∷ []
 
 abbrev pub longer-answers : List (List ℕ)
@@ -78,8 +84,8 @@ longer-answers =
     ∷ ok₁ 2 ∷ ok₁ 5 ∷ ok₃ 1 0 0 ∷ not-taken 6 ∷ ok₃ 4 0 0 ∷ ok₃ 3 2 0
     ∷ ok₁ 4 ∷ ok₃ 4 2 2 ∷ not-taken 4 ∷ []
 
--- ---- after `new 2 2 1 2`: refusals in the table's order; a key outside of the plan isn't carried; an old version that
--- meets the needs stays
+-- ---- after `new 2 2 1 2`: refusals in the table's order; a key outside of the plan isn't
+-- carried; an old version that meets the needs stays
 
 abbrev pub refusals-script : List StoreCall
 refusals-script =

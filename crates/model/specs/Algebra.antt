@@ -1,5 +1,6 @@
--- What the rules ask of a version. Document 01 has the rules once for versions (module Version) and once for the
--- book's copies (crate history): they are stated once, over an algebra, and taken for both.
+-- What the rules ask of a version. Document 01 has the rules once for versions (module Version)
+-- and once for the book's copies (crate history): they are stated once, over an algebra, and
+-- taken for both.
 -- Algebra, Place; needsMet, causalCut, overlappingCut ("keyset-overlapping cut").
 -- Assumes nothing.
 use mathlib.Core.Bool.{Bool, true, false, not, _&&_, _||_}
@@ -9,8 +10,10 @@ use Rattle.words.specs.Tests.{Items, allBelow}
 pub record Algebra (A : Type 0) : Type 0 where
   pub nothing : A  -- not held
   pub held : A → Bool
-  pub needs : ℕ → A → Items  -- needs k a d: a, a version of key k, needs key d
-  pub meets : ℕ → A → A → Bool  -- meets d b a: b, a version of key d, meets the need of d that a has
+  -- needs k a d: a, a version of key k, needs key d
+  pub needs : ℕ → A → Items
+  -- meets d b a: b, a version of key d, meets the need of d that a has
+  pub meets : ℕ → A → A → Bool
   pub merge : A → A → A
 
 -- The version of each key on the master, a cache ("shelf") or a snapshot ("card").
@@ -37,7 +40,8 @@ module _ {A : Type 0} (alg : Algebra A) (K : ℕ) where
   unfoldable pub causalCut : Place A → Bool
   causalCut p = needsMet everything p
 
-  -- "A keyset-overlapping cut for a set of sheets: only those sheets are held, and every need among them is met."
+  -- "A keyset-overlapping cut for a set of sheets: only those sheets are held, and every need
+  -- among them is met."
   unfoldable pub overlappingCut : Items → Place A → Bool
   overlappingCut S p = allBelow K (λ k. implies (alg .held (p k)) (S k)) && needsMet S p
 

@@ -25,9 +25,11 @@ versionFormed z k v = cond (held v) (present (z .writers) (v .past k)) (zeroRows
 unfoldable pub placeFormed : Counts → Place Version → Bool
 placeFormed z p = allBelow (z .keys) (λ k. versionFormed z k (p k))
 
--- "A valid job has an office below N, reads among K sheets (0 allowed), and upstream bits only of lower job numbers."
+-- "A valid job has an office below N, reads among K sheets (0 allowed), and upstream bits only of
+-- lower job numbers."
 unfoldable pub validJob : Counts → ℕ → Job → Bool
-validJob z i j = ltb (j .site) (z .sites) && (ltb (j .reads) (2 ^ z .keys) && ltb (j .upstream) (2 ^ i))
+validJob z i j =
+    ltb (j .site) (z .sites) && (ltb (j .reads) (2 ^ z .keys) && ltb (j .upstream) (2 ^ i))
 
 unfoldable pub zeroJob : Job → Bool
 zeroJob j = eqb (j .site) 0 && (eqb (j .reads) 0 && eqb (j .upstream) 0)
@@ -43,7 +45,8 @@ freeFormed z r =
 unfoldable pub jobsFormed : Counts → Run → Bool
 jobsFormed z r =
     between maxJobs (r .jobs)
-    && allBelow maxJobs (λ i. cond (ltb i (r .jobs)) (validJob z i (r .job i)) (zeroJob (r .job i)))
+    && allBelow maxJobs (λ i.
+    cond (ltb i (r .jobs)) (validJob z i (r .job i)) (zeroJob (r .job i)))
 
 -- "a done mask below 2^jobs, a read mask that is just the done jobs' reads"
 unfoldable pub masksFormed : Counts → Run → Bool

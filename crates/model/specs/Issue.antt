@@ -31,7 +31,8 @@ issueCause s r w S =
     (refuse (not (eqb S 0) && eqb (s .writer w .count) maxWord) 10
     0))))))
 
--- "the writer's past takes in (larger count at each place) the pasts of the versions that the run read"
+-- "the writer's past takes in (larger count at each place) the pasts of the versions that the run
+-- read"
 unfoldable pub takenIn : ℕ → (ℕ → Clock) → Run → ℕ → Clock
 takenIn K past a d =
     foldBelow K (λ k c. cond (testBit (a .read) k) (join c (a .snapshot k .past d)) c) (past d)
@@ -48,17 +49,16 @@ newVersion s r w S = record { issue = s .last + 1; past = newPast s r w S }
 
 -- "the master's k, for each k in S, is merged with the version"
 unfoldable pub issuedMaster : Store → ℕ → ℕ → ℕ → Place Version
-issuedMaster s r w S k = cond (testBit S k) (merge (s .master k) (newVersion s r w S)) (s .master k)
+issuedMaster s r w S k =
+    cond (testBit S k) (merge (s .master k) (newVersion s r w S)) (s .master k)
 
 -- "The run is freed. Answers the issue number."
 unfoldable pub issueSaved : Store → ℕ → ℕ → ℕ → Outcome
 issueSaved s r w S =
+    let author = record { count = s .writer w .count + 1; past = newPast s r w S } in
     done ((s .last + 1) ∷ [])
     (withRun
-    (withMaster
-    (withWriter
-    (withLast s (s .last + 1)) w (record { count = s .writer w .count + 1; past = newPast s r w S }))
-    (issuedMaster s r w S)) r freeRun)
+    (withMaster (withWriter (withLast s (s .last + 1)) w author) (issuedMaster s r w S)) r freeRun)
 
 -- "with S empty only the run is freed, and 0 answered"
 unfoldable pub issueDone : Store → ℕ → ℕ → ℕ → Outcome

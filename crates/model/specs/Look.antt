@@ -13,7 +13,8 @@ use Rattle.model.specs.Outcome.{Outcome, done, refuse, unless}
 
 -- "place (0 master, 1 shelf, 2 card), its number (0 for the master)"
 unfoldable pub lookPlace : Store → ℕ → ℕ → Place Version
-lookPlace s p i = cond (eqb p 0) (s .master) (cond (eqb p 1) (s .site i .cache) (s .run i .snapshot))
+lookPlace s p i =
+    cond (eqb p 0) (s .master) (cond (eqb p 1) (s .site i .cache) (s .run i .snapshot))
 
 -- How many places there are of each kind.
 unfoldable pub lookLimit : Store → ℕ → ℕ

@@ -19,7 +19,8 @@ answer (refused n) = 2 ∷ n ∷ []
 answer (broken m s) = 1 ∷ m ∷ []
 answer (done a s) = 0 ∷ a
 
--- One row of the refusal table: the number n where the cause holds, otherwise the rows below it. 0: no cause.
+-- One row of the refusal table: the number n where the cause holds, otherwise the rows below it.
+-- 0: no cause.
 unfoldable pub refuse : Bool → ℕ → ℕ → ℕ
 refuse true n rest = n
 refuse false n rest = rest

@@ -1,5 +1,5 @@
--- Prepare: what the jobs of a run read is fetched, and the snapshot ("card") becomes the merge of their caches.
--- fetchReads, preparedCaches, sitesMerged serve versions and copies alike.
+-- Prepare: what the jobs of a run read is fetched, and the snapshot ("card") becomes the merge of
+-- their caches. fetchReads, preparedCaches, sitesMerged serve versions and copies alike.
 -- Assumes nothing.
 use mathlib.Core.Bool.{Bool, cond, not, _&&_}
 use mathlib.Core.List.{[], _∷_}
@@ -32,13 +32,15 @@ module _ {A : Type 0} (alg : Algebra A) (K : ℕ) (master : Place A) (job : ℕ 
 
   -- A key that one of n jobs has to fetch isn't held by the master.
   unfoldable pub unpreparable : ℕ → (ℕ → Place A) → Bool
-  unpreparable n cache = anyBelow n (λ j. unfetchable alg K master (jobStart j (preparedCaches j cache)))
+  unpreparable n cache =
+      anyBelow n (λ j. unfetchable alg K master (jobStart j (preparedCaches j cache)))
 
 -- Some of n jobs is at site o.
 unfoldable pub usesSite : ℕ → (ℕ → Job) → Items
 usesSite n job o = anyBelow n (λ j. eqb (job j .site) o)
 
--- "the merge, over the jobs' offices (lowest number first, each once), of their shelves cut down to the plan's sheets"
+-- "the merge, over the jobs' offices (lowest number first, each once), of their shelves cut down
+-- to the plan's sheets"
 unfoldable pub sitesMerged : {A : Type 0} → Algebra A → ℕ → Items → Items → (ℕ → Place A) → Place A
 sitesMerged alg N sites plan cache k =
     foldBelow N (λ o a. cond (sites o && plan k) (alg .merge a (cache o k)) a) (alg .nothing)
@@ -50,10 +52,11 @@ unfoldable pub prepareCause : Store → ℕ → ℕ
 prepareCause s r =
     let z = s .counts in
     let a = s .run r in
+    let alg = versions (z .writers) in
     refuse (leb (z .runs) r) 3
     (refuse (not (allowed prepareRow (a .state))) 4
     (refuse (not (eqb (a .done) 0)) 6
-    (refuse (unpreparable (versions (z .writers)) (z .keys) (s .master) (a .job) (a .jobs) (siteCaches s)) 7
+    (refuse (unpreparable alg (z .keys) (s .master) (a .job) (a .jobs) (siteCaches s)) 7
     0)))
 
 -- The caches after the fetches of run r's jobs.
@@ -67,8 +70,8 @@ unfoldable pub prepareSnapshot : Store → ℕ → Place Version
 prepareSnapshot s r =
     let z = s .counts in
     let a = s .run r in
-    sitesMerged (versions (z .writers)) (z .sites) (usesSite (a .jobs) (a .job)) (planned (a .jobs) (a .job))
-    (prepareCaches s r)
+    sitesMerged (versions (z .writers)) (z .sites) (usesSite (a .jobs) (a .job))
+    (planned (a .jobs) (a .job)) (prepareCaches s r)
 
 -- "Answers the carried mask."
 unfoldable pub prepareDone : Store → ℕ → Outcome

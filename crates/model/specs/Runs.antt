@@ -17,7 +17,11 @@ use Rattle.model.specs.Outcome.{Outcome, done, refuse, unless, allowed, 
 
 -- Job i of the list.
 unfoldable pub listedJob : List ℕ → ℕ → Job
-listedJob l i = record { site = getD l (i * 3) 0; reads = getD l (i * 3 + 1) 0; upstream = getD l (i * 3 + 2) 0 }
+listedJob l i = record {
+  site = getD l (i * 3) 0;
+  reads = getD l (i * 3 + 1) 0;
+  upstream = getD l (i * 3 + 2) 0;
+}
 
 unfoldable pub listedCount : List ℕ → ℕ
 listedCount l = length l / 3
@@ -29,7 +33,8 @@ listedJobs l = upto (listedCount l) noJob (listedJob l)
 unfoldable pub listValid : Counts → List ℕ → Bool
 listValid z l =
     eqb (length l) (listedCount l * 3)
-    && (between maxJobs (listedCount l) && allBelow (listedCount l) (λ i. validJob z i (listedJob l i)))
+    && (between maxJobs (listedCount l)
+    && allBelow (listedCount l) (λ i. validJob z i (listedJob l i)))
 
 unfoldable pub openCause : Store → ℕ → List ℕ → ℕ
 openCause s r l =

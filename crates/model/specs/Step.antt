@@ -1,5 +1,6 @@
 -- Step: a job reads its keys, from the snapshot ("card"), its site's cache or the master.
--- stepReads (R), stepStart (what is fetched), stepCache (the cache after the fetch), stepPull (C), stepMoved.
+-- stepReads (R), stepStart (what is fetched), stepCache (the cache after the fetch), stepPull
+-- (C), stepMoved.
 -- Assumes nothing.
 use mathlib.Core.Bool.{Bool, cond, not, _&&_, _||_}
 use mathlib.Core.List.{[], _∷_}
@@ -29,16 +30,19 @@ module _ (s : Store) (r j : ℕ) where
 
   unfoldable pub stepStart : Items
   stepStart =
-      readStart (versions (s .counts .writers)) (s .counts .keys) (s .run r .snapshot) (s .site stepSite .cache) stepReads
+      readStart (versions (s .counts .writers)) (s .counts .keys) (s .run r .snapshot)
+      (s .site stepSite .cache) stepReads
 
   -- T
   unfoldable pub stepFetch : Items
   stepFetch =
-      fetchSet (versions (s .counts .writers)) (s .counts .keys) (s .master) (s .site stepSite .cache) stepStart
+      fetchSet (versions (s .counts .writers)) (s .counts .keys) (s .master)
+      (s .site stepSite .cache) stepStart
 
   unfoldable pub stepCache : Place Version
   stepCache =
-      fetched (versions (s .counts .writers)) (s .counts .keys) (s .master) (s .site stepSite .cache) stepStart
+      fetched (versions (s .counts .writers)) (s .counts .keys) (s .master)
+      (s .site stepSite .cache) stepStart
 
   unfoldable pub stepPlan : Items
   stepPlan = planned (s .run r .jobs) (s .run r .job)
@@ -46,12 +50,14 @@ module _ (s : Store) (r j : ℕ) where
   -- C
   unfoldable pub stepPull : Items
   stepPull =
-      pullSet (versions (s .counts .writers)) (s .counts .keys) stepPlan (s .run r .snapshot) stepCache stepReads
+      pullSet (versions (s .counts .writers)) (s .counts .keys) stepPlan (s .run r .snapshot)
+      stepCache stepReads
 
   -- The card after a step that doesn't break.
   unfoldable pub stepSnapshot : Place Version
   stepSnapshot =
-      pulled (versions (s .counts .writers)) (s .counts .keys) stepPlan (s .run r .snapshot) stepCache stepReads
+      pulled (versions (s .counts .writers)) (s .counts .keys) stepPlan (s .run r .snapshot)
+      stepCache stepReads
 
   -- "If C has a sheet of the read mask, the run is broken .. with those sheets."
   unfoldable pub stepMoved : Items
@@ -65,21 +71,24 @@ module _ (s : Store) (r j : ℕ) where
   unfoldable pub notReady : Bool
   notReady =
       testBit (s .run r .done) j
-      || anyBelow maxJobs (λ i. testBit (s .run r .job j .upstream) i && not (testBit (s .run r .done) i))
+      || anyBelow maxJobs (λ i.
+      testBit (s .run r .job j .upstream) i && not (testBit (s .run r .done) i))
 
   unfoldable pub stepCause : ℕ
   stepCause =
+      let alg = versions (s .counts .writers) in
       refuse (leb (s .counts .runs) r) 3
       (refuse (leb jobLimit j) 3
       (refuse (not (allowed stepRow (s .run r .state))) 4
       (refuse notReady 6
-      (refuse (unfetchable (versions (s .counts .writers)) (s .counts .keys) (s .master) stepStart) 7
+      (refuse (unfetchable alg (s .counts .keys) (s .master) stepStart) 7
       0))))
 
   -- "its state becomes 2, nothing else changes (the shelf too is as before the fetch)"
   unfoldable pub stepBroken : Outcome
   stepBroken =
-      broken (maskBelow (s .counts .keys) stepMoved) (withRun s r (withState (s .run r) brokenState))
+      broken (maskBelow (s .counts .keys) stepMoved)
+      (withRun s r (withState (s .run r) brokenState))
 
   -- "R outside C (card), R in C not fetched in this step (shelf), R in C fetched (master)"
   unfoldable pub stepDone : Outcome

@@ -1,5 +1,6 @@
 -- The store ("desk"): what a buffer of words stands for.
--- Writer, Job, Run, Site (an office and its shelf), Store; planned ("plan's sheets"), doneReads; with..: one part changed.
+-- Writer, Job, Run, Site (an office and its shelf), Store; planned ("plan's sheets"), doneReads;
+-- with..: one part changed.
 -- Assumes nothing.
 use mathlib.Core.Bool.{Bool, _&&_}
 use Prim.Native.Nat.{ℕ}

@@ -1,5 +1,6 @@
 -- Versions (document 01, "Clocks, versions, cuts").
--- Version, held, dependency ("need"), supersedes ("meets"), merge; versions: what the rules ask, of versions.
+-- Version, held, dependency ("need"), supersedes ("meets"), merge; versions: what the rules ask,
+-- of versions.
 -- Assumes nothing.
 use mathlib.Core.Bool.{Bool, cond, not, _&&_}
 use Prim.Native.Nat.{ℕ, max}
@@ -22,7 +23,8 @@ unheld = record { issue = 0; past = zeroPast }
 unfoldable pub held : Version → Bool
 held v = leb 1 (v .issue)
 
--- "Row k is the version's own clock. Another row d that isn't all zero is a need: sheet d, at that clock."
+-- "Row k is the version's own clock. Another row d that isn't all zero is a need: sheet d, at
+-- that clock."
 unfoldable pub dependency : ℕ → ℕ → Version → Items
 dependency W k v d = not (eqb d k) && present W (v .past d)
 
