@@ -1,1 +1,3 @@
 pub mod Notions
+pub mod Past
+pub mod Behind
