@@ -1,2 +1,4 @@
 pub mod Simulation
 pub mod SimulationPrepare
+pub mod Needs
+pub mod Closing
