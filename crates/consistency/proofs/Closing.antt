@@ -1,27 +1,22 @@
--- Cuts on copies: what they give, and how fetch, evict and a step's pull keep them.
+-- Cuts on copies: what they give, and that they stay cuts as the history grows.
 -- PartOf: a place within another. closed-..: what a cut gives. every-..: of all writes.
--- fetched-, evicted-, pulled-: what the rules leave.
 -- Assumes nothing.
-use mathlib.Core.Path.{_≡_, refl}
-use mathlib.Core.Bool.{Bool, false, not, _&&_, _||_, So, cond, false≢true}
-use mathlib.Core.Logic.{_⊎_, inl, inr, _≢_}
+use mathlib.Core.Path.{refl}
+use mathlib.Core.Bool.{_&&_, So, false≢true}
 use mathlib.Core.List.{_∷_}
 use Prim.Native.Nat.{ℕ, _<_}
 use native.Mathlib.Omega.{arith}
-use native.Mathlib.Decide.{ℕ-discrete}
 use lib.ListN.{length}
-use Rattle.words.specs.Tests.{Items, Within, allBelow}
-use Rattle.words.proofs.Bools.{test, clash, _∙˙_, and-intro, and-left, and-right, or-left, or-right, or-cases, not-intro}
+use Rattle.words.specs.Tests.{Items}
+use Rattle.words.proofs.Bools.{_∙˙_, and-intro, and-left}
 use Rattle.words.proofs.Tests.{all-intro}
-use Rattle.reach.proofs.Closures.{closure-start, closure-closed, closure-least}
-use Rattle.model.specs.Algebra.{Place, everything, implies, lacking, needsMet, causalCut, overlappingCut}
-use Rattle.model.specs.Sets.{draws, drawSet, fetchSet, fetched, evictSet, evicted, pullSet, pulled}
-use Rattle.history.specs.History.{Issue, History, saved, inPast}
-use Rattle.history.specs.Copies.{Copy, copies, heldCopy, needsCopy, meetsCopy, union}
+use Rattle.model.specs.Algebra.{Place, needsMet, causalCut, overlappingCut}
+use Rattle.history.specs.History.{Issue, History, saved}
+use Rattle.history.specs.Copies.{Copy, copies, heldCopy, needsCopy}
 use Rattle.history.specs.Book.{noCopies}
 use Rattle.history.proofs.Notions.{PastLaws, Good, ClosedIn, ClosedAll}
 use Rattle.history.proofs.Past.{saved-low, past-low}
-use Rattle.consistency.proofs.Needs.{if-then, held-from, held-has, needs-from, meets-from, meets-has}
+use Rattle.consistency.proofs.Needs.{if-then, held-has, meets-from}
 
 -- Below K, every write in p is in q.
 abbrev pub PartOf : ℕ → Place Copy → Place Copy → Type 0
@@ -88,23 +83,3 @@ module _ {K : ℕ} {h : History} {m : Place Copy}
     within = λ d i _ _. refl;
     closed = λ k i d j lk ld _ q r. all d j ld (laws .bound i d j (w k i lk q .0) r .1);
   }
-
--- ---- T and C: what a member of the set needs
-
-module _ {K : ℕ} {h : History} (scope : Items) (target source : Place Copy) (start : Items)
-    (cs : ClosedAll K h source) where
-  -- Of a key of the scope that is no member, the target has what a member needs.
-  drawn-met : (k i d j : ℕ) → k < K → d < K → So (scope d)
-      → So (drawSet (copies K h) K scope target source start k)
-      → drawSet (copies K h) K scope target source start d ≡ false
-      → So (source k i) → So (inPast K h i d j) → So (target d j)
-  unfolding drawSet draws
-  drawn-met k i d j lk ld s ik od p q =
-      let u = cs .writes k i lk p .0 in
-      let m = cs .closed k i d j lk ld refl p q in
-      let v = cs .writes d j ld m .0 in
-      let n = needs-from K h k (source k) d i j (λ e. clash (rw e ik) od) u v p q in
-      test (meetsCopy K h d (target d) (source k))
-      (λ y. meets-has K h d (target d) (source k) y i j u v p q)
-      (λ x. clash (closure-closed K (draws (copies K h) K scope target source) start k d lk ld ik
-      (and-intro s (and-intro n (and-intro (not-intro x) (held-from K h (source d) j v m))))) od)

@@ -1,4 +1,6 @@
 pub mod Simulation
 pub mod SimulationPrepare
+pub mod Members
 pub mod Needs
 pub mod Closing
+pub mod ClosingSets
