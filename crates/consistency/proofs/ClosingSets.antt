@@ -123,7 +123,7 @@ module _ (K : ℕ) (h : History) (cache : Place Copy) (start : Items) where
 -- ---- a step's pull
 
 module _ (K : ℕ) (h : History) (plan : Items) (snapshot cache : Place Copy) (reads : Items) where
-  pulled-from : (d i : ℕ) → So (pulled (copies K h) K plan snapshot cache reads d i)
+  pub pulled-from : (d i : ℕ) → So (pulled (copies K h) K plan snapshot cache reads d i)
       → So (snapshot d i)
       ⊎ (So (pullSet (copies K h) K plan snapshot cache reads d) × So (cache d i))
   unfolding union

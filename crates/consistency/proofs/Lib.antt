@@ -4,3 +4,4 @@ pub mod Members
 pub mod Needs
 pub mod Closing
 pub mod ClosingSets
+pub mod ClosingPrepare
