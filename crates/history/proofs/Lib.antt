@@ -1,2 +1,3 @@
 pub mod Notions
+pub mod Past
 pub mod Tally
