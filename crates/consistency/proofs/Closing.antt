@@ -2,21 +2,21 @@
 -- PartOf: a place within another. closed-..: what a cut gives. every-..: of all writes.
 -- Assumes nothing.
 use mathlib.Core.Path.{refl}
-use mathlib.Core.Bool.{_&&_, So, false≢true}
+use mathlib.Core.Bool.{So, false≢true}
 use mathlib.Core.List.{_∷_}
 use Prim.Native.Nat.{ℕ, _<_}
 use native.Mathlib.Omega.{arith}
 use lib.ListN.{length}
 use Rattle.words.specs.Tests.{Items}
-use Rattle.words.proofs.Bools.{_∙˙_, and-intro, and-left}
-use Rattle.words.proofs.Tests.{all-intro}
+use Rattle.words.proofs.Bools.{_∙˙_}
 use Rattle.model.specs.Algebra.{Place, needsMet, causalCut, overlappingCut}
+use Rattle.model.proofs.Cuts.{needsMet-intro, overlappingCut-intro}
 use Rattle.history.specs.History.{Issue, History, saved}
-use Rattle.history.specs.Copies.{Copy, copies, heldCopy, needsCopy}
+use Rattle.history.specs.Copies.{Copy, copies}
 use Rattle.history.specs.Book.{noCopies}
 use Rattle.history.proofs.Notions.{PastLaws, Good, ClosedIn, ClosedAll}
 use Rattle.history.proofs.Past.{saved-low, past-low}
-use Rattle.consistency.proofs.Needs.{if-then, held-has, meets-from}
+use Rattle.history.proofs.Reached.{reaches-some, copy-held, copy-meets}
 
 -- Below K, every write in p is in q.
 abbrev pub PartOf : ℕ → Place Copy → Place Copy → Type 0
@@ -32,20 +32,15 @@ module _ {K : ℕ} {h : History} {scope : Items} {p : Place Copy} (c : ClosedIn 
   -- ---- a cut by the tests of the model
 
   pub closed-needsMet : So (needsMet (copies K h) K scope p)
-  unfolding needsMet
   closed-needsMet =
-      all-intro K _ (λ k lk. if-then (scope k && heldCopy K h (p k)) _ (λ _.
-      all-intro K _ (λ d ld. if-then (scope d && needsCopy K h k (p k) d) _ (λ y.
-      let s = and-left (scope d) (needsCopy K h k (p k) d) y in
-      meets-from K h d (p d) (p k) (λ i j _ a b. c .closed k i d j lk ld s a b)))))
+      needsMet-intro (copies K h) K scope p (λ k d lk ld _ s _ _.
+      copy-meets K h d (p d) (p k) .1 (λ j _ y.
+      let r = reaches-some K h (p k) d j y in c .closed k (r .0) d j lk ld s (r .2) (r .3)))
 
   pub closed-overlapping : So (overlappingCut (copies K h) K scope p)
-  unfolding overlappingCut
   closed-overlapping =
-      and-intro
-      (all-intro K _ (λ k l. if-then (heldCopy K h (p k)) (scope k) (λ y.
-      let r = held-has K h (p k) y in c .within k (r .0) l (r .2))))
-      closed-needsMet
+      overlappingCut-intro (copies K h) K scope p
+      (λ k l y. let r = copy-held K h (p k) .0 y in c .within k (r .0) l (r .2)) closed-needsMet
 
   pub closed-grow : (e : Issue) → ClosedIn K (e ∷ h) scope p
   closed-grow e = record {

@@ -6,7 +6,6 @@ use mathlib.Core.Path.{_≡_, refl, sym, ap, _∙_}
 use mathlib.Core.Bool.{Bool, true, false, _&&_, _||_, So, cond}
 use Prim.Native.Nat.{ℕ, zero, suc, _<_}
 use lib.Dec.{eqb}
-use lib.ListN.{length}
 use Rattle.words.specs.Tests.{Items, anyBelow}
 use Rattle.words.specs.Numbers.{foldBelow}
 use Rattle.words.specs.Lists.{putAt}
@@ -15,9 +14,8 @@ use Rattle.words.proofs.Tests.{any-intro, any-some}
 use Rattle.words.proofs.Numbers.{fold-keeps}
 use Rattle.model.specs.Algebra.{Place}
 use Rattle.model.specs.Store.{Job}
-use Rattle.model.specs.Sets.{fetched}
 use Rattle.model.specs.Prepare.{jobStart, fetchReads, preparedCaches, sitesMerged}
-use Rattle.history.specs.History.{History, saved, inPast}
+use Rattle.history.specs.History.{History}
 use Rattle.history.specs.Copies.{Copy, copies, union}
 use Rattle.history.proofs.Notions.{ClosedIn, ClosedAll}
 use Rattle.consistency.proofs.Closing.{PartOf}

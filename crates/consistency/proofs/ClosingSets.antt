@@ -1,5 +1,6 @@
 -- Cuts on copies through T, E and C: what fetch, evict and a step leave are cuts.
--- fetched-, evicted-, pulled- with closed: a cut again; with part: within another place.
+-- fetched-, evicted-, pulled- with closed: a cut again; with part: within another place;
+-- with grows: what was there stays. pulled-from, pulled-has: the writes on the snapshot.
 -- Assumes nothing.
 use mathlib.Core.Path.{_≡_, refl}
 use mathlib.Core.Bool.{false, _&&_, _||_, So, false≢true}
@@ -7,15 +8,16 @@ use mathlib.Core.Logic.{_⊎_, inl, inr}
 use Prim.Native.Nat.{ℕ, _<_}
 use lib.ListN.{length}
 use Rattle.words.specs.Tests.{Items, Within}
-use Rattle.words.proofs.Bools.{test, clash, and-intro, or-left, or-right, or-cases, not-intro}
+use Rattle.words.proofs.Bools.{test, clash, and-intro, or-left, or-right, or-cases}
 use Rattle.reach.proofs.Closures.{closure-closed}
 use Rattle.model.specs.Algebra.{Place, everything, lacking}
-use Rattle.model.specs.Sets.{draws, drawSet, fetchSet, fetched, evictSet, evicted, pullSet, pulled}
+use Rattle.model.specs.Sets.{drawSet, fetchSet, fetched, evictSet, evicted, pullSet, pulled}
+use Rattle.model.proofs.Cuts.{drawSet-closed, fetched-in, fetched-out}
 use Rattle.history.specs.History.{History, saved, inPast}
-use Rattle.history.specs.Copies.{Copy, copies, heldCopy, needsCopy, meetsCopy, union}
+use Rattle.history.specs.Copies.{Copy, copies, heldCopy, needsCopy, union}
 use Rattle.history.proofs.Notions.{ClosedIn, ClosedAll}
-use Rattle.consistency.proofs.Needs.{held-from, needs-from, meets-has}
-use Rattle.consistency.proofs.Members.{fetched-in, fetched-out, evicted-in, evicted-out, pulled-in, pulled-out, pullSet-plan}
+use Rattle.history.proofs.Reached.{reaches-intro, copy-held, copy-needs, copy-meets}
+use Rattle.consistency.proofs.Members.{evicted-in, evicted-out, pulled-in, pulled-out, pullSet-plan}
 use Rattle.consistency.proofs.Closing.{PartOf}
 
 -- ---- T and C: what a member of the set needs
@@ -27,16 +29,17 @@ module _ {K : ℕ} {h : History} (scope : Items) (target source : Place Copy) (s
       → So (drawSet (copies K h) K scope target source start k)
       → drawSet (copies K h) K scope target source start d ≡ false
       → So (source k i) → So (inPast K h i d j) → So (target d j)
-  unfolding drawSet draws
   drawn-met k i d j lk ld s ik od p q =
       let u = cs .writes k i lk p .0 in
       let m = cs .closed k i d j lk ld refl p q in
       let v = cs .writes d j ld m .0 in
-      let n = needs-from K h k (source k) d i j (λ e. clash (rw e ik) od) u v p q in
-      test (meetsCopy K h d (target d) (source k))
-      (λ y. meets-has K h d (target d) (source k) y i j u v p q)
-      (λ x. clash (closure-closed K (draws (copies K h) K scope target source) start k d lk ld ik
-      (and-intro s (and-intro n (and-intro (not-intro x) (held-from K h (source d) j v m))))) od)
+      let y = reaches-intro K h (source k) d j i u p q in
+      let n = copy-needs K h k (source k) d .1 ((λ e. clash (rw e ik) od), j, v, y) in
+      let held = copy-held K h (source d) .1 (j, v, m) in
+      elim (drawSet-closed (copies K h) K scope target source start k d lk ld ik s n held) [
+        | inl met ↦ copy-meets K h d (target d) (source k) .0 met j v y
+        | inr id ↦ clash id od
+      ]
 
 -- ---- fetch
 
@@ -104,10 +107,13 @@ module _ (K : ℕ) (h : History) (cache : Place Copy) (start : Items) where
   stays c k i d j lk ld n p q =
       let u = c .writes k i lk p .0 in
       let v = c .writes d j ld (c .closed k i d j lk ld refl p q) .0 in
+      let r = reaches-intro K h (cache k) d j i u p q in
+      let held = copy-held K h (cache k) .1 (i, u, p) in
       test (evictSet (copies K h) K cache start d)
-      (λ y. clash (closure-closed K (λ t d. heldCopy K h (cache d) && needsCopy K h d (cache d) t)
-      start d k ld lk y (and-intro (held-from K h (cache k) i u p)
-      (needs-from K h k (cache k) d i j (λ e. clash (rw e at y) n) u v p q))) n)
+      (λ y.
+      let m = copy-needs K h k (cache k) d .1 ((λ e. clash (rw e at y) n), j, v, r) in
+      clash (closure-closed K (λ t d. heldCopy K h (cache d) && needsCopy K h d (cache d) t)
+      start d k ld lk y (and-intro held m)) n)
       (λ z. z)
 
   pub evicted-closed : ClosedAll K h cache → ClosedAll K h (evicted (copies K h) K cache start)

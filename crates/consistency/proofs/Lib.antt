@@ -1,7 +1,7 @@
 pub mod Simulation
 pub mod SimulationPrepare
 pub mod Members
-pub mod Needs
 pub mod Closing
 pub mod ClosingSets
 pub mod ClosingPrepare
+pub mod Counting

@@ -1,38 +1,28 @@
--- What the rules leave at a member of T, E or C, and at another key, for any algebra.
--- fetched-, evicted-, pulled- with in: at a member; with out: at another key.
+-- Sure members of T, E and C, and what evict and a step leave, for any algebra.
+-- evicted-, pulled- with in: at a member of the set; with out: at another key.
 -- fetchSet-, evictSet-, pullSet-start: sure members. pullSet-plan: members are the plan's.
 -- Assumes nothing.
 use mathlib.Core.Path.{_≡_}
-use mathlib.Core.Bool.{false, not, _&&_, So}
-use Prim.Native.Nat.{ℕ, _<_}
+use mathlib.Core.Bool.{false, _&&_, So}
+use Prim.Native.Nat.{ℕ}
 use Rattle.words.specs.Tests.{Items, Within}
-use Rattle.words.proofs.Bools.{and-intro, and-left, not-intro}
 use Rattle.reach.proofs.Closures.{closure-start, closure-least}
 use Rattle.model.specs.Algebra.{Algebra, Place, everything, lacking}
 use Rattle.model.specs.Sets.{draws, drawSet, fetchSet, fetched, evictSet, evicted, pullSet, pulled}
+use Rattle.model.proofs.Cuts.{lacking-iff, draws-iff, drawSet-start, fetched-in}
 
 module _ {A : Type 0} (alg : Algebra A) (K : ℕ) where
   -- ---- T
 
   module _ (master cache : Place A) (start : Items) where
-    pub fetched-in : (k : ℕ) → So (fetchSet alg K master cache start k)
-        → fetched alg K master cache start k ≡ master k
-    unfolding fetched
-    fetched-in k p = rw p
-
-    pub fetched-out : (k : ℕ) → fetchSet alg K master cache start k ≡ false
-        → fetched alg K master cache start k ≡ cache k
-    unfolding fetched
-    fetched-out k p = rw p
-
     pub fetchSet-start : (k : ℕ) → So (start k) → So (fetchSet alg K master cache start k)
-    unfolding fetchSet drawSet
-    fetchSet-start k p = closure-start K (draws alg K everything cache master) start k p
+    unfolding fetchSet
+    fetchSet-start = drawSet-start alg K everything cache master start
 
     -- A key to be fetched that the master holds is held after the fetch.
     pub fetched-holds : (k : ℕ) → So (start k) → So (alg .held (master k))
         → So (alg .held (fetched alg K master cache start k))
-    fetched-holds k p q = rw (fetched-in k (fetchSet-start k p)) q
+    fetched-holds k p q = rw (fetched-in alg K master cache start k (fetchSet-start k p)) q
 
   -- ---- E
 
@@ -68,15 +58,15 @@ module _ {A : Type 0} (alg : Algebra A) (K : ℕ) where
     -- A key read that the snapshot lacks is a member.
     pub pullSet-start : (k : ℕ) → So (reads k) → alg .held (snapshot k) ≡ false
         → So (pullSet alg K plan snapshot cache reads k)
-    unfolding pullSet drawSet lacking
+    unfolding pullSet
     pullSet-start k p q =
-        closure-start K (draws alg K plan snapshot cache) (lacking alg K snapshot reads) k
-        (and-intro p (not-intro q))
+        drawSet-start alg K plan snapshot cache (lacking alg K snapshot reads) k
+        (lacking-iff alg K snapshot reads k .1 (p, q))
 
     pub pullSet-plan : Within K reads plan
         → Within K (pullSet alg K plan snapshot cache reads) plan
-    unfolding pullSet drawSet lacking draws
+    unfolding pullSet drawSet
     pullSet-plan f =
         closure-least K (draws alg K plan snapshot cache) (lacking alg K snapshot reads) plan
-        (λ d l p. f d l (and-left (reads d) (not (alg .held (snapshot d))) p))
-        (λ t d _ _ _ q. and-left (plan d) _ q)
+        (λ d l p. f d l (lacking-iff alg K snapshot reads d .0 p .0))
+        (λ t d _ _ _ q. draws-iff alg K plan snapshot cache t d .0 q .0)

@@ -3,14 +3,14 @@
 -- RelatedSites: the caches of sites that stand for each other.
 -- Assumes nothing.
 use mathlib.Core.Path.{_≡_, refl}
-use mathlib.Core.Bool.{_&&_, cond}
+use mathlib.Core.Bool.{_&&_, cond, So}
 use Prim.Native.Nat.{ℕ, zero, suc, _<_}
 use native.Mathlib.Omega.{arith}
 use lib.Dec.{eqb}
 use Rattle.words.specs.Tests.{Items}
 use Rattle.words.specs.Numbers.{foldBelow}
 use Rattle.words.specs.Lists.{putAt}
-use Rattle.words.proofs.Tests.{any-same}
+use Rattle.words.proofs.Tests.{any-intro, any-same}
 use Rattle.masks.specs.Mask.{testBit}
 use Rattle.model.specs.Algebra.{Algebra, Place}
 use Rattle.model.specs.Sets.{fetched, unfetchable}
@@ -37,6 +37,12 @@ unfolding planned
 planned-same n job job′ e k =
     any-same n (λ j. testBit (job j .reads) k) (λ j. testBit (job′ j .reads) k)
     (λ j l. rw (e j l))
+
+-- What one of the jobs reads is the plan's.
+pub planned-has : (n : ℕ) (job : ℕ → Job) (j k : ℕ) → j < n → So (testBit (job j .reads) k)
+    → So (planned n job k)
+unfolding planned
+planned-has n job j k l p = any-intro n (λ j. testBit (job j .reads) k) j l p
 
 pub usesSite-same : (n : ℕ) (job job′ : ℕ → Job) → SameJobs n job job′ → (o : ℕ)
     → usesSite n job o ≡ usesSite n job′ o
