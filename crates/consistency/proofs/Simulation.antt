@@ -45,6 +45,13 @@ module _ {A B : Type 0} {X : Algebra A} {Y : Algebra B} {K : ℕ} {Rel : ℕ →
   unfolding lacking
   lacking-same p q S S′ r e k l = rw (e k l, L .held k (p k) (q k) l (r k l))
 
+  pub readStart-same : (p c : Place A) (p′ c′ : Place B) (s s′ : Items) → Related K Rel p p′
+      → Related K Rel c c′ → Agree K s s′
+      → Agree K (readStart X K p c s) (readStart Y K p′ c′ s′)
+  unfolding readStart
+  readStart-same p c p′ c′ s s′ rp rc e =
+      lacking-same c c′ (lacking X K p s) (lacking Y K p′ s′) rc (lacking-same p p′ s s′ rp e)
+
   -- ---- the sets T, E and C, and the places that they leave
 
   module _ (S S′ : Items) (p₁ p₂ : Place A) (q₁ q₂ : Place B) (e : Agree K S S′)
@@ -112,11 +119,6 @@ module _ {A B : Type 0} {X : Algebra A} {Y : Algebra B} {K : ℕ} {Rel : ℕ →
         cond-rel (Rel k) (pullSet X K S p c s k) (pullSet Y K S′ p′ c′ s′ k)
         (X .merge (p k) (c k)) (p k) (Y .merge (p′ k) (c′ k)) (p′ k) (pullSet-same k l)
         (L .merge k (p k) (c k) (p′ k) (c′ k) l (rp k l) (rc k l)) (rp k l)
-
-    pub readStart-same : Agree K (readStart X K p c s) (readStart Y K p′ c′ s′)
-    unfolding readStart
-    readStart-same =
-        lacking-same c c′ (lacking X K p s) (lacking Y K p′ s′) rc (lacking-same p p′ s s′ rp e)
 
   -- ---- cuts
 
