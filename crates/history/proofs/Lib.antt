@@ -1,3 +1,7 @@
 pub mod Notions
 pub mod Past
 pub mod Behind
+pub mod Tally
+pub mod Reached
+pub mod Counted
+pub mod Grown
