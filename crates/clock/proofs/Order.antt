@@ -90,6 +90,11 @@ pub present-intro : (W : ℕ) (p : Clock) (w : ℕ) → w < W → 1 ≤ p w → 
 unfolding present
 present-intro W p w l h = any-intro W (λ w. leb 1 (p w)) w l (le-leb 1 (p w) h)
 
+pub present-mono : (W : ℕ) (p q : Clock) → Dominates W p q → So (present W q) → So (present W p)
+present-mono W p q c s =
+    let r = present-some W q s in
+    present-intro W p (r .0) (r .1) (omega (arith, r .2, c (r .0) (r .1)))
+
 -- Only counts below W matter.
 pub present-same : (W : ℕ) (p q : Clock) → ((w : ℕ) → w < W → p w ≡ q w)
     → present W p ≡ present W q

@@ -1,0 +1,247 @@
+-- Laws of versions (document 01, "Clocks, versions, cuts").
+-- Blank: says nothing where not held. merge-..: the merge of two versions of a key.
+-- dependency-..: what a version needs. supersedes-..: what meets a need.
+-- Assumes nothing.
+use mathlib.Core.Path.{_≡_, refl, sym, ap, _∙_, fun-ext}
+use mathlib.Core.Bool.{Bool, true, false, not, _||_, So}
+use mathlib.Core.Logic.{_⊎_, inl, inr, _↔_, _≢_}
+use Prim.Native.Nat.{ℕ, _≤_, max}
+use native.Mathlib.Omega.{arith}
+use lib.Dec.{eqb}
+use Rattle.words.proofs.Bools.{test, clash, and-intro, and-left, and-right, or-left, or-right, not-intro, not-elim, leb-le, le-leb, leb-gt, ne-eqb, eqb-ne}
+use Rattle.clock.specs.Clock.{Clock, dominates, Dominates, present, join}
+use Rattle.clock.proofs.Order.{dominates-iff, dominates-refl, dominates-trans, join-left, join-right, join-least, join-comm, join-assoc, join-idem, present-mono, join-present}
+use Rattle.model.specs.Version.{Version, unheld, held, dependency, supersedes, larger, merge}
+
+-- ---- versions
+
+pub version-path : {a b : Version} → a .issue ≡ b .issue → a .past ≡ b .past → a ≡ b
+version-path p q i = record { issue = p i; past = q i }
+
+pub held-iff : (v : Version) → So (held v) ↔ 1 ≤ v .issue
+unfolding held
+held-iff v = (leb-le 1 (v .issue), le-leb 1 (v .issue))
+
+pub unheld-issue : (v : Version) → held v ≡ false → v .issue ≡ 0
+unfolding held
+unheld-issue v n = omega (arith, leb-gt 1 (v .issue) n)
+
+-- A version that is not held says nothing at all.
+abbrev pub Blank : Version → Type 0
+Blank v = held v ≡ false → v ≡ unheld
+
+-- ---- the larger of two versions
+
+larger-left : (a b : Version) → So (held a) → So (held (larger a b))
+unfolding larger
+larger-left a b p = held-iff (larger a b) .1 (omega (arith, held-iff a .0 p))
+
+larger-comm : (a b : Version) → larger a b ≡ larger b a
+unfolding larger
+larger-comm a b = version-path (omega arith) (fun-ext (λ d. join-comm (a .past d) (b .past d)))
+
+larger-assoc : (a b c : Version) → larger (larger a b) c ≡ larger a (larger b c)
+unfolding larger
+larger-assoc a b c =
+    version-path (omega arith) (fun-ext (λ d. join-assoc (a .past d) (b .past d) (c .past d)))
+
+larger-idem : (a : Version) → larger a a ≡ a
+unfolding larger
+larger-idem a = version-path (omega arith) (fun-ext (λ d. join-idem (a .past d)))
+
+-- ---- merge, by who is held
+
+pub merge-both : (a b : Version) → So (held a) → So (held b) → merge a b ≡ larger a b
+unfolding merge
+merge-both a b p q = rw (p, q)
+
+pub merge-unheld-right : (a b : Version) → So (held a) → held b ≡ false → merge a b ≡ a
+unfolding merge
+merge-unheld-right a b p n = rw (p, n)
+
+pub merge-unheld-left : (a b : Version) → held a ≡ false → merge a b ≡ b
+unfolding merge
+merge-unheld-left a b n = rw n
+
+pub merge-cases {ℓ} : (P : Version → Type ℓ) (a b : Version)
+    → (So (held a) → So (held b) → P (larger a b))
+    → (So (held a) → held b ≡ false → P a) → (held a ≡ false → P b) → P (merge a b)
+merge-cases P a b f g h =
+    test (held a)
+    (λ p. test (held b)
+    (λ q. rw (merge-both a b p q) (f p q))
+    (λ n. rw (merge-unheld-right a b p n) (g p n)))
+    (λ n. rw (merge-unheld-left a b n) (h n))
+
+pub held-merge : (a b : Version) → held (merge a b) ≡ held a || held b
+held-merge a b =
+    merge-cases (λ v. held v ≡ held a || held b) a b
+    (λ p q. rw (larger-left a b p, p))
+    (λ p n. rw p)
+    (λ n. rw n)
+
+pub merge-issue : (a b : Version) → merge a b .issue ≡ max (a .issue) (b .issue)
+unfolding larger
+merge-issue a b =
+    merge-cases (λ v. v .issue ≡ max (a .issue) (b .issue)) a b
+    (λ p q. refl)
+    (λ p n. omega (arith, unheld-issue b n))
+    (λ n. omega (arith, unheld-issue a n))
+
+-- ---- merge, an upper bound of held sides, and the least
+
+pub merge-left : (W d : ℕ) (a b : Version) → So (held a)
+    → Dominates W (merge a b .past d) (a .past d)
+unfolding larger
+merge-left W d a b p =
+    merge-cases (λ v. Dominates W (v .past d) (a .past d)) a b
+    (λ _ _. join-left W (a .past d) (b .past d))
+    (λ _ _. dominates-refl W (a .past d))
+    (λ n. clash p n)
+
+pub merge-right : (W d : ℕ) (a b : Version) → So (held b)
+    → Dominates W (merge a b .past d) (b .past d)
+unfolding larger
+merge-right W d a b p =
+    merge-cases (λ v. Dominates W (v .past d) (b .past d)) a b
+    (λ _ _. join-right W (a .past d) (b .past d))
+    (λ _ n. clash p n)
+    (λ _. dominates-refl W (b .past d))
+
+pub merge-least : (W d : ℕ) (a b : Version) (q : Clock) → So (held (merge a b))
+    → (So (held a) → Dominates W q (a .past d)) → (So (held b) → Dominates W q (b .past d))
+    → Dominates W q (merge a b .past d)
+unfolding larger
+merge-least W d a b q h f g =
+    merge-cases (λ v. So (held v) → Dominates W q (v .past d)) a b
+    (λ y z _. join-least W (a .past d) (b .past d) q (f y) (g z))
+    (λ y _ _. f y)
+    (λ _ z. g z) h
+
+-- Who is in a row of a merge is in that row of a held side.
+pub merge-present : (W d : ℕ) (a b : Version) → So (held (merge a b))
+    → So (present W (merge a b .past d))
+    → (So (held a) × So (present W (a .past d))) ⊎ (So (held b) × So (present W (b .past d)))
+unfolding larger
+merge-present W d a b =
+    merge-cases (λ v. So (held v) → So (present W (v .past d))
+    → (So (held a) × So (present W (a .past d))) ⊎ (So (held b) × So (present W (b .past d)))) a b
+    (λ y z _ p. elim (join-present W (a .past d) (b .past d) p) [
+      | inl u ↦ inl (y, u)
+      | inr u ↦ inr (z, u)
+    ])
+    (λ y _ _ p. inl (y, p))
+    (λ _ z p. inr (z, p))
+
+-- ---- merge, as an operation
+
+pub merge-assoc : (a b c : Version) → merge (merge a b) c ≡ merge a (merge b c)
+merge-assoc a b c =
+    cases (held a) (held b) (held c) refl refl refl
+  where
+    cases : (x y z : Bool) → held a ≡ x → held b ≡ y → held c ≡ z
+        → merge (merge a b) c ≡ merge a (merge b c)
+    cases false y z p q r =
+        ap (λ v. merge v c) (merge-unheld-left a b p) ∙ sym (merge-unheld-left a (merge b c) p)
+    cases true false z p q r =
+        ap (λ v. merge v c) (merge-unheld-right a b p q)
+        ∙ sym (ap (merge a) (merge-unheld-left b c q))
+    cases true true false p q r =
+        merge-unheld-right (merge a b) c (held-merge a b ∙ rw p) r
+        ∙ sym (ap (merge a) (merge-unheld-right b c q r))
+    cases true true true p q r =
+        let ab : merge a b ≡ larger a b = merge-both a b p q in
+        let bc : merge b c ≡ larger b c = merge-both b c q r in
+        rw (ab, bc, merge-both (larger a b) c (larger-left a b p) r)
+        (larger-assoc a b c ∙ sym (merge-both a (larger b c) p (larger-left b c q)))
+
+pub merge-idem : (a : Version) → merge a a ≡ a
+merge-idem a = merge-cases (λ v. v ≡ a) a a (λ _ _. larger-idem a) (λ _ _. refl) (λ _. refl)
+
+-- Where what is not held is blank, merge is the larger at each place.
+pub merge-larger : (a b : Version) → Blank a → Blank b → merge a b ≡ larger a b
+unfolding larger join
+merge-larger a b f g =
+    merge-cases (λ v. v ≡ larger a b) a b
+    (λ _ _. refl)
+    (λ _ n. rw (g n) (version-path (omega arith) (fun-ext (λ d. fun-ext (λ w. omega arith)))))
+    (λ n. rw (f n) (version-path (omega arith) (fun-ext (λ d. fun-ext (λ w. omega arith)))))
+
+pub merge-past : (a b : Version) → Blank a → Blank b → (d : ℕ)
+    → merge a b .past d ≡ join (a .past d) (b .past d)
+unfolding larger
+merge-past a b f g d = ap (λ (v : Version). v .past d) (merge-larger a b f g)
+
+pub merge-comm : (a b : Version) → Blank a → Blank b → merge a b ≡ merge b a
+merge-comm a b f g = merge-larger a b f g ∙ (larger-comm a b ∙ sym (merge-larger b a g f))
+
+pub merge-blank : (a b : Version) → Blank a → Blank b → Blank (merge a b)
+merge-blank a b f g =
+    merge-cases Blank a b (λ p q n. clash (larger-left a b p) n) (λ _ _. f) (λ _. g)
+
+-- ---- needs
+
+pub dependency-iff : (W k : ℕ) (v : Version) (d : ℕ)
+    → So (dependency W k v d) ↔ (d ≢ k) × So (present W (v .past d))
+unfolding dependency
+dependency-iff W k v d =
+    let other = not (eqb d k) in
+    let row = present W (v .past d) in (
+      λ s. (eqb-ne d k (not-elim (and-left other row s)), and-right other row s),
+      λ h. and-intro (not-intro (ne-eqb d k (h .0))) (h .1),
+    )
+
+-- A version with larger rows needs more.
+pub dependency-mono : (W k : ℕ) (a b : Version) (d : ℕ) → Dominates W (b .past d) (a .past d)
+    → So (dependency W k a d) → So (dependency W k b d)
+dependency-mono W k a b d c s =
+    let u = dependency-iff W k a d .0 s in
+    dependency-iff W k b d .1 (u .0, present-mono W (b .past d) (a .past d) c (u .1))
+
+-- What a merge needs a held side needs.
+pub dependency-merge : (W k : ℕ) (a b : Version) (d : ℕ) → So (held (merge a b))
+    → So (dependency W k (merge a b) d)
+    → (So (held a) × So (dependency W k a d)) ⊎ (So (held b) × So (dependency W k b d))
+dependency-merge W k a b d h s =
+    let u = dependency-iff W k (merge a b) d .0 s in
+    elim (merge-present W d a b h (u .1)) [
+      | inl x ↦ inl (x .0, dependency-iff W k a d .1 (u .0, x .1))
+      | inr x ↦ inr (x .0, dependency-iff W k b d .1 (u .0, x .1))
+    ]
+
+pub supersedes-iff : (W d : ℕ) (v : Version) (q : Clock)
+    → So (supersedes W d v q) ↔ So (held v) × Dominates W (v .past d) q
+unfolding supersedes
+supersedes-iff W d v q =
+    let row = dominates W (v .past d) q in (
+      λ s. (and-left (held v) row s, dominates-iff W (v .past d) q .0 (and-right (held v) row s)),
+      λ h. and-intro (h .0) (dominates-iff W (v .past d) q .1 (h .1)),
+    )
+
+-- A smaller need is met too.
+pub supersedes-trans : (W d : ℕ) (v : Version) (q r : Clock) → So (supersedes W d v q)
+    → Dominates W q r → So (supersedes W d v r)
+supersedes-trans W d v q r s c =
+    let u = supersedes-iff W d v q .0 s in
+    supersedes-iff W d v r .1 (u .0, dominates-trans W (v .past d) q r (u .1) c)
+
+-- A held version with a larger own row meets it too.
+pub supersedes-mono : (W d : ℕ) (a b : Version) (q : Clock) → So (held b)
+    → Dominates W (b .past d) (a .past d) → So (supersedes W d a q) → So (supersedes W d b q)
+supersedes-mono W d a b q h c s =
+    let u = supersedes-iff W d a q .0 s in
+    supersedes-iff W d b q .1 (h, dominates-trans W (b .past d) (a .past d) q c (u .1))
+
+pub supersedes-merge-left : (W d : ℕ) (a b : Version) (q : Clock) → So (supersedes W d a q)
+    → So (supersedes W d (merge a b) q)
+supersedes-merge-left W d a b q s =
+    let p = supersedes-iff W d a q .0 s .0 in
+    supersedes-mono W d a (merge a b) q (held-merge a b ∙ or-left (held b) p)
+    (merge-left W d a b p) s
+
+pub supersedes-merge-right : (W d : ℕ) (a b : Version) (q : Clock) → So (supersedes W d b q)
+    → So (supersedes W d (merge a b) q)
+supersedes-merge-right W d a b q s =
+    let p = supersedes-iff W d b q .0 s .0 in
+    supersedes-mono W d b (merge a b) q (held-merge a b ∙ or-right (held a) p)
+    (merge-right W d a b p) s
