@@ -1,3 +1,5 @@
 pub mod Notions
 pub mod Past
 pub mod Tally
+pub mod Reached
+pub mod Counted
