@@ -3,3 +3,4 @@ pub mod Past
 pub mod Tally
 pub mod Reached
 pub mod Counted
+pub mod Grown

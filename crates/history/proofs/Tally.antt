@@ -2,7 +2,7 @@
 -- last-..: the last issue of a set. rank: an issue's count at its writer. tally: a set's counts.
 -- tally-covers: the counts of one set dominate those of another where it has all of them.
 -- Assumes nothing.
-use mathlib.Core.Path.{_≡_, refl, sym, _∙_, fun-ext}
+use mathlib.Core.Path.{_≡_, refl, sym, ap, _∙_, fun-ext}
 use mathlib.Core.Bool.{Bool, true, false, _&&_, _||_, So, and-or-distrib-right}
 use mathlib.Core.Logic.{_↔_}
 use Prim.Native.Nat.{ℕ, zero, suc, _≤_, _<_, max}
@@ -66,6 +66,13 @@ module _ (K : ℕ) (h : History) where
   last-le p =
       largest-le (length h) (λ j. when (p j) (suc j)) (length h)
       (λ j l. omega (arith, when-le (p j) (suc j)))
+
+  pub last-same : (p q : Items) → ((i : ℕ) → i < length h → p i ≡ q i)
+      → lastIn K h p ≡ lastIn K h q
+  unfolding lastIn
+  last-same p q f =
+      largest-same (length h) (λ i. when (p i) (suc i)) (λ i. when (q i) (suc i))
+      (λ i l. rw (f i l))
 
   pub last-union : (p q : Items) → lastIn K h (λ i. p i || q i) ≡ max (lastIn K h p) (lastIn K h q)
   unfolding lastIn
@@ -192,11 +199,12 @@ module _ (K : ℕ) (h : History) where
 
   -- Only issues of the history count.
   pub tally-same : (s t : Items) → ((i : ℕ) → i < length h → s i ≡ t i) → tally s ≡ tally t
+  unfolding tally
   tally-same s t f =
       fun-ext (λ w.
-      tally-largest s w
-      ∙ largest-same (length h) (mark s w) (mark t w) (λ i l. rw (f i l))
-      ∙ sym (tally-largest t w))
+      let by = byWriter K h w in
+      ap (λ n. countBelow n by)
+      (last-same (λ j. s j && by j) (λ j. t j && by j) (λ j l. rw (f j l))))
 
   -- No count is larger than the number of issues by that writer.
   pub tally-total : (s : Items) (w : ℕ) → tally s w ≤ countBelow (length h) (byWriter K h w)
