@@ -1,19 +1,20 @@
 -- A version is its copy counted: copies and their versions agree on held, needs, meets and merge.
 -- counted-issue, counted-row: the parts of the version. held-, needs-, meets-same: the same tests.
--- counted-unheld, counted-none: not held. counted-union: the merge.
+-- counted-unheld, counted-none: not held. counted-union: the merge. counted-fold: rows joined.
 -- Assumes nothing.
 use mathlib.Core.Path.{_≡_, refl, sym, ap, ap₂, _∙_, fun-ext}
-use mathlib.Core.Bool.{false, So}
+use mathlib.Core.Bool.{Bool, true, false, cond, _&&_, So}
 use mathlib.Core.Logic.{_↔_}
-use Prim.Native.Nat.{ℕ, _<_}
+use Prim.Native.Nat.{ℕ, zero, suc, _<_}
 use native.Mathlib.Omega.{arith}
 use lib.ListN.{length}
-use Rattle.words.specs.Tests.{Items, Within, none}
+use Rattle.words.specs.Tests.{Items, Within, anyBelow, none}
+use Rattle.words.specs.Numbers.{foldBelow}
 use Rattle.words.proofs.Bools.{same-test}
 use Rattle.words.proofs.Tests.{any-no}
 use Rattle.clock.specs.Clock.{Clock, Dominates, join}
-use Rattle.clock.proofs.Order.{present-intro, present-some}
-use Rattle.model.specs.Version.{unheld, held, dependency, supersedes, larger, merge}
+use Rattle.clock.proofs.Order.{join-assoc, present-intro, present-some}
+use Rattle.model.specs.Version.{Version, unheld, held, dependency, supersedes, larger, merge}
 use Rattle.model.proofs.Versions.{version-path, held-iff, unheld-issue, Blank, merge-larger, dependency-iff, supersedes-iff}
 use Rattle.history.specs.History.{History, writerOf, saved}
 use Rattle.history.specs.Copies.{Copy, reaches, heldCopy, needsCopy, meetsCopy, union, lastIn, counted}
@@ -59,6 +60,10 @@ module _ (K : ℕ) (h : History) where
 
   -- ---- merge
 
+  join-none : (d : ℕ) (x : Clock) → join x (counted K h none .past d) ≡ x
+  unfolding join
+  join-none d x = fun-ext (λ w. rw counted-none (omega arith))
+
   counted-larger : (a b : Copy)
       → counted K h (union K h a b) ≡ larger (counted K h a) (counted K h b)
   unfolding counted larger union
@@ -75,6 +80,29 @@ module _ (K : ℕ) (h : History) where
   counted-union a b =
       counted-larger a b
       ∙ sym (merge-larger (counted K h a) (counted K h b) (counted-blank a) (counted-blank b))
+
+  counted-rows : (a b : Copy) (d : ℕ)
+      → counted K h (union K h a b) .past d ≡ join (counted K h a .past d) (counted K h b .past d)
+  unfolding larger
+  counted-rows a b d = ap (λ (v : Version). v .past d) (counted-larger a b)
+
+  -- A row with those of some copies joined in, one after the other: their union counted.
+  pub counted-fold : (n : ℕ) (R : Items) (c : ℕ → Copy) (d : ℕ) (x : Clock)
+      → foldBelow n (λ k a. cond (R k) (join a (counted K h (c k) .past d)) a) x
+      ≡ join x (counted K h (λ i. anyBelow n (λ k. R k && c k i)) .past d)
+  unfolding foldBelow anyBelow union
+  counted-fold zero R c d x = sym (join-none d x)
+  counted-fold (suc n) R c d x =
+      let low : Copy = λ i. anyBelow n (λ k. R k && c k i) in
+      rw (counted-fold n R c d x)
+      (last (R n) (join x (counted K h low .past d))
+      ∙ join-assoc x (counted K h low .past d) (counted K h (λ i. R n && c n i) .past d)
+      ∙ ap (join x) (sym (counted-rows low (λ i. R n && c n i) d)))
+    where
+      last : (b : Bool) (p : Clock) → cond b (join p (counted K h (c n) .past d)) p
+          ≡ join p (counted K h (λ i. b && c n i) .past d)
+      last true p = refl
+      last false p = sym (join-none d p)
 
   -- ---- needs and meets, where writers are below W
 
