@@ -61,6 +61,14 @@ saved-below (e ∷ h) d i p =
     test (eqb i (length h)) (λ y. omega (arith, eqb-eq i (length h) y))
     (λ n. omega (arith, saved-below h d i (rw n at p)))
 
+-- Only issues of the history have read.
+pub readBy-below : (h : History) (i d j : ℕ) → So (readBy h i d j) → i < length h
+unfolding readBy
+readBy-below [] i d j p = absurd (false≢true p)
+readBy-below (e ∷ h) i d j p =
+    test (eqb i (length h)) (λ y. omega (arith, eqb-eq i (length h) y))
+    (λ n. omega (arith, readBy-below h i d j (rw n at p)))
+
 -- ---- what comes straight before the issue on top
 
 pub leads-writer : (K : ℕ) (e : Issue) (h : History) (i : ℕ) → writerOf h i ≡ e .writer
