@@ -1,3 +1,5 @@
 pub mod Scripts
-pub mod Versions
+pub mod Merges
+pub mod Needs
 pub mod Cuts
+pub mod Pulls

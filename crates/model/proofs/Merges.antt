@@ -1,17 +1,16 @@
--- Laws of versions (document 01, "Clocks, versions, cuts").
--- Blank: says nothing where not held. merge-..: the merge of two versions of a key.
--- dependency-..: what a version needs. supersedes-..: what meets a need.
+-- Laws of versions and of their merge (document 01, "Clocks, versions, cuts").
+-- Blank: says nothing where not held. merge-cases: who is held. merge-left, -right, -least: the
+-- least upper bound of held sides. merge-assoc, -idem, -comm. merge-larger: the larger counts.
 -- Assumes nothing.
 use mathlib.Core.Path.{_≡_, refl, sym, ap, _∙_, fun-ext}
-use mathlib.Core.Bool.{Bool, true, false, not, _||_, So}
-use mathlib.Core.Logic.{_⊎_, inl, inr, _↔_, _≢_}
+use mathlib.Core.Bool.{Bool, true, false, _||_, So}
+use mathlib.Core.Logic.{_⊎_, inl, inr, _↔_}
 use Prim.Native.Nat.{ℕ, _≤_, max}
 use native.Mathlib.Omega.{arith}
-use lib.Dec.{eqb}
-use Rattle.words.proofs.Bools.{test, clash, and-intro, and-left, and-right, or-left, or-right, not-intro, not-elim, leb-le, le-leb, leb-gt, ne-eqb, eqb-ne}
-use Rattle.clock.specs.Clock.{Clock, dominates, Dominates, present, join}
-use Rattle.clock.proofs.Order.{dominates-iff, dominates-refl, dominates-trans, join-left, join-right, join-least, join-comm, join-assoc, join-idem, present-mono, join-present}
-use Rattle.model.specs.Version.{Version, unheld, held, dependency, supersedes, larger, merge}
+use Rattle.words.proofs.Bools.{test, clash, leb-le, le-leb, leb-gt}
+use Rattle.clock.specs.Clock.{Clock, Dominates, present, join}
+use Rattle.clock.proofs.Order.{dominates-refl, join-left, join-right, join-least, join-comm, join-assoc, join-idem, join-present}
+use Rattle.model.specs.Version.{Version, unheld, held, larger, merge}
 
 -- ---- versions
 
@@ -178,70 +177,3 @@ merge-comm a b f g = merge-larger a b f g ∙ (larger-comm a b ∙ sym (merge-la
 pub merge-blank : (a b : Version) → Blank a → Blank b → Blank (merge a b)
 merge-blank a b f g =
     merge-cases Blank a b (λ p q n. clash (larger-left a b p) n) (λ _ _. f) (λ _. g)
-
--- ---- needs
-
-pub dependency-iff : (W k : ℕ) (v : Version) (d : ℕ)
-    → So (dependency W k v d) ↔ (d ≢ k) × So (present W (v .past d))
-unfolding dependency
-dependency-iff W k v d =
-    let other = not (eqb d k) in
-    let row = present W (v .past d) in (
-      λ s. (eqb-ne d k (not-elim (and-left other row s)), and-right other row s),
-      λ h. and-intro (not-intro (ne-eqb d k (h .0))) (h .1),
-    )
-
--- A version with larger rows needs more.
-pub dependency-mono : (W k : ℕ) (a b : Version) (d : ℕ) → Dominates W (b .past d) (a .past d)
-    → So (dependency W k a d) → So (dependency W k b d)
-dependency-mono W k a b d c s =
-    let u = dependency-iff W k a d .0 s in
-    dependency-iff W k b d .1 (u .0, present-mono W (b .past d) (a .past d) c (u .1))
-
--- What a merge needs a held side needs.
-pub dependency-merge : (W k : ℕ) (a b : Version) (d : ℕ) → So (held (merge a b))
-    → So (dependency W k (merge a b) d)
-    → (So (held a) × So (dependency W k a d)) ⊎ (So (held b) × So (dependency W k b d))
-dependency-merge W k a b d h s =
-    let u = dependency-iff W k (merge a b) d .0 s in
-    elim (merge-present W d a b h (u .1)) [
-      | inl x ↦ inl (x .0, dependency-iff W k a d .1 (u .0, x .1))
-      | inr x ↦ inr (x .0, dependency-iff W k b d .1 (u .0, x .1))
-    ]
-
-pub supersedes-iff : (W d : ℕ) (v : Version) (q : Clock)
-    → So (supersedes W d v q) ↔ So (held v) × Dominates W (v .past d) q
-unfolding supersedes
-supersedes-iff W d v q =
-    let row = dominates W (v .past d) q in (
-      λ s. (and-left (held v) row s, dominates-iff W (v .past d) q .0 (and-right (held v) row s)),
-      λ h. and-intro (h .0) (dominates-iff W (v .past d) q .1 (h .1)),
-    )
-
--- A smaller need is met too.
-pub supersedes-trans : (W d : ℕ) (v : Version) (q r : Clock) → So (supersedes W d v q)
-    → Dominates W q r → So (supersedes W d v r)
-supersedes-trans W d v q r s c =
-    let u = supersedes-iff W d v q .0 s in
-    supersedes-iff W d v r .1 (u .0, dominates-trans W (v .past d) q r (u .1) c)
-
--- A held version with a larger own row meets it too.
-pub supersedes-mono : (W d : ℕ) (a b : Version) (q : Clock) → So (held b)
-    → Dominates W (b .past d) (a .past d) → So (supersedes W d a q) → So (supersedes W d b q)
-supersedes-mono W d a b q h c s =
-    let u = supersedes-iff W d a q .0 s in
-    supersedes-iff W d b q .1 (h, dominates-trans W (b .past d) (a .past d) q c (u .1))
-
-pub supersedes-merge-left : (W d : ℕ) (a b : Version) (q : Clock) → So (supersedes W d a q)
-    → So (supersedes W d (merge a b) q)
-supersedes-merge-left W d a b q s =
-    let p = supersedes-iff W d a q .0 s .0 in
-    supersedes-mono W d a (merge a b) q (held-merge a b ∙ or-left (held b) p)
-    (merge-left W d a b p) s
-
-pub supersedes-merge-right : (W d : ℕ) (a b : Version) (q : Clock) → So (supersedes W d b q)
-    → So (supersedes W d (merge a b) q)
-supersedes-merge-right W d a b q s =
-    let p = supersedes-iff W d b q .0 s .0 in
-    supersedes-mono W d b (merge a b) q (held-merge a b ∙ or-right (held a) p)
-    (merge-right W d a b p) s
