@@ -18,7 +18,7 @@ use Rattle.words.proofs.Bools.{test, clash, same-test, _∙˙_, and-intro, and-
 use Rattle.words.proofs.Tests.{below-cases}
 use Rattle.clock.specs.Clock.{Clock, join}
 use Rattle.model.specs.Version.{Version, merge}
-use Rattle.model.proofs.Versions.{version-path}
+use Rattle.model.proofs.Merges.{version-path}
 use Rattle.history.specs.History.{Issue, History, writerOf, leads, inPast}
 use Rattle.history.specs.Copies.{Copy, reaches, union, lastIn, byWriter, counted}
 use Rattle.history.proofs.Notions.{PastLaws, Good}
