@@ -15,7 +15,8 @@ use Rattle.words.proofs.Tests.{any-no}
 use Rattle.clock.specs.Clock.{Clock, Dominates, join}
 use Rattle.clock.proofs.Order.{join-assoc, present-intro, present-some}
 use Rattle.model.specs.Version.{Version, unheld, held, dependency, supersedes, larger, merge}
-use Rattle.model.proofs.Versions.{version-path, held-iff, unheld-issue, Blank, merge-larger, dependency-iff, supersedes-iff}
+use Rattle.model.proofs.Merges.{version-path, held-iff, unheld-issue, Blank, merge-larger}
+use Rattle.model.proofs.Needs.{dependency-iff, supersedes-iff}
 use Rattle.history.specs.History.{History, writerOf, saved}
 use Rattle.history.specs.Copies.{Copy, reaches, heldCopy, needsCopy, meetsCopy, union, lastIn, counted}
 use Rattle.history.proofs.Notions.{PastLaws, Good}

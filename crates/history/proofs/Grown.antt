@@ -14,6 +14,7 @@ use Rattle.words.specs.Tests.{Items}
 use Rattle.words.specs.Numbers.{countBelow, largest}
 use Rattle.words.proofs.Bools.{test, same-test, _∙˙_, ne-eqb}
 use Rattle.words.proofs.Numbers.{when-no, count-one, count-same}
+use Rattle.model.proofs.Merges.{version-path}
 use Rattle.history.specs.History.{Issue, History}
 use Rattle.history.specs.Copies.{Copy, reaches, heldCopy, needsCopy, meetsCopy, lastIn, byWriter, counted}
 use Rattle.history.proofs.Notions.{PastLaws, Good}
@@ -21,7 +22,6 @@ use Rattle.history.proofs.Past.{writerOf-top, writerOf-low, saved-low, 
 use Rattle.history.proofs.Tally.{by-writer, last-same, last-le, tally}
 use Rattle.history.proofs.Reached.{reaches-intro, reaches-some, reaches-saved, copy-held, copy-needs, copy-meets}
 use Rattle.history.proofs.Counted.{counted-issue, counted-row}
-use Rattle.model.proofs.Versions.{version-path}
 
 -- A set that has no issue beyond the history.
 abbrev pub Below : History → Items → Type 0

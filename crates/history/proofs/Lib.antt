@@ -5,3 +5,4 @@ pub mod Tally
 pub mod Reached
 pub mod Counted
 pub mod Grown
+pub mod Entered
