@@ -22,7 +22,7 @@ use Rattle.model.specs.Caches.{fetchCause, fetchDone, fetchRule, evictCa
 use Rattle.model.specs.Runs.{listedJob, listedCount, listedJobs, listValid, openCause, openedRun, openDone, openRule, dropCause, dropDone, dropRule}
 use Rattle.model.specs.Prepare.{jobStart, fetchReads, preparedCaches, unpreparable, usesSite, sitesMerged, siteCaches, prepareCause, prepareCaches, prepareSnapshot, prepareDone, prepareRule}
 use Rattle.model.specs.Step.{readStart, stepSite, stepReads, stepStart, stepFetch, stepCache, stepPlan, stepPull, stepSnapshot, stepMoved, jobLimit, notReady, stepCause, stepBroken, stepDone, stepRule}
-use Rattle.model.specs.Issue.{issueCause, takenIn, newPast, newVersion, issuedMaster, issueSaved, issueDone, issueRule}
+use Rattle.model.specs.Issue.{issueCause, takenIn, newPast, newVersion, issuedMaster, issuedWriter, issueSaved, issueDone, issueRule}
 use Rattle.model.specs.Look.{lookPlace, lookLimit, lookCause, rowNumbers, lookDone, lookRule}
 use Rattle.model.specs.Calls.{ruleOf}
 use Rattle.model.proofs.Readings.{marked, sentences, unmarked, unmarked-answers}
@@ -51,8 +51,8 @@ unfolding needsMet causalCut overlappingCut concurrent doneReads zeroRows versio
     sitesMerged siteCaches prepareCause prepareCaches prepareSnapshot prepareDone prepareRule
     readStart stepSite stepReads stepStart stepFetch stepCache stepPlan stepPull stepSnapshot
     stepMoved jobLimit notReady stepCause stepBroken stepDone stepRule issueCause takenIn newPast
-    newVersion issuedMaster issueSaved issueDone issueRule lookPlace lookLimit lookCause
-    rowNumbers lookDone lookRule ruleOf
+    newVersion issuedMaster issuedWriter issueSaved issueDone issueRule lookPlace lookLimit
+    lookCause rowNumbers lookDone lookRule ruleOf
 computed = record {
   ten = refl;
   texts = refl;

@@ -11,7 +11,7 @@ use Rattle.masks.specs.Mask.{testBit}
 use Rattle.clock.specs.Clock.{Clock, join}
 use Rattle.model.specs.Algebra.{Place}
 use Rattle.model.specs.Version.{Version, merge}
-use Rattle.model.specs.Store.{Run, Store, freeRun, withLast, withMaster, withRun, withWriter}
+use Rattle.model.specs.Store.{Run, Store, Writer, freeRun, withLast, withMaster, withRun, withWriter}
 use Rattle.model.specs.Outcome.{Outcome, done, refuse, unless, allowed, issueRow}
 
 -- The largest word.
@@ -52,13 +52,15 @@ unfoldable pub issuedMaster : Store → ℕ → ℕ → ℕ → Place Version
 issuedMaster s r w S k =
     cond (testBit S k) (merge (s .master k) (newVersion s r w S)) (s .master k)
 
+-- The writer after it.
+unfoldable pub issuedWriter : Store → ℕ → ℕ → ℕ → Writer
+issuedWriter s r w S = record { count = s .writer w .count + 1; past = newPast s r w S }
+
 -- "The run is freed. Answers the issue number."
 unfoldable pub issueSaved : Store → ℕ → ℕ → ℕ → Outcome
 issueSaved s r w S =
-    let author = record { count = s .writer w .count + 1; past = newPast s r w S } in
-    done ((s .last + 1) ∷ [])
-    (withRun
-    (withMaster (withWriter (withLast s (s .last + 1)) w author) (issuedMaster s r w S)) r freeRun)
+    let saved = withWriter (withLast s (s .last + 1)) w (issuedWriter s r w S) in
+    done ((s .last + 1) ∷ []) (withRun (withMaster saved (issuedMaster s r w S)) r freeRun)
 
 -- "with S empty only the run is freed, and 0 answered"
 unfoldable pub issueDone : Store → ℕ → ℕ → ℕ → Outcome
