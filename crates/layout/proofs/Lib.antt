@@ -7,7 +7,13 @@ pub mod Updates
 pub mod Follow
 pub mod Formed
 pub mod Plans
+pub mod DoneReads
 pub mod Kept
 pub mod KeptOpen
 pub mod KeptIssue
 pub mod Scripted
+pub mod Draws
+pub mod Stepping
+pub mod KeptStep
+pub mod KeptPrepare
+pub mod Rules
