@@ -6,3 +6,4 @@ pub mod ClosingSets
 pub mod ClosingPrepare
 pub mod Counting
 pub mod Breaks
+pub mod Invariant

@@ -11,6 +11,7 @@ use Rattle.masks.specs.Mask.{testBit}
 use Rattle.sizes.specs.declared.Counts.{Counts}
 use Rattle.model.specs.Algebra.{Place}
 use Rattle.model.specs.Version.{Version}
+use Rattle.model.specs.Store.{Store}
 use Rattle.model.specs.Calls.{StoreCall, openRun, fetch, evict, prepare, step, issue, dropRun, look}
 use Rattle.layout.specs.Reading.{storeOf}
 use Rattle.layout.specs.Calls.{Call, new, on, callOn, leaves, isOk, newOn}
@@ -35,25 +36,25 @@ unfoldable pub start : Counts → List ℕ → Trace
 start z l = record { buffer = leaves (newOn l z) l; book = freshBook z; finished = λ r. [] }
 
 -- Run r's snapshot for the keys that its job j reads.
-unfoldable pub readNow : ℕ → ℕ → List ℕ → Book → ReadSet
-readNow r j l b = record {
+unfoldable pub readNow : ℕ → ℕ → Store → Book → ReadSet
+readNow r j s b = record {
   keys = testBit (b .run r .job j .reads);
-  version = storeOf l .run r .snapshot;
+  version = s .run r .snapshot;
   copy = b .run r .snapshot;
 }
 
--- A call answered ok, on what has been read: l and b are the buffer and the book after it.
+-- A call answered ok, on what has been read: s and b are the store and the book after it.
 -- "A run lasts from its open until it is freed."
-unfoldable pub finish : Call → List ℕ → Book → (ℕ → List ReadSet) → ℕ → List ReadSet
-finish (new k w n p) l b f = λ r. []
-finish (on (openRun r js)) l b f = putAt f r []
-finish (on (fetch o k)) l b f = f
-finish (on (evict o k)) l b f = f
-finish (on (prepare r)) l b f = f
-finish (on (step r j)) l b f = putAt f r (readNow r j l b ∷ f r)
-finish (on (issue r w S)) l b f = putAt f r []
-finish (on (dropRun r)) l b f = putAt f r []
-finish (on (look p i k)) l b f = f
+unfoldable pub finish : Call → Store → Book → (ℕ → List ReadSet) → ℕ → List ReadSet
+finish (new k w n p) s b f = λ r. []
+finish (on (openRun r l)) s b f = putAt f r []
+finish (on (fetch o k)) s b f = f
+finish (on (evict o k)) s b f = f
+finish (on (prepare r)) s b f = f
+finish (on (step r j)) s b f = putAt f r (readNow r j s b ∷ f r)
+finish (on (issue r w S)) s b f = putAt f r []
+finish (on (dropRun r)) s b f = putAt f r []
+finish (on (look p i k)) s b f = f
 
 -- One call. The book gets the call, and whether it was answered ok.
 unfoldable pub advance : Call → Trace → Trace
@@ -64,7 +65,7 @@ advance c t =
     record {
       buffer = l;
       book = b;
-      finished = cond (isOk out) (finish c l b (t .finished)) (t .finished);
+      finished = cond (isOk out) (finish c (storeOf l) b (t .finished)) (t .finished);
     }
 
 unfoldable pub follow : List Call → Trace → Trace
