@@ -3,9 +3,9 @@
 use mathlib.Core.Path.{_≡_, refl, sym, _∙_}
 use mathlib.Core.Bool.{Bool, true, false, not, _&&_, _||_, So, true≢false, false≢true}
 use mathlib.Core.Logic.{_⊎_, inl, inr, _≢_}
-use Prim.Native.Nat.{ℕ, _≤_, _<_}
+use Prim.Native.Nat.{ℕ, suc, _≤_, _<_}
 use native.Mathlib.Omega.{arith}
-use lib.Dec.{leb, eqb, T, leb→le, le→leb, nleb→lt, eqb→eq, eqb-refl}
+use lib.Dec.{leb, ltb, eqb, T, leb→le, le→leb, nleb→lt, eqb→eq, eqb-refl}
 
 -- ---- one test
 
@@ -107,6 +107,18 @@ leb-gt m n p = nleb→lt m n (T-of-so (not-intro p))
 
 pub gt-leb : (m n : ℕ) → n < m → leb m n ≡ false
 gt-leb m n h = test (leb m n) (λ p. absurd (omega (arith, leb-le m n p))) (λ p. p)
+
+pub ltb-lt : (m n : ℕ) → So (ltb m n) → m < n
+ltb-lt m n p = leb-le (suc m) n p
+
+pub lt-ltb : (m n : ℕ) → m < n → So (ltb m n)
+lt-ltb m n h = le-leb (suc m) n h
+
+pub ltb-ge : (m n : ℕ) → ltb m n ≡ false → n ≤ m
+ltb-ge m n p = omega (arith, leb-gt (suc m) n p)
+
+pub ge-ltb : (m n : ℕ) → n ≤ m → ltb m n ≡ false
+ge-ltb m n h = gt-leb (suc m) n (omega arith)
 
 pub eqb-eq : (m n : ℕ) → So (eqb m n) → m ≡ n
 eqb-eq m n p = eqb→eq m n (T-of-so p)

@@ -1,2 +1,8 @@
 pub mod Bools
 pub mod Tests
+pub mod Numbers
+pub mod Slots
+pub mod Words
+pub mod Frames
+pub mod Lists
+pub mod Stores
