@@ -1,0 +1,103 @@
+-- One set of laws for every kind of part, and that a row of parts has them too.
+-- Laws v words read Fit: a part has v words, is read back, and is told by its words.
+-- FitMany, many: n parts in a row. many-put, many-part: a store into one of them.
+-- Assumes nothing.
+use mathlib.Core.Path.{_≡_, refl, sym, ap, _∙_, fun-ext}
+use mathlib.Core.Bool.{Bool, true, false, cond}
+use mathlib.Core.Logic.{⊎-elim}
+use mathlib.Core.List.{List}
+use Prim.Native.Nat.{ℕ, _+_, _*_, _≤_, _<_}
+use native.Mathlib.Omega.{arith}
+use lib.Dec.{eqb}
+use lib.ListN.{length}
+use lib.Seq.{sets}
+use Rattle.words.specs.Lists.{blocks, window, upto, putAt}
+use Rattle.words.proofs.Tests.{below-or-not}
+use Rattle.words.proofs.Lists.{upto-in, upto-out, length-blocks, blocks-ext, blocks-same, window-blocks}
+use Rattle.words.proofs.Stores.{sets-block, sets-blocks}
+use Rattle.words.proofs.Slots.{slot-end}
+
+-- Words and reader of a part; Fit: nothing stands outside of the counts.
+pub record Laws {A : Type 0} (v : ℕ) (words : A → List ℕ) (read : List ℕ → ℕ → A)
+    (Fit : A → Type 0) : Type 0 where
+  pub long : (a : A) → length (words a) ≡ v
+  pub round : (l : List ℕ) (at : ℕ) → words (read l at) ≡ window l at v
+  pub fits : (l : List ℕ) (at : ℕ) → Fit (read l at)
+  pub same : (a b : A) → Fit a → Fit b → words a ≡ words b → a ≡ b
+
+-- Parts that fit below n, and x from n on.
+pub record FitMany {A : Type 0} (n : ℕ) (x : A) (Fit : A → Type 0) (f : ℕ → A) : Type 0 where
+  pub each : (i : ℕ) → i < n → Fit (f i)
+  pub rest : (i : ℕ) → n ≤ i → f i ≡ x
+
+-- The words of a row, and its reader: x stands from n on.
+abbrev rowWords : {A : Type 0} → ℕ → (A → List ℕ) → (ℕ → A) → List ℕ
+rowWords n words f = blocks n (λ i. words (f i))
+
+abbrev readRow : {A : Type 0} → ℕ → ℕ → A → (List ℕ → ℕ → A) → List ℕ → ℕ → ℕ → A
+readRow n v x read l at = upto n x (λ i. read l (at + i * v))
+
+module _ {A : Type 0} {v : ℕ} {words : A → List ℕ} {read : List ℕ → ℕ → A} {Fit : A → Type 0}
+    (n : ℕ) (L : Laws v words read Fit) where
+  row-in : (x : A) (l : List ℕ) (at i : ℕ) → i < n
+      → readRow n v x read l at i ≡ read l (at + i * v)
+  row-in x l at i h = upto-in n x (λ i. read l (at + i * v)) i h
+
+  part-same : (f g : ℕ → A) → rowWords n words f ≡ rowWords n words g → (i : ℕ) → i < n
+      → words (f i) ≡ words (g i)
+  part-same f g e i h =
+      blocks-same n v (λ i. words (f i)) (λ i. words (g i)) (λ i. L .long (f i))
+      (λ i. L .long (g i)) e i h
+
+  -- A row of n parts has the laws.
+  pub many : (x : A) → Laws (n * v) (rowWords n words) (readRow n v x read) (FitMany n x Fit)
+  many x = record {
+    long = λ f. length-blocks n v (λ i. words (f i)) (λ i. L .long (f i));
+    round = λ l at.
+        blocks-ext n (λ i. words (readRow n v x read l at i)) (λ i. window l (at + i * v) v)
+        (λ i h. ap words (row-in x l at i h) ∙ L .round l (at + i * v))
+        ∙ window-blocks l at n v;
+    fits = λ l at. record {
+      each = λ i h. rw (row-in x l at i h) (L .fits l (at + i * v));
+      rest = λ i h. upto-out n x (λ i. read l (at + i * v)) i h;
+    };
+    same = λ f g F G e. fun-ext (λ i. ⊎-elim
+        (λ h. L .same (f i) (g i) (F .each i h) (G .each i h) (part-same f g e i h))
+        (λ h. F .rest i h ∙ sym (G .rest i h)) (below-or-not i n));
+  }
+
+  put-words : (f : ℕ → A) (k : ℕ) (a : A) (i : ℕ)
+      → putAt (λ i. words (f i)) k (words a) i ≡ words (putAt f k a i)
+  unfolding putAt
+  put-words f k a i = go (eqb i k)
+    where
+      go : (b : Bool) → cond b (words a) (words (f i)) ≡ words (cond b a (f i))
+      go true = refl
+      go false = refl
+
+  row-put : (f : ℕ → A) (k : ℕ) (a : A)
+      → blocks n (putAt (λ i. words (f i)) k (words a)) ≡ rowWords n words (putAt f k a)
+  row-put f k a =
+      blocks-ext n (putAt (λ i. words (f i)) k (words a)) (λ i. words (putAt f k a i))
+      (λ i _. put-words f k a i)
+
+  -- One part of a row is stored.
+  pub many-put : (f : ℕ → A) (k : ℕ) (a : A) → k < n
+      → sets (rowWords n words f) (k * v) (words a) ≡ rowWords n words (putAt f k a)
+  many-put f k a h =
+      sets-block n v (λ i. words (f i)) (λ i. L .long (f i)) k (words a) h (L .long a)
+      ∙ row-put f k a
+
+  -- A store within one part of a row, where it makes the part b of it.
+  pub many-part : (f : ℕ → A) (k i : ℕ) (x : List ℕ) (b : A) → k < n → i + length x ≤ v
+      → sets (words (f k)) i x ≡ words b
+      → sets (rowWords n words f) (k * v + i) x ≡ rowWords n words (putAt f k b)
+  many-part f k i x b h j e =
+      sets-blocks n v (λ i. words (f i)) (λ i. L .long (f i)) k i x h j ∙ rw e (row-put f k b)
+
+  -- The row has room for it.
+  pub many-room : (f : ℕ → A) (k i : ℕ) (x : List ℕ) → k < n → i + length x ≤ v
+      → k * v + i + length x ≤ length (rowWords n words f)
+  many-room f k i x h j =
+      rw (length-blocks n v (λ i. words (f i)) (λ i. L .long (f i)))
+      (omega (arith, slot-end k n v h))

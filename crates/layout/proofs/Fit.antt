@@ -1,0 +1,144 @@
+-- A changed part keeps the store in range.
+-- fit-..: of a part, and of a store with one part changed.
+-- Assumes nothing.
+use mathlib.Core.Path.{_≡_, refl, sym, ap, _∙_}
+use mathlib.Core.Bool.{Bool, true, false, cond}
+use Prim.Native.Nat.{ℕ, _≤_, _<_}
+use native.Mathlib.Omega.{arith}
+use native.Mathlib.Decide.{ℕ-discrete}
+use Rattle.words.specs.Lists.{putAt}
+use Rattle.words.proofs.Lists.{putAt-same, putAt-other}
+use Rattle.clock.specs.Clock.{join}
+use Rattle.sizes.specs.declared.Counts.{Counts}
+use Rattle.model.specs.Algebra.{Place}
+use Rattle.model.specs.Version.{Version, unheld, held, larger, merge}
+use Rattle.model.specs.Store.{Writer, Run, Site, Store, emptyPlace, noWriter, noSite, freeRun, fresh, withLast, withMaster, withSites, withCache, withWriter, withRun, withState, withSnapshot}
+use Rattle.layout.proofs.Codec.{FitMany}
+use Rattle.layout.proofs.Parts.{FitVersion, FitPlace, FitSite, FitSites, FitWriter, FitRun}
+use Rattle.layout.proofs.Whole.{FitStore}
+
+-- ---- what stands where nothing does
+
+pub fit-unheld : (z : Counts) → FitVersion z unheld
+fit-unheld z = record {
+  past = record {
+    each = λ d h. record { each = λ w i. record {}; rest = λ w i. refl };
+    rest = λ d h. refl;
+  };
+}
+
+pub fit-empty : (z : Counts) → FitPlace z emptyPlace
+fit-empty z = record { each = λ k h. fit-unheld z; rest = λ k h. refl }
+
+pub fit-free : (z : Counts) → FitRun z freeRun
+fit-free z = record {
+  job = record { each = λ j h. record {}; rest = λ j h. refl };
+  snapshot = fit-empty z;
+}
+
+pub fresh-fits : (z : Counts) → FitStore (fresh z)
+unfolding fresh
+fresh-fits z = record {
+  master = fit-empty z;
+  site = record { each = λ o h. record { cache = fit-empty z }; rest = λ o h. refl };
+  writer = record {
+    each = λ w h. record { past = fit-unheld z .past };
+    rest = λ w h. refl;
+  };
+  run = record { each = λ r h. fit-free z; rest = λ r h. refl };
+}
+
+-- ---- versions and places
+
+-- One part of a row changed.
+pub fit-put : {A : Type 0} {n : ℕ} {x : A} {Fit : A → Type 0} (f : ℕ → A) (i : ℕ) (a : A)
+    → FitMany n x Fit f → i < n → Fit a → FitMany n x Fit (putAt f i a)
+fit-put {A} {n} {x} {Fit} f i a F h G = record {
+  each = λ j k. elim (ℕ-discrete j i) [
+    | yes e ↦ rw (e, putAt-same f i a) G
+    | no e ↦ rw (putAt-other f i a j e) (F .each j k)
+  ];
+  rest = λ j k. putAt-other f i a j (λ e. omega arith) ∙ F .rest j k;
+}
+
+-- One of two places for each key.
+pub fit-choice : (z : Counts) (b : ℕ → Bool) (p q : Place Version) → FitPlace z p → FitPlace z q
+    → FitPlace z (λ k. cond (b k) (p k) (q k))
+fit-choice z b p q F G = record {
+  each = λ k h. each (b k) (F .each k h) (G .each k h);
+  rest = λ k h. rest (b k) (F .rest k h) (G .rest k h);
+}
+  where
+    each : {x y : Version} (c : Bool) → FitVersion z x → FitVersion z y
+        → FitVersion z (cond c x y)
+    each true f g = f
+    each false f g = g
+
+    rest : {x y w : Version} (c : Bool) → x ≡ w → y ≡ w → cond c x y ≡ w
+    rest true f g = f
+    rest false f g = g
+
+fit-larger : (z : Counts) (a b : Version) → FitVersion z a → FitVersion z b
+    → FitVersion z (larger a b)
+unfolding larger join
+fit-larger z a b F G = record {
+  past = record {
+    each = λ d h. record {
+      each = λ w i. record {};
+      rest = λ w i. rw (F .past .each d h .rest w i, G .past .each d h .rest w i) refl;
+    };
+    rest = λ d h. rw (F .past .rest d h, G .past .rest d h) refl;
+  };
+}
+
+pub fit-merge : (z : Counts) (a b : Version) → FitVersion z a → FitVersion z b
+    → FitVersion z (merge a b)
+unfolding merge
+fit-merge z a b F G = go (held a) (held b)
+  where
+    go : (x y : Bool) → FitVersion z (cond x (cond y (larger a b) a) b)
+    go true true = fit-larger z a b F G
+    go true false = F
+    go false y = G
+
+-- ---- the store with one part changed
+
+module _ (s : Store) (F : FitStore s) where
+  pub fit-last : (n : ℕ) → FitStore (withLast s n)
+  unfolding withLast
+  fit-last n = record { master = F .master; site = F .site; writer = F .writer; run = F .run }
+
+  pub fit-master : (p : Place Version) → FitPlace (s .counts) p → FitStore (withMaster s p)
+  unfolding withMaster
+  fit-master p G = record { master = G; site = F .site; writer = F .writer; run = F .run }
+
+  pub fit-sites : (f : ℕ → Site) → FitSites (s .counts) f → FitStore (withSites s f)
+  unfolding withSites
+  fit-sites f G = record { master = F .master; site = G; writer = F .writer; run = F .run }
+
+  pub fit-cache : (o : ℕ) (p : Place Version) → o < s .counts .sites → FitPlace (s .counts) p
+      → FitStore (withCache s o p)
+  unfolding withCache
+  fit-cache o p h G =
+      let x : Site = record { cache = p } in
+      fit-sites (putAt (s .site) o x) (fit-put (s .site) o x (F .site) h (record { cache = G }))
+
+  pub fit-writer : (w : ℕ) (x : Writer) → w < s .counts .writers → FitWriter (s .counts) x
+      → FitStore (withWriter s w x)
+  unfolding withWriter
+  fit-writer w x h G = record {
+    master = F .master;
+    site = F .site;
+    writer = fit-put (s .writer) w x (F .writer) h G;
+    run = F .run;
+  }
+
+  pub fit-run : (r : ℕ) (x : Run) → r < s .counts .runs → FitRun (s .counts) x
+      → FitStore (withRun s r x)
+  unfolding withRun
+  fit-run r x h G = record {
+    master = F .master;
+    site = F .site;
+    writer = F .writer;
+    run = fit-put (s .run) r x (F .run) h G;
+  }

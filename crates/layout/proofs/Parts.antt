@@ -1,0 +1,234 @@
+-- The laws of each part of the store.
+-- Fit..: nothing of the part stands outside of the counts. ..-laws: its words are read back.
+-- Assumes nothing.
+use mathlib.Core.Path.{_≡_, refl, sym, ap, ap₂, _∙_, subst}
+use mathlib.Core.List.{List, [], _∷_, _++_}
+use Prim.Native.Nat.{ℕ, suc, _+_, _*_, _≤_, _<_}
+use native.Mathlib.Nat.{mul-one}
+use native.Mathlib.Omega.{arith}
+use lib.ListN.{length, getD, drop, length-append}
+use Rattle.words.specs.Lists.{window, upto}
+use Rattle.words.proofs.Lists.{append-same, window-add, window-cons}
+use Rattle.clock.specs.Clock.{Clock}
+use Rattle.sizes.specs.declared.Counts.{Counts}
+use Rattle.sizes.specs.Bounds.{maxJobs, pastSize, versionSize, placeSize, siteSize, writerSize, runSize}
+use Rattle.model.specs.Algebra.{Place}
+use Rattle.model.specs.Version.{Version, unheld}
+use Rattle.model.specs.Store.{Writer, Job, Run, Site, noWriter, noJob, noSite, freeRun}
+use Rattle.layout.specs.Words.{clockWords, pastWords, versionWords, placeWords, siteWords, sitesWords, writerWords, writersWords, jobWords, jobsWords, runWords, runsWords}
+use Rattle.layout.specs.Reading.{readWord, readClock, readPast, readVersion, readPlace, readSite, readWriter, readJob, readJobs, readRun}
+use Rattle.layout.proofs.Codec.{Laws, FitMany, many}
+
+-- ---- words
+
+-- Any number.
+pub record Any (x : ℕ) : Type 0 where
+
+cons-same : (x y : ℕ) (a b : List ℕ) → x ∷ a ≡ y ∷ b → (x ≡ y) × (a ≡ b)
+cons-same x y a b e = (ap (λ (l : List ℕ). getD l 0 0) e, ap (drop 1) e)
+
+word-laws : Laws 1 (λ x. x ∷ []) readWord Any
+unfolding window
+word-laws = record {
+  long = λ a. refl;
+  round = λ l at. refl;
+  fits = λ l at. record {};
+  same = λ a b _ _ e. cons-same a b [] [] e .0;
+}
+
+-- ---- pasts
+
+abbrev pub FitClock : Counts → Clock → Type 0
+FitClock z = FitMany (z .writers) 0 Any
+
+abbrev pub FitPast : Counts → (ℕ → Clock) → Type 0
+FitPast z = FitMany (z .keys) (λ w. 0) (FitClock z)
+
+pub clock-laws : (z : Counts) → Laws (z .writers) (clockWords z) (readClock z) (FitClock z)
+unfolding clockWords readClock
+clock-laws z =
+    subst (λ (n : ℕ). Laws n (clockWords z) (readClock z) (FitClock z)) (mul-one (z .writers))
+    (many (z .writers) word-laws 0)
+
+pub past-laws : (z : Counts) → Laws (pastSize z) (pastWords z) (readPast z) (FitPast z)
+unfolding pastSize pastWords readPast
+past-laws z = many (z .keys) (clock-laws z) (λ w. 0)
+
+-- A number and a past.
+numbered-round : (z : Counts) (l : List ℕ) (at : ℕ)
+    → readWord l at ∷ pastWords z (readPast z l (at + 1)) ≡ window l at (1 + pastSize z)
+numbered-round z l at =
+    ap (λ (t : List ℕ). readWord l at ∷ t) (past-laws z .round l (at + 1))
+    ∙ window-cons l at (pastSize z)
+
+numbered-same : (z : Counts) (m n : ℕ) (a b : ℕ → Clock) → FitPast z a → FitPast z b
+    → m ∷ pastWords z a ≡ n ∷ pastWords z b → (m ≡ n) × (a ≡ b)
+numbered-same z m n a b F G e =
+    let c = cons-same m n (pastWords z a) (pastWords z b) e in
+    (c .0, past-laws z .same a b F G (c .1))
+
+-- ---- versions and places
+
+pub record FitVersion (z : Counts) (v : Version) : Type 0 where
+  pub past : FitPast z (v .past)
+
+pub version-laws : (z : Counts)
+    → Laws (versionSize z) (versionWords z) (readVersion z) (FitVersion z)
+unfolding versionSize versionWords readVersion
+version-laws z = record {
+  long = λ v. omega (arith, past-laws z .long (v .past));
+  round = numbered-round z;
+  fits = λ l at. record { past = past-laws z .fits l (at + 1) };
+  same = λ a b F G e.
+      let c = numbered-same z (a .issue) (b .issue) (a .past) (b .past) (F .past) (G .past) e in
+      let p = c .0 in let q = c .1 in λ i. record { issue = p i; past = q i };
+}
+
+abbrev pub FitPlace : Counts → Place Version → Type 0
+FitPlace z = FitMany (z .keys) unheld (FitVersion z)
+
+pub place-laws : (z : Counts) → Laws (placeSize z) (placeWords z) (readPlace z) (FitPlace z)
+unfolding placeSize placeWords readPlace
+place-laws z = many (z .keys) (version-laws z) unheld
+
+-- ---- sites
+
+pub record FitSite (z : Counts) (x : Site) : Type 0 where
+  pub cache : FitPlace z (x .cache)
+
+pub site-laws : (z : Counts) → Laws (siteSize z) (siteWords z) (readSite z) (FitSite z)
+unfolding siteSize siteWords readSite
+site-laws z =
+    let L = place-laws z in
+    record {
+      long = λ x. L .long (x .cache);
+      round = L .round;
+      fits = λ l at. record { cache = L .fits l at };
+      same = λ a b F G e.
+          let p = L .same (a .cache) (b .cache) (F .cache) (G .cache) e in
+          λ i. record { cache = p i };
+    }
+
+abbrev pub FitSites : Counts → (ℕ → Site) → Type 0
+FitSites z = FitMany (z .sites) noSite (FitSite z)
+
+abbrev readSites : Counts → List ℕ → ℕ → ℕ → Site
+readSites z l at = upto (z .sites) noSite (λ o. readSite z l (at + o * siteSize z))
+
+pub sites-laws : (z : Counts)
+    → Laws (z .sites * siteSize z) (sitesWords z) (readSites z) (FitSites z)
+unfolding sitesWords
+sites-laws z = many (z .sites) (site-laws z) noSite
+
+-- ---- writers
+
+pub record FitWriter (z : Counts) (x : Writer) : Type 0 where
+  pub past : FitPast z (x .past)
+
+pub writer-laws : (z : Counts) → Laws (writerSize z) (writerWords z) (readWriter z) (FitWriter z)
+unfolding writerSize writerWords readWriter
+writer-laws z = record {
+  long = λ x. omega (arith, past-laws z .long (x .past));
+  round = numbered-round z;
+  fits = λ l at. record { past = past-laws z .fits l (at + 1) };
+  same = λ a b F G e.
+      let c = numbered-same z (a .count) (b .count) (a .past) (b .past) (F .past) (G .past) e in
+      let p = c .0 in let q = c .1 in λ i. record { count = p i; past = q i };
+}
+
+abbrev pub FitWriters : Counts → (ℕ → Writer) → Type 0
+FitWriters z = FitMany (z .writers) noWriter (FitWriter z)
+
+abbrev readWriters : Counts → List ℕ → ℕ → ℕ → Writer
+readWriters z l at = upto (z .writers) noWriter (λ w. readWriter z l (at + w * writerSize z))
+
+pub writers-laws : (z : Counts)
+    → Laws (z .writers * writerSize z) (writersWords z) (readWriters z) (FitWriters z)
+unfolding writersWords
+writers-laws z = many (z .writers) (writer-laws z) noWriter
+
+-- ---- runs
+
+-- Any job.
+pub record AnyJob (x : Job) : Type 0 where
+
+job-laws : Laws 3 jobWords readJob AnyJob
+unfolding jobWords readJob window
+job-laws = record {
+  long = λ a. refl;
+  round = λ l at. refl;
+  fits = λ l at. record {};
+  same = λ a b _ _ e.
+      let x = cons-same _ _ _ _ e in
+      let y = cons-same _ _ _ _ (x .1) in
+      let w = cons-same _ _ _ _ (y .1) in
+      let p = x .0 in let q = y .0 in let r = w .0 in
+      λ i. record { site = p i; reads = q i; upstream = r i };
+}
+
+abbrev pub FitJobs : (ℕ → Job) → Type 0
+FitJobs = FitMany maxJobs noJob AnyJob
+
+pub jobs-laws : Laws 24 jobsWords readJobs FitJobs
+unfolding jobsWords readJobs
+jobs-laws = many maxJobs job-laws noJob
+
+pub record FitRun (z : Counts) (r : Run) : Type 0 where
+  pub job : FitJobs (r .job)
+  pub snapshot : FitPlace z (r .snapshot)
+
+-- Four words, and a window behind them.
+abbrev fourWords : List ℕ → ℕ → List ℕ → List ℕ
+fourWords l at t =
+    readWord l at ∷ readWord l (at + 1) ∷ readWord l (at + 1 + 1) ∷ readWord l (at + 1 + 1 + 1) ∷ t
+
+four : (l : List ℕ) (at n : ℕ)
+    → fourWords l at (window l (at + 1 + 1 + 1 + 1) n) ≡ window l at (4 + n)
+unfolding window
+four l at n = let e : 4 + n ≡ suc (suc (suc (suc n))) = omega arith in rw e
+
+run-round : (z : Counts) (l : List ℕ) (at : ℕ)
+    → runWords z (readRun z l at) ≡ window l at (runSize z)
+unfolding runSize runWords readRun
+run-round z l at =
+    let b = at + 1 + 1 + 1 + 1 in
+    ap (fourWords l at) (ap₂ _++_ (jobs-laws .round l b) (place-laws z .round l (b + 24))
+    ∙ sym (window-add l b 24 (placeSize z)))
+    ∙ four l at (24 + placeSize z) ∙ ap (window l at) (omega arith)
+
+run-same : (z : Counts) (a b : Run) → FitRun z a → FitRun z b → runWords z a ≡ runWords z b → a ≡ b
+unfolding runWords
+run-same z a b F G e =
+    let J = jobs-laws in
+    let P = place-laws z in
+    let c₁ = cons-same _ _ _ _ e in
+    let c₂ = cons-same _ _ _ _ (c₁ .1) in
+    let c₃ = cons-same _ _ _ _ (c₂ .1) in
+    let c₄ = cons-same _ _ _ _ (c₃ .1) in
+    let d = append-same _ _ _ _ (J .long (a .job) ∙ sym (J .long (b .job))) (c₄ .1) in
+    let p = c₁ .0 in let q = c₂ .0 in let r = c₃ .0 in let s = c₄ .0 in
+    let t = J .same (a .job) (b .job) (F .job) (G .job) (d .0) in
+    let u = P .same (a .snapshot) (b .snapshot) (F .snapshot) (G .snapshot) (d .1) in
+    λ i. record { state = p i; jobs = q i; done = r i; read = s i; job = t i; snapshot = u i }
+
+pub run-laws : (z : Counts) → Laws (runSize z) (runWords z) (readRun z) (FitRun z)
+unfolding runSize runWords readRun
+run-laws z =
+    let J = jobs-laws in
+    let P = place-laws z in
+    record {
+      long = λ r. rw (length-append, J .long (r .job), P .long (r .snapshot)) (omega arith);
+      round = run-round z;
+      fits = λ l at. record { job = J .fits l _; snapshot = P .fits l _ };
+      same = run-same z;
+    }
+
+abbrev pub FitRuns : Counts → (ℕ → Run) → Type 0
+FitRuns z = FitMany (z .runs) freeRun (FitRun z)
+
+abbrev readRuns : Counts → List ℕ → ℕ → ℕ → Run
+readRuns z l at = upto (z .runs) freeRun (λ r. readRun z l (at + r * runSize z))
+
+pub runs-laws : (z : Counts) → Laws (z .runs * runSize z) (runsWords z) (readRuns z) (FitRuns z)
+unfolding runsWords
+runs-laws z = many (z .runs) (run-laws z) freeRun
