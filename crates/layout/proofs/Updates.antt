@@ -1,0 +1,204 @@
+-- A store of words into one part of a written store, as a change of the store.
+-- put-..-part: within one site, writer or run. put-..: a whole part, or one word of it.
+-- Assumes nothing.
+use mathlib.Core.Path.{_≡_, refl, sym, ap, _∙_}
+use mathlib.Core.List.{List, [], _∷_, _++_, append-assoc}
+use Prim.Native.Nat.{ℕ, _+_, _*_, _≤_, _<_}
+use native.Mathlib.Nat.{add-zero}
+use native.Mathlib.Omega.{arith}
+use lib.ListN.{length, drop, set, length-append}
+use lib.Seq.{sets}
+use Rattle.words.proofs.Stores.{sets-left, sets-behind, sets-all}
+use Rattle.sizes.specs.declared.Counts.{Counts}
+use Rattle.sizes.specs.Bounds.{placeSize, siteSize, writerSize, runSize, masterAt, sitesAt, writersAt, runsAt, totalOf, siteAt, writerAt, runAt, snapshotAt}
+use Rattle.model.specs.Algebra.{Place}
+use Rattle.model.specs.Version.{Version}
+use Rattle.model.specs.Store.{Writer, Job, Run, Site, Store, withLast, withMaster, withSites, withCache, withWriter, withRun, withState, withSnapshot}
+use Rattle.layout.specs.Words.{headerWords, placeWords, siteWords, sitesWords, writerWords, writersWords, jobsWords, runWords, runsWords, storeWords}
+use Rattle.layout.specs.Buffer.{written}
+use Rattle.layout.proofs.Codec.{Laws, many-part, many-room}
+use Rattle.layout.proofs.Parts.{place-laws, site-laws, writer-laws, jobs-laws, run-laws}
+use Rattle.layout.proofs.Whole.{toMaster, toSites, toWriters, header-long, master-long, sites-long, writers-long}
+
+-- A store into the middle one of three lists.
+sets-area : (a b c x : List ℕ) (at i : ℕ) → length a ≡ at → i + length x ≤ length b
+    → sets (a ++ b ++ c) (at + i) x ≡ a ++ sets b i x ++ c
+sets-area a b c x at i e h =
+    rw (← e)
+    (sets-left x (a ++ b) c (length a + i) (rw length-append (omega arith))
+    ∙ ap (λ (t : List ℕ). t ++ c) (sets-behind a b x i h))
+
+-- The same where it makes b into d.
+area-to : (a b c d x : List ℕ) (at i : ℕ) → length a ≡ at → i + length x ≤ length b
+    → sets b i x ≡ d → sets (a ++ b ++ c) (at + i) x ≡ a ++ d ++ c
+area-to a b c d x at i e h f =
+    sets-area a b c x at i e h ∙ ap (λ (t : List ℕ). a ++ t ++ c) f
+
+-- ---- each area between what stands before and after it
+
+afterRuns : Store → List ℕ → List ℕ
+afterRuns s l = drop (totalOf (s .counts)) l
+
+afterWriters : Store → List ℕ → List ℕ
+afterWriters s l = runsWords (s .counts) (s .run) ++ afterRuns s l
+
+afterSites : Store → List ℕ → List ℕ
+afterSites s l = writersWords (s .counts) (s .writer) ++ afterWriters s l
+
+afterMaster : Store → List ℕ → List ℕ
+afterMaster s l = sitesWords (s .counts) (s .site) ++ afterSites s l
+
+view-master : (s : Store) (l : List ℕ)
+    → written s l
+    ≡ headerWords (s .counts) (s .last) ++ placeWords (s .counts) (s .master) ++ afterMaster s l
+unfolding written storeWords afterMaster afterSites afterWriters afterRuns
+view-master s l = simp append-assoc
+
+view-sites : (s : Store) (l : List ℕ)
+    → written s l ≡ toMaster s ++ sitesWords (s .counts) (s .site) ++ afterSites s l
+unfolding written storeWords toMaster afterSites afterWriters afterRuns
+view-sites s l = simp append-assoc
+
+view-writers : (s : Store) (l : List ℕ)
+    → written s l ≡ toSites s ++ writersWords (s .counts) (s .writer) ++ afterWriters s l
+unfolding written storeWords toMaster toSites afterWriters afterRuns
+view-writers s l = simp append-assoc
+
+view-runs : (s : Store) (l : List ℕ)
+    → written s l ≡ toWriters s ++ runsWords (s .counts) (s .run) ++ afterRuns s l
+unfolding written storeWords toMaster toSites toWriters afterRuns
+view-runs s l = refl
+
+-- ---- the last number and the master
+
+pub put-last : (s : Store) (l : List ℕ) (n : ℕ) → set (written s l) 4 n ≡ written (withLast s n) l
+unfolding withLast written storeWords headerWords
+put-last s l n = refl
+
+pub put-master : (s : Store) (l : List ℕ) (p : Place Version)
+    → sets (written s l) (masterAt (s .counts)) (placeWords (s .counts) p)
+    ≡ written (withMaster s p) l
+unfolding withMaster afterMaster afterSites afterWriters afterRuns
+put-master s l p =
+    let z = s .counts in
+    let words = placeWords z p in
+    let old = placeWords z (s .master) in
+    let same : length words ≡ length old =
+    place-laws z .long p ∙ sym (place-laws z .long (s .master)) in
+    let e : masterAt z ≡ masterAt z + 0 = omega arith in
+    rw (view-master s l, e)
+    (area-to (headerWords z (s .last)) old (afterMaster s l) words words (masterAt z) 0
+    (header-long s) (omega (arith, same)) (sets-all old words same)
+    ∙ sym (view-master (withMaster s p) l))
+
+-- ---- a store within one part of a row: what it does to the part, it does to the store
+
+pub put-site-part : (s : Store) (l : List ℕ) (o i : ℕ) (x : List ℕ) (p : Place Version)
+    → o < s .counts .sites → i + length x ≤ siteSize (s .counts)
+    → sets (siteWords (s .counts) (s .site o)) i x ≡ siteWords (s .counts) (record { cache = p })
+    → sets (written s l) (siteAt (s .counts) o + i) x ≡ written (withCache s o p) l
+unfolding withCache withSites siteAt toMaster afterSites afterWriters afterRuns sitesWords
+put-site-part s l o i x p h j e =
+    let z = s .counts in
+    let L = site-laws z in
+    let k = o * siteSize z + i in
+    let g : sitesAt z + o * siteSize z + i ≡ sitesAt z + k = omega arith in
+    rw (view-sites s l, g)
+    (area-to (toMaster s) (sitesWords z (s .site)) (afterSites s l) _ x (sitesAt z) k
+    (master-long s) (many-room (z .sites) L (s .site) o i x h j)
+    (many-part (z .sites) L (s .site) o i x (record { cache = p }) h j e)
+    ∙ sym (view-sites (withCache s o p) l))
+
+pub put-writer-part : (s : Store) (l : List ℕ) (w i : ℕ) (x : List ℕ) (y : Writer)
+    → w < s .counts .writers → i + length x ≤ writerSize (s .counts)
+    → sets (writerWords (s .counts) (s .writer w)) i x ≡ writerWords (s .counts) y
+    → sets (written s l) (writerAt (s .counts) w + i) x ≡ written (withWriter s w y) l
+unfolding withWriter writerAt toMaster toSites afterWriters afterRuns writersWords
+put-writer-part s l w i x y h j e =
+    let z = s .counts in
+    let L = writer-laws z in
+    let k = w * writerSize z + i in
+    let g : writersAt z + w * writerSize z + i ≡ writersAt z + k = omega arith in
+    rw (view-writers s l, g)
+    (area-to (toSites s) (writersWords z (s .writer)) (afterWriters s l) _ x (writersAt z) k
+    (sites-long s) (many-room (z .writers) L (s .writer) w i x h j)
+    (many-part (z .writers) L (s .writer) w i x y h j e)
+    ∙ sym (view-writers (withWriter s w y) l))
+
+pub put-run-part : (s : Store) (l : List ℕ) (r i : ℕ) (x : List ℕ) (y : Run)
+    → r < s .counts .runs → i + length x ≤ runSize (s .counts)
+    → sets (runWords (s .counts) (s .run r)) i x ≡ runWords (s .counts) y
+    → sets (written s l) (runAt (s .counts) r + i) x ≡ written (withRun s r y) l
+unfolding withRun runAt toMaster toSites toWriters afterRuns runsWords
+put-run-part s l r i x y h j e =
+    let z = s .counts in
+    let L = run-laws z in
+    let k = r * runSize z + i in
+    let g : runsAt z + r * runSize z + i ≡ runsAt z + k = omega arith in
+    rw (view-runs s l, g)
+    (area-to (toWriters s) (runsWords z (s .run)) (afterRuns s l) _ x (runsAt z) k
+    (writers-long s) (many-room (z .runs) L (s .run) r i x h j)
+    (many-part (z .runs) L (s .run) r i x y h j e)
+    ∙ sym (view-runs (withRun s r y) l))
+
+-- ---- whole parts
+
+pub put-cache : (s : Store) (l : List ℕ) (o : ℕ) (p : Place Version) → o < s .counts .sites
+    → sets (written s l) (siteAt (s .counts) o) (placeWords (s .counts) p)
+    ≡ written (withCache s o p) l
+unfolding siteWords siteSize
+put-cache s l o p h =
+    let z = s .counts in
+    let L = place-laws z in
+    let c = s .site o .cache in
+    let e : siteAt z o ≡ siteAt z o + 0 = omega arith in
+    rw e (put-site-part s l o 0 (placeWords z p) p h (omega (arith, L .long p))
+    (sets-all (placeWords z c) (placeWords z p) (L .long p ∙ sym (L .long c))))
+
+pub put-writer : (s : Store) (l : List ℕ) (w : ℕ) (y : Writer) → w < s .counts .writers
+    → sets (written s l) (writerAt (s .counts) w) (writerWords (s .counts) y)
+    ≡ written (withWriter s w y) l
+put-writer s l w y h =
+    let z = s .counts in
+    let L = writer-laws z in
+    let x = s .writer w in
+    let e : writerAt z w ≡ writerAt z w + 0 = omega arith in
+    rw e (put-writer-part s l w 0 (writerWords z y) y h (omega (arith, L .long y))
+    (sets-all (writerWords z x) (writerWords z y) (L .long y ∙ sym (L .long x))))
+
+pub put-run : (s : Store) (l : List ℕ) (r : ℕ) (y : Run) → r < s .counts .runs
+    → sets (written s l) (runAt (s .counts) r) (runWords (s .counts) y) ≡ written (withRun s r y) l
+put-run s l r y h =
+    let z = s .counts in
+    let L = run-laws z in
+    let x = s .run r in
+    let e : runAt z r ≡ runAt z r + 0 = omega arith in
+    rw e (put-run-part s l r 0 (runWords z y) y h (omega (arith, L .long y))
+    (sets-all (runWords z x) (runWords z y) (L .long y ∙ sym (L .long x))))
+
+-- ---- words and parts of a run
+
+pub put-state : (s : Store) (l : List ℕ) (r x : ℕ) → r < s .counts .runs
+    → set (written s l) (runAt (s .counts) r) x ≡ written (withRun s r (withState (s .run r) x)) l
+unfolding runSize runWords withState
+put-state s l r x h =
+    let e : runAt (s .counts) r ≡ runAt (s .counts) r + 0 = omega arith in
+    rw e (put-run-part s l r 0 (x ∷ []) (withState (s .run r) x) h (omega arith) refl)
+
+pub put-snapshot : (s : Store) (l : List ℕ) (r : ℕ) (p : Place Version) → r < s .counts .runs
+    → sets (written s l) (snapshotAt (s .counts) r) (placeWords (s .counts) p)
+    ≡ written (withRun s r (withSnapshot (s .run r) p)) l
+unfolding runSize runWords withSnapshot snapshotAt
+put-snapshot s l r p h =
+    let z = s .counts in
+    let a = s .run r in
+    let L = place-laws z in
+    let new = placeWords z p in
+    let before = a .state ∷ a .jobs ∷ a .done ∷ a .read ∷ jobsWords (a .job) in
+    let old = placeWords z (a .snapshot) in
+    let e : length before ≡ 28 = omega (arith, jobs-laws .long (a .job)) in
+    let same : length new ≡ length old = L .long p ∙ sym (L .long (a .snapshot)) in
+    put-run-part s l r 28 new (withSnapshot a p) h (omega (arith, L .long p))
+    (ap (λ (i : ℕ). sets (runWords z a) i new) (sym e ∙ sym (add-zero (length before)))
+    ∙ sets-behind before old new 0 (omega arith)
+    ∙ ap (λ (t : List ℕ). before ++ t) (sets-all old new same))
