@@ -5,3 +5,5 @@ pub mod Whole
 pub mod Fit
 pub mod Updates
 pub mod Follow
+pub mod Formed
+pub mod Plans

@@ -14,14 +14,14 @@ use Rattle.sizes.specs.Bounds.{maxKeys, maxWriters, maxSites, maxRuns, b
 
 -- ---- counts in range
 
-between-out : (top x : ℕ) → So (between top x) → (1 ≤ x) × (x ≤ top)
+pub between-out : (top x : ℕ) → So (between top x) → (1 ≤ x) × (x ≤ top)
 unfolding between
 between-out top x p =
     let a = and-left (leb 1 x) (leb x top) p in
     let b = and-right (leb 1 x) (leb x top) p in
     (leb-le 1 x a, leb-le x top b)
 
-between-in : (top x : ℕ) → 1 ≤ x → x ≤ top → So (between top x)
+pub between-in : (top x : ℕ) → 1 ≤ x → x ≤ top → So (between top x)
 unfolding between
 between-in top x a b = and-intro (le-leb 1 x a) (le-leb x top b)
 

@@ -1,0 +1,189 @@
+-- Laws of the form of versions, places and stores.
+-- version-..: one version. formed-..: a place, and a store with one part changed.
+-- Formed: the test of the store as a record; well-out, well-in.
+-- Assumes nothing.
+use mathlib.Core.Path.{_≡_, refl, sym, ap, _∙_}
+use mathlib.Core.Bool.{Bool, true, false, cond, not, So, _&&_}
+use Prim.Native.Nat.{ℕ, _+_, _≤_, _<_, max}
+use native.Mathlib.Omega.{arith}
+use native.Mathlib.Decide.{ℕ-discrete}
+use lib.Dec.{leb}
+use Rattle.words.specs.Tests.{allBelow}
+use Rattle.words.specs.Lists.{putAt}
+use Rattle.words.proofs.Bools.{test, clash, and-intro, and-left, and-right, not-intro, leb-le, le-leb, leb-gt}
+use Rattle.words.proofs.Tests.{all-intro, all-at, any-no}
+use Rattle.words.proofs.Lists.{putAt-same, putAt-other}
+use Rattle.clock.specs.Clock.{Clock, present, join}
+use Rattle.clock.proofs.Order.{present-some, present-intro}
+use Rattle.sizes.specs.declared.Counts.{Counts}
+use Rattle.model.specs.Algebra.{Place}
+use Rattle.model.specs.Version.{Version, unheld, zeroPast, held, larger, merge}
+use Rattle.model.specs.Store.{Writer, Run, Site, Store, emptyPlace, withLast, withMaster, withSites, withCache, withWriter, withRun}
+use Rattle.model.specs.Form.{zeroRows, versionFormed, placeFormed, runFormed, wellFormed}
+
+-- ---- versions
+
+-- A version of key k: no words if it isn't held, otherwise an own row that isn't zero.
+abbrev pub VersionFormed : Counts → ℕ → Version → Type 0
+VersionFormed z k v = So (versionFormed z k v)
+
+zero-absent : (W : ℕ) → present W (λ w. 0) ≡ false
+unfolding present
+zero-absent W = any-no W (λ w. leb 1 0) (λ w h. refl)
+
+pub zero-rows : (z : Counts) → So (zeroRows z unheld)
+unfolding zeroRows
+zero-rows z =
+    all-intro (z .keys) (λ d. not (present (z .writers) (zeroPast d)))
+    (λ d h. not-intro (zero-absent (z .writers)))
+
+pub version-unheld : (z : Counts) (k : ℕ) → VersionFormed z k unheld
+unfolding versionFormed held
+version-unheld z k = zero-rows z
+
+-- A held version with an own row that isn't zero.
+pub version-held : (z : Counts) (k : ℕ) (v : Version) → So (held v)
+    → So (present (z .writers) (v .past k)) → VersionFormed z k v
+unfolding versionFormed
+version-held z k v h p = rw h p
+
+pub version-row : (z : Counts) (k : ℕ) (v : Version) → VersionFormed z k v → So (held v)
+    → So (present (z .writers) (v .past k))
+unfolding versionFormed
+version-row z k v F h = rw h at F
+
+-- The larger of two is held, and present, if one of them is.
+larger-held : (a b : Version) → So (held a) → So (held (larger a b))
+unfolding held larger
+larger-held a b h = le-leb 1 (max (a .issue) (b .issue)) (omega (arith, leb-le 1 (a .issue) h))
+
+join-present-left : (W : ℕ) (p q : Clock) → So (present W p) → So (present W (join p q))
+unfolding join
+join-present-left W p q s =
+    let r = present-some W p s in
+    present-intro W (join p q) (r .0) (r .1) (omega (arith, r .2))
+
+version-larger : (z : Counts) (k : ℕ) (a b : Version) → VersionFormed z k a → So (held a)
+    → VersionFormed z k (larger a b)
+unfolding larger
+version-larger z k a b F h =
+    version-held z k (larger a b) (larger-held a b h)
+    (join-present-left (z .writers) (a .past k) (b .past k) (version-row z k a F h))
+
+pub version-merge : (z : Counts) (k : ℕ) (a b : Version)
+    → VersionFormed z k a → VersionFormed z k b → VersionFormed z k (merge a b)
+unfolding merge
+version-merge z k a b F G =
+    test (held a)
+    (λ h. test (held b) (λ i. rw (h, i) (version-larger z k a b F h)) (λ i. rw (h, i) F))
+    (λ h. rw h G)
+
+pub merge-held-left : (a b : Version) → So (held a) → So (held (merge a b))
+unfolding merge
+merge-held-left a b h =
+    test (held b) (λ i. rw (h, i) (larger-held a b h)) (λ i. rw (h, i) h)
+
+pub merge-held-right : (a b : Version) → So (held b) → So (held (merge a b))
+unfolding merge
+merge-held-right a b h =
+    test (held a) (λ i. rw (i, h) (larger-held a b i)) (λ i. rw i h)
+
+-- ---- places
+
+abbrev pub PlaceFormed : Counts → Place Version → Type 0
+PlaceFormed z p = (k : ℕ) → k < z .keys → VersionFormed z k (p k)
+
+pub place-out : (z : Counts) (p : Place Version) → So (placeFormed z p) → PlaceFormed z p
+unfolding placeFormed
+place-out z p F = all-at (z .keys) (λ k. versionFormed z k (p k)) F
+
+pub place-in : (z : Counts) (p : Place Version) → PlaceFormed z p → So (placeFormed z p)
+unfolding placeFormed
+place-in z p F = all-intro (z .keys) (λ k. versionFormed z k (p k)) F
+
+pub formed-empty : (z : Counts) → PlaceFormed z emptyPlace
+formed-empty z k h = version-unheld z k
+
+-- One of two places for each key.
+pub formed-choice : (z : Counts) (b : ℕ → Bool) (p q : Place Version)
+    → PlaceFormed z p → PlaceFormed z q → PlaceFormed z (λ k. cond (b k) (p k) (q k))
+formed-choice z b p q F G k h = test (b k) (λ t. rw t (F k h)) (λ t. rw t (G k h))
+
+-- ---- the store
+
+pub record Formed (s : Store) : Type 0 where
+  pub master : PlaceFormed (s .counts) (s .master)
+  pub cache : (o : ℕ) → o < s .counts .sites → PlaceFormed (s .counts) (s .site o .cache)
+  pub run : (r : ℕ) → r < s .counts .runs → So (runFormed (s .counts) (s .run r))
+
+pub well-out : (s : Store) → So (wellFormed s) → Formed s
+unfolding wellFormed
+well-out s p =
+    let z = s .counts in
+    let m = placeFormed z (s .master) in
+    let o = allBelow (z .sites) (λ o. placeFormed z (s .site o .cache)) in
+    let r = allBelow (z .runs) (λ r. runFormed z (s .run r)) in
+    let q = and-right m (o && r) p in
+    record {
+      master = place-out z (s .master) (and-left m (o && r) p);
+      cache = λ i h. place-out z (s .site i .cache)
+          (all-at (z .sites) (λ o. placeFormed z (s .site o .cache)) (and-left o r q) i h);
+      run = all-at (z .runs) (λ r. runFormed z (s .run r)) (and-right o r q);
+    }
+
+pub well-in : (s : Store) → Formed s → So (wellFormed s)
+unfolding wellFormed
+well-in s F =
+    let z = s .counts in
+    and-intro (place-in z (s .master) (F .master))
+    (and-intro
+    (all-intro (z .sites) (λ o. placeFormed z (s .site o .cache))
+    (λ o h. place-in z (s .site o .cache) (F .cache o h)))
+    (all-intro (z .runs) (λ r. runFormed z (s .run r)) (F .run)))
+
+-- A changed function, where what stood there and what is put there is as asked.
+pub at-put : {A : Type 0} (P : A → Type 0) (n : ℕ) (f : ℕ → A) (i : ℕ) (a : A)
+    → ((j : ℕ) → j < n → P (f j)) → P a → (j : ℕ) → j < n → P (putAt f i a j)
+at-put P n f i a F G j h =
+    elim (ℕ-discrete j i) [
+      | yes e ↦ rw (e, putAt-same f i a) G
+      | no e ↦ rw (putAt-other f i a j e) (F j h)
+    ]
+
+module _ (s : Store) (F : Formed s) where
+  pub formed-last : (n : ℕ) → Formed (withLast s n)
+  unfolding withLast
+  formed-last n = record { master = F .master; cache = F .cache; run = F .run }
+
+  pub formed-master : (p : Place Version) → PlaceFormed (s .counts) p → Formed (withMaster s p)
+  unfolding withMaster
+  formed-master p G = record { master = G; cache = F .cache; run = F .run }
+
+  pub formed-sites : (f : ℕ → Site)
+      → ((o : ℕ) → o < s .counts .sites → PlaceFormed (s .counts) (f o .cache))
+      → Formed (withSites s f)
+  unfolding withSites
+  formed-sites f G = record { master = F .master; cache = G; run = F .run }
+
+  pub formed-cache : (o : ℕ) (p : Place Version) → PlaceFormed (s .counts) p
+      → Formed (withCache s o p)
+  unfolding withCache
+  formed-cache o p G =
+      let z = s .counts in
+      let x : Site = record { cache = p } in
+      formed-sites (putAt (s .site) o x)
+      (at-put (λ (x : Site). PlaceFormed z (x .cache)) (z .sites) (s .site) o x (F .cache) G)
+
+  pub formed-writer : (w : ℕ) (x : Writer) → Formed (withWriter s w x)
+  unfolding withWriter
+  formed-writer w x = record { master = F .master; cache = F .cache; run = F .run }
+
+  pub formed-run : (r : ℕ) (x : Run) → So (runFormed (s .counts) x) → Formed (withRun s r x)
+  unfolding withRun
+  formed-run r x G =
+      let z = s .counts in
+      record {
+        master = F .master;
+        cache = F .cache;
+        run = at-put (λ (x : Run). So (runFormed z x)) (z .runs) (s .run) r x (F .run) G;
+      }

@@ -1,0 +1,183 @@
+-- Laws of the form of a run.
+-- Valid: a valid job. Plan: the form of a run that isn't free, as a record; plan-out, plan-in.
+-- Assumes nothing.
+use mathlib.Core.Path.{_≡_, refl, sym, ap, _∙_}
+use mathlib.Core.Bool.{Bool, true, false, cond, not, So, _&&_}
+use mathlib.Core.Logic.{⊎-elim}
+use Prim.Native.Nat.{ℕ, _+_, _≤_, _<_, _^_}
+use native.Mathlib.Omega.{arith}
+use lib.Dec.{eqb, leb, ltb}
+use Rattle.words.specs.Tests.{Items, allBelow}
+use Rattle.words.proofs.Bools.{test, clash, and-intro, and-left, and-right, or-right, not-intro, leb-le, le-leb, ltb-lt, lt-ltb, ge-ltb, eqb-eq, eq-eqb, ne-eqb}
+use Rattle.words.proofs.Tests.{below-or-not, all-intro, all-at}
+use Rattle.masks.specs.Mask.{testBit, maskBelow}
+use Rattle.sizes.specs.declared.Counts.{Counts}
+use Rattle.sizes.specs.Bounds.{maxJobs, between}
+use Rattle.sizes.proofs.Offsets.{between-out, between-in}
+use Rattle.model.specs.Algebra.{Place, implies}
+use Rattle.model.specs.Version.{Version, unheld, held}
+use Rattle.model.specs.Store.{Job, Run, freeRun, noJob, planned, doneReads}
+use Rattle.model.specs.Form.{validJob, zeroJob, zeroRows, placeFormed, freeFormed, jobsFormed, masksFormed, snapshotFormed, runFormed}
+use Rattle.layout.proofs.Formed.{PlaceFormed, place-out, place-in, zero-rows}
+
+-- ---- a test that asks for another
+
+implies-out : (a b : Bool) → So (implies a b) → So a → So b
+implies-out true b p q = p
+implies-out false b p q = clash q refl
+
+implies-in : (a b : Bool) → (So a → So b) → So (implies a b)
+implies-in true b f = f refl
+implies-in false b f = refl
+
+-- ---- jobs
+
+pub record Valid (z : Counts) (i : ℕ) (j : Job) : Type 0 where
+  pub site : j .site < z .sites
+  pub reads : j .reads < 2 ^ z .keys
+  pub upstream : j .upstream < 2 ^ i
+
+pub valid-out : (z : Counts) (i : ℕ) (j : Job) → So (validJob z i j) → Valid z i j
+unfolding validJob
+valid-out z i j p =
+    let a = ltb (j .site) (z .sites) in
+    let b = ltb (j .reads) (2 ^ z .keys) in
+    let c = ltb (j .upstream) (2 ^ i) in
+    let q = and-right a (b && c) p in
+    record {
+      site = ltb-lt _ _ (and-left a (b && c) p);
+      reads = ltb-lt _ _ (and-left b c q);
+      upstream = ltb-lt _ _ (and-right b c q);
+    }
+
+pub zero-job : So (zeroJob noJob)
+unfolding zeroJob
+zero-job = refl
+
+-- ---- the three parts of a run's form
+
+pub record Jobs (z : Counts) (a : Run) : Type 0 where
+  pub low : 1 ≤ a .jobs
+  pub high : a .jobs ≤ maxJobs
+  pub valid : (i : ℕ) → i < a .jobs → So (validJob z i (a .job i))
+  pub beyond : (i : ℕ) → i < maxJobs → a .jobs ≤ i → So (zeroJob (a .job i))
+
+-- What is asked of job i.
+abbrev jobTest : Counts → Run → ℕ → Bool
+jobTest z a i = cond (ltb i (a .jobs)) (validJob z i (a .job i)) (zeroJob (a .job i))
+
+jobs-out : (z : Counts) (a : Run) → So (jobsFormed z a) → Jobs z a
+unfolding jobsFormed
+jobs-out z a p =
+    let b = between maxJobs (a .jobs) in
+    let range = between-out maxJobs (a .jobs) (and-left b (allBelow maxJobs (jobTest z a)) p) in
+    let each = all-at maxJobs (jobTest z a) (and-right b (allBelow maxJobs (jobTest z a)) p) in
+    record {
+      low = range .0;
+      high = range .1;
+      valid = λ i h. let t = each i (omega (arith, range .1)) in rw (lt-ltb i (a .jobs) h) at t;
+      beyond = λ i l h. let t = each i l in rw (ge-ltb i (a .jobs) h) at t;
+    }
+
+jobs-in : (z : Counts) (a : Run) → Jobs z a → So (jobsFormed z a)
+unfolding jobsFormed
+jobs-in z a J =
+    and-intro (between-in maxJobs (a .jobs) (J .low) (J .high))
+    (all-intro maxJobs (jobTest z a) (λ i l. ⊎-elim
+    (λ h. rw (lt-ltb i (a .jobs) h) (J .valid i h))
+    (λ h. rw (ge-ltb i (a .jobs) h) (J .beyond i l h)) (below-or-not i (a .jobs))))
+
+pub record Masks (z : Counts) (a : Run) : Type 0 where
+  pub done : a .done < 2 ^ a .jobs
+  pub read : a .read ≡ maskBelow (z .keys) (doneReads (a .jobs) (a .job) (a .done))
+
+masks-out : (z : Counts) (a : Run) → So (masksFormed z a) → Masks z a
+unfolding masksFormed
+masks-out z a p =
+    let d = ltb (a .done) (2 ^ a .jobs) in
+    let reads = maskBelow (z .keys) (doneReads (a .jobs) (a .job) (a .done)) in
+    record {
+      done = ltb-lt _ _ (and-left d (eqb (a .read) reads) p);
+      read = eqb-eq _ _ (and-right d (eqb (a .read) reads) p);
+    }
+
+masks-in : (z : Counts) (a : Run) → Masks z a → So (masksFormed z a)
+unfolding masksFormed
+masks-in z a M = and-intro (lt-ltb _ _ (M .done)) (eq-eqb _ _ (M .read))
+
+pub record Snapshot (z : Counts) (a : Run) : Type 0 where
+  pub place : PlaceFormed z (a .snapshot)
+  pub carried : (k : ℕ) → k < z .keys → So (held (a .snapshot k))
+      → So (planned (a .jobs) (a .job) k)
+  pub read : (k : ℕ) → k < z .keys → So (testBit (a .read) k) → So (held (a .snapshot k))
+
+-- What is asked of key k.
+abbrev keyTest : Run → ℕ → Bool
+keyTest a k =
+    implies (held (a .snapshot k)) (planned (a .jobs) (a .job) k)
+    && implies (testBit (a .read) k) (held (a .snapshot k))
+
+snapshot-out : (z : Counts) (a : Run) → So (snapshotFormed z a) → Snapshot z a
+unfolding snapshotFormed
+snapshot-out z a p =
+    let b = placeFormed z (a .snapshot) in
+    let each = all-at (z .keys) (keyTest a) (and-right b (allBelow (z .keys) (keyTest a)) p) in
+    let plan : ℕ → Bool = planned (a .jobs) (a .job) in
+    record {
+      place = place-out z (a .snapshot) (and-left b (allBelow (z .keys) (keyTest a)) p);
+      carried = λ k h. implies-out (held (a .snapshot k)) (plan k) (and-left
+          (implies (held (a .snapshot k)) (plan k))
+          (implies (testBit (a .read) k) (held (a .snapshot k))) (each k h));
+      read = λ k h. implies-out (testBit (a .read) k) (held (a .snapshot k)) (and-right
+          (implies (held (a .snapshot k)) (plan k))
+          (implies (testBit (a .read) k) (held (a .snapshot k))) (each k h));
+    }
+
+snapshot-in : (z : Counts) (a : Run) → Snapshot z a → So (snapshotFormed z a)
+unfolding snapshotFormed
+snapshot-in z a S =
+    and-intro (place-in z (a .snapshot) (S .place))
+    (all-intro (z .keys) (keyTest a) (λ k h. and-intro
+    (implies-in (held (a .snapshot k)) (planned (a .jobs) (a .job) k) (S .carried k h))
+    (implies-in (testBit (a .read) k) (held (a .snapshot k)) (S .read k h))))
+
+-- ---- a run that isn't free
+
+pub record Plan (z : Counts) (a : Run) : Type 0 where
+  pub state : a .state ≤ 2
+  pub jobs : Jobs z a
+  pub masks : Masks z a
+  pub snapshot : Snapshot z a
+
+pub plan-out : (z : Counts) (a : Run) → 1 ≤ a .state → So (runFormed z a) → Plan z a
+unfolding runFormed
+plan-out z a h p =
+    let s = leb (a .state) 2 in
+    let j = jobsFormed z a in
+    let m = masksFormed z a in
+    let c = snapshotFormed z a in
+    let q : So (s && (j && (m && c))) = rw (ne-eqb (a .state) 0 (λ e. omega arith)) at p in
+    let q₁ = and-right s (j && (m && c)) q in
+    let q₂ = and-right j (m && c) q₁ in
+    record {
+      state = leb-le _ _ (and-left s (j && (m && c)) q);
+      jobs = jobs-out z a (and-left j (m && c) q₁);
+      masks = masks-out z a (and-left m c q₂);
+      snapshot = snapshot-out z a (and-right m c q₂);
+    }
+
+pub plan-in : (z : Counts) (a : Run) → 1 ≤ a .state → Plan z a → So (runFormed z a)
+unfolding runFormed
+plan-in z a h P =
+    rw (ne-eqb (a .state) 0 (λ e. omega arith))
+    (and-intro (le-leb _ _ (P .state))
+    (and-intro (jobs-in z a (P .jobs))
+    (and-intro (masks-in z a (P .masks)) (snapshot-in z a (P .snapshot)))))
+
+-- ---- a free run
+
+pub free-formed : (z : Counts) → So (runFormed z freeRun)
+unfolding runFormed freeFormed held
+free-formed z =
+    and-intro (all-intro maxJobs (λ i. zeroJob noJob) (λ i h. zero-job))
+    (all-intro (z .keys) (λ k. not (held unheld) && zeroRows z unheld) (λ k h. zero-rows z))
