@@ -1,20 +1,22 @@
 -- A changed part keeps the store in range.
 -- fit-..: of a part, and of a store with one part changed.
 -- Assumes nothing.
-use mathlib.Core.Path.{_≡_, refl, sym, ap, _∙_}
+use mathlib.Core.Path.{_≡_, refl, ap, _∙_, fun-ext}
 use mathlib.Core.Bool.{Bool, true, false, cond}
+use mathlib.Core.Logic.{_⊎_, inl, inr, ⊎-elim}
 use Prim.Native.Nat.{ℕ, _≤_, _<_}
 use native.Mathlib.Omega.{arith}
 use native.Mathlib.Decide.{ℕ-discrete}
 use Rattle.words.specs.Lists.{putAt}
+use Rattle.words.proofs.Tests.{below-or-not}
 use Rattle.words.proofs.Lists.{putAt-same, putAt-other}
-use Rattle.clock.specs.Clock.{join}
+use Rattle.clock.specs.Clock.{Clock, join}
 use Rattle.sizes.specs.declared.Counts.{Counts}
 use Rattle.model.specs.Algebra.{Place}
 use Rattle.model.specs.Version.{Version, unheld, held, larger, merge}
 use Rattle.model.specs.Store.{Writer, Run, Site, Store, emptyPlace, noWriter, noSite, freeRun, fresh, withLast, withMaster, withSites, withCache, withWriter, withRun, withState, withSnapshot}
 use Rattle.layout.proofs.Codec.{FitMany}
-use Rattle.layout.proofs.Parts.{FitVersion, FitPlace, FitSite, FitSites, FitWriter, FitRun}
+use Rattle.layout.proofs.Parts.{FitPast, FitVersion, FitPlace, FitSite, FitSites, FitWriter, FitRun}
 use Rattle.layout.proofs.Whole.{FitStore}
 
 -- ---- what stands where nothing does
@@ -100,6 +102,26 @@ fit-merge z a b F G = go (held a) (held b)
     go true true = fit-larger z a b F G
     go true false = F
     go false y = G
+
+-- A past is zero outside of the counts, and fits if it is.
+pub past-out : (z : Counts) (p : ℕ → Clock) → FitPast z p → (d w : ℕ)
+    → (z .keys ≤ d) ⊎ (z .writers ≤ w) → p d w ≡ 0
+past-out z p F d w (inl h) = ap (λ (c : Clock). c w) (F .rest d h)
+past-out z p F d w (inr h) =
+    ⊎-elim (λ i. F .each d i .rest w h) (λ i. ap (λ (c : Clock). c w) (F .rest d i))
+    (below-or-not d (z .keys))
+
+pub past-in : (z : Counts) (p : ℕ → Clock)
+    → ((d w : ℕ) → (z .keys ≤ d) ⊎ (z .writers ≤ w) → p d w ≡ 0) → FitPast z p
+past-in z p f = record {
+  each = λ d h. record { each = λ w i. record {}; rest = λ w i. f d w (inr i) };
+  rest = λ d h. fun-ext (λ w. f d w (inl h));
+}
+
+-- Every version of a place fits, also beyond the counts.
+pub place-fit : (z : Counts) (p : Place Version) → FitPlace z p → (k : ℕ) → FitVersion z (p k)
+place-fit z p F k =
+    ⊎-elim (λ h. F .each k h) (λ h. rw (F .rest k h) (fit-unheld z)) (below-or-not k (z .keys))
 
 -- ---- the store with one part changed
 

@@ -7,3 +7,6 @@ pub mod Updates
 pub mod Follow
 pub mod Formed
 pub mod Plans
+pub mod Kept
+pub mod KeptOpen
+pub mod KeptIssue

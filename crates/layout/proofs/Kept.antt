@@ -1,0 +1,154 @@
+-- What every rule keeps: a fine store stays fine, with the same counts.
+-- Kept: of an outcome. no-cause, no-lack: what a cause of 0 says.
+-- look-kept, drop-kept, fetch-kept, evict-kept: of these rules.
+-- Assumes nothing.
+use mathlib.Core.Path.{_≡_, refl, sym, ap, _∙_}
+use mathlib.Core.Bool.{Bool, true, false, cond, not, So}
+use mathlib.Core.List.{List}
+use Prim.Native.Nat.{ℕ, _≤_, _<_}
+use native.Mathlib.Omega.{arith}
+use lib.Dec.{eqb, leb}
+use Rattle.words.specs.Tests.{Items, only}
+use Rattle.words.proofs.Bools.{test, leb-gt, eqb-eq}
+use Rattle.sizes.specs.declared.Counts.{Counts}
+use Rattle.sizes.specs.Bounds.{Ranged}
+use Rattle.model.specs.Algebra.{Place}
+use Rattle.model.specs.Version.{Version, versions}
+use Rattle.model.specs.Sets.{fetchSet, fetched, evictSet, evicted}
+use Rattle.model.specs.Store.{Store, emptyPlace, freeRun, fresh, withSites, withCache, withRun}
+use Rattle.model.specs.Form.{wellFormed}
+use Rattle.model.specs.Outcome.{Outcome, refused, broken, done, refuse, unless}
+use Rattle.model.specs.Caches.{fetchCause, fetchDone, fetchRule, evictCause, evictDone, evictRule}
+use Rattle.model.specs.Runs.{dropCause, dropDone, dropRule}
+use Rattle.model.specs.Look.{lookCause, lookDone, lookRule}
+use Rattle.layout.proofs.Parts.{FitPlace}
+use Rattle.layout.proofs.Whole.{FitStore}
+use Rattle.layout.proofs.Fit.{fit-empty, fit-free, fit-choice, fit-cache, fit-run, fresh-fits}
+use Rattle.layout.proofs.Formed.{PlaceFormed, formed-empty, formed-choice, Formed, well-out, well-in, formed-cache, formed-run}
+use Rattle.layout.proofs.Plans.{free-formed}
+use Rattle.layout.proofs.Follow.{nextStore, Fine}
+
+pub record Kept (s : Store) (x : Outcome) : Type 0 where
+  pub fine : Fine (nextStore x s)
+  pub counts : nextStore x s .counts ≡ s .counts
+
+-- ---- outcomes
+
+pub kept-refused : (s : Store) (n : ℕ) → Fine s → Kept s (refused n)
+unfolding nextStore
+kept-refused s n F = record { fine = F; counts = refl }
+
+-- A next store with the counts of a fine one.
+pub fine-next : (s t : Store) → Fine s → FitStore t → Formed t → t .counts ≡ s .counts → Fine t
+fine-next s t F G H e = record { fits = G; counts = rw e (F .counts); formed = well-in t H }
+
+pub kept-done : (s t : Store) (a : List ℕ) → Fine s → FitStore t → Formed t
+    → t .counts ≡ s .counts → Kept s (done a t)
+unfolding nextStore
+kept-done s t a F G H e = record { fine = fine-next s t F G H e; counts = e }
+
+pub kept-broken : (s t : Store) (m : ℕ) → Fine s → FitStore t → Formed t
+    → t .counts ≡ s .counts → Kept s (broken m t)
+unfolding nextStore
+kept-broken s t m F G H e = record { fine = fine-next s t F G H e; counts = e }
+
+pub kept-unless : (s : Store) (n : ℕ) (x : Outcome) → Fine s → (n ≡ 0 → Kept s x)
+    → Kept s (unless n x)
+unfolding unless
+kept-unless s n x F f =
+    test (eqb n 0) (λ t. rw t (f (eqb-eq n 0 t))) (λ t. rw t (kept-refused s n F))
+
+-- The first of a row of causes does not hold, and the others are left.
+pub no-cause : (b : Bool) (n m : ℕ) → 0 < n → refuse b n m ≡ 0 → (b ≡ false) × (m ≡ 0)
+unfolding refuse
+no-cause true n m h e = absurd (omega arith)
+no-cause false n m h e = (refl, e)
+
+-- The same for a cause that something is lacking.
+pub no-lack : (b : Bool) (n m : ℕ) → 0 < n → refuse (not b) n m ≡ 0 → So b × (m ≡ 0)
+unfolding refuse
+no-lack true n m h e = (refl, e)
+no-lack false n m h e = absurd (omega arith)
+
+-- ---- a fresh store
+
+pub fresh-fine : (z : Counts) → Ranged z → Fine (fresh z)
+unfolding fresh
+fresh-fine z R = record {
+  fits = fresh-fits z;
+  counts = R;
+  formed = well-in (fresh z) (record {
+    master = formed-empty z;
+    cache = λ o h. formed-empty z;
+    run = λ r h. free-formed z;
+  });
+}
+
+-- ---- look and drop
+
+pub look-kept : (p i k : ℕ) (s : Store) → Fine s → Kept s (lookRule p i k s)
+unfolding lookRule lookDone
+look-kept p i k s F =
+    kept-unless s (lookCause s p i k) (lookDone s p i k) F
+    (λ _. kept-done s s _ F (F .fits) (well-out s (F .formed)) refl)
+
+pub drop-kept : (r : ℕ) (s : Store) → Fine s → Kept s (dropRule r s)
+unfolding dropRule dropDone dropCause withRun
+drop-kept r s F =
+    kept-unless s (dropCause s r) (dropDone s r) F (λ e.
+    let z = s .counts in
+    let h : r < z .runs = leb-gt _ _ (no-cause _ 3 _ (omega arith) e .0) in
+    kept-done s (withRun s r freeRun) _ F (fit-run s (F .fits) r freeRun h (fit-free z))
+    (formed-run s (well-out s (F .formed)) r freeRun (free-formed z)) refl)
+
+-- ---- fetch and evict
+
+-- A cache with some of the master's versions.
+pub fetched-fits : (z : Counts) (master cache : Place Version) (start : Items)
+    → FitPlace z master → FitPlace z cache
+    → FitPlace z (fetched (versions (z .writers)) (z .keys) master cache start)
+unfolding fetched
+fetched-fits z master cache start F G =
+    fit-choice z (fetchSet (versions (z .writers)) (z .keys) master cache start) master cache F G
+
+pub fetched-formed : (z : Counts) (master cache : Place Version) (start : Items)
+    → PlaceFormed z master → PlaceFormed z cache
+    → PlaceFormed z (fetched (versions (z .writers)) (z .keys) master cache start)
+unfolding fetched
+fetched-formed z master cache start F G =
+    let T = fetchSet (versions (z .writers)) (z .keys) master cache start in
+    formed-choice z T master cache F G
+
+-- A store with another cache.
+cache-kept : (s : Store) (o : ℕ) (p : Place Version) (a : List ℕ) → Fine s → o < s .counts .sites
+    → FitPlace (s .counts) p → PlaceFormed (s .counts) p → Kept s (done a (withCache s o p))
+unfolding withCache withSites
+cache-kept s o p a F h G H =
+    kept-done s (withCache s o p) a F (fit-cache s (F .fits) o p h G)
+    (formed-cache s (well-out s (F .formed)) o p H) refl
+
+pub fetch-kept : (o k : ℕ) (s : Store) → Fine s → Kept s (fetchRule o k s)
+unfolding fetchRule fetchDone fetchCause
+fetch-kept o k s F =
+    kept-unless s (fetchCause s o k) (fetchDone s o k) F (λ e.
+    let z = s .counts in
+    let G = well-out s (F .formed) in
+    let p = fetched (versions (z .writers)) (z .keys) (s .master) (s .site o .cache) (only k) in
+    let h : o < z .sites = leb-gt _ _ (no-cause _ 3 _ (omega arith) e .0) in
+    cache-kept s o p _ F h
+    (fetched-fits z (s .master) (s .site o .cache) (only k) (F .fits .master)
+    (F .fits .site .each o h .cache))
+    (fetched-formed z (s .master) (s .site o .cache) (only k) (G .master) (G .cache o h)))
+
+pub evict-kept : (o k : ℕ) (s : Store) → Fine s → Kept s (evictRule o k s)
+unfolding evictRule evictDone evictCause evicted
+evict-kept o k s F =
+    kept-unless s (evictCause s o k) (evictDone s o k) F (λ e.
+    let z = s .counts in
+    let G = well-out s (F .formed) in
+    let cache = s .site o .cache in
+    let gone = evictSet (versions (z .writers)) (z .keys) cache (only k) in
+    let h : o < z .sites = leb-gt _ _ (no-cause _ 3 _ (omega arith) e .0) in
+    cache-kept s o _ _ F h
+    (fit-choice z gone emptyPlace cache (fit-empty z) (F .fits .site .each o h .cache))
+    (formed-choice z gone emptyPlace cache (formed-empty z) (G .cache o h)))

@@ -1,0 +1,108 @@
+-- Open keeps a store fine.
+-- Assumes nothing.
+use mathlib.Core.Path.{_≡_, refl, sym, ap, _∙_}
+use mathlib.Core.Bool.{Bool, false, not, So, _&&_}
+use mathlib.Core.List.{List}
+use Prim.Native.Nat.{ℕ, _*_, _≤_, _<_}
+use native.Mathlib.Omega.{arith}
+use lib.Dec.{eqb}
+use lib.ListN.{length}
+use lib.Pow.{pow-pos}
+use Rattle.words.specs.Tests.{allBelow, anyBelow}
+use Rattle.words.proofs.Bools.{clash, and-left, and-right, leb-gt, eqb-eq}
+use Rattle.words.proofs.Tests.{any-no, all-at}
+use Rattle.words.proofs.Lists.{upto-in, upto-out}
+use Rattle.masks.specs.Mask.{testBit, maskBelow}
+use Rattle.masks.proofs.Bits.{test-none}
+use Rattle.masks.proofs.Sets.{set-none}
+use Rattle.sizes.specs.declared.Counts.{Counts}
+use Rattle.sizes.specs.Bounds.{maxJobs, between}
+use Rattle.sizes.proofs.Offsets.{between-out}
+use Rattle.model.specs.Version.{held}
+use Rattle.model.specs.Store.{Job, Store, noJob, doneReads, withRun}
+use Rattle.model.specs.Form.{validJob, runFormed}
+use Rattle.model.specs.Runs.{listedJob, listedCount, listedJobs, listValid, openCause, openedRun, openDone, openRule}
+use Rattle.layout.proofs.Parts.{FitRun}
+use Rattle.layout.proofs.Fit.{fit-empty, fit-run}
+use Rattle.layout.proofs.Formed.{formed-empty, well-out, formed-run}
+use Rattle.layout.proofs.Plans.{zero-job, plan-in}
+use Rattle.layout.proofs.Follow.{Fine}
+use Rattle.layout.proofs.Kept.{Kept, kept-done, kept-unless, no-cause, no-lack}
+
+-- A list of jobs that is accepted.
+record Listed (z : Counts) (l : List ℕ) : Type 0 where
+  low : 1 ≤ listedCount l
+  high : listedCount l ≤ maxJobs
+  valid : (i : ℕ) → i < listedCount l → So (validJob z i (listedJob l i))
+
+list-out : (z : Counts) (l : List ℕ) → So (listValid z l) → Listed z l
+unfolding listValid
+list-out z l p =
+    let n = listedCount l in
+    let valid = allBelow n (λ i. validJob z i (listedJob l i)) in
+    let q = and-right (eqb (length l) (n * 3)) (between maxJobs n && valid) p in
+    let range = between-out maxJobs n (and-left (between maxJobs n) valid q) in
+    record {
+      low = range .0;
+      high = range .1;
+      valid = all-at n (λ i. validJob z i (listedJob l i)) (and-right (between maxJobs n) valid q);
+    }
+
+job-in : (l : List ℕ) (i : ℕ) → i < listedCount l → listedJobs l i ≡ listedJob l i
+unfolding listedJobs
+job-in l i h = upto-in (listedCount l) noJob (listedJob l) i h
+
+job-out : (l : List ℕ) (i : ℕ) → listedCount l ≤ i → listedJobs l i ≡ noJob
+unfolding listedJobs
+job-out l i h = upto-out (listedCount l) noJob (listedJob l) i h
+
+-- With no job done, nothing is read.
+pub none-read : (K n : ℕ) (job : ℕ → Job) → maskBelow K (doneReads n job 0) ≡ 0
+unfolding doneReads
+none-read K n job =
+    eqb-eq _ 0 (set-none K (doneReads n job 0)
+    ∙ rw (any-no K (doneReads n job 0)
+    (λ k _. any-no n (λ j. testBit 0 j && testBit (job j .reads) k) (λ j _. rw (test-none j)))))
+
+opened-fits : (z : Counts) (l : List ℕ) → Listed z l → FitRun z (openedRun l)
+unfolding openedRun
+opened-fits z l L = record {
+  job = record {
+    each = λ i h. record {};
+    rest = λ i h. job-out l i (omega (arith, L .high));
+  };
+  snapshot = fit-empty z;
+}
+
+opened-formed : (z : Counts) (l : List ℕ) → Listed z l → So (runFormed z (openedRun l))
+unfolding openedRun held
+opened-formed z l L = plan-in z (openedRun l) (omega arith) (record {
+  state = omega arith;
+  jobs = record {
+    low = L .low;
+    high = L .high;
+    valid = λ i h. rw (job-in l i h) (L .valid i h);
+    beyond = λ i _ h. rw (job-out l i h) zero-job;
+  };
+  masks = record {
+    done = pow-pos (listedCount l);
+    read = sym (none-read (z .keys) (listedCount l) (listedJobs l));
+  };
+  snapshot = record {
+    place = formed-empty z;
+    carried = λ k _ p. clash p refl;
+    read = λ k _ p. clash p (test-none k);
+  };
+})
+
+pub open-kept : (r : ℕ) (l : List ℕ) (s : Store) → Fine s → Kept s (openRule r l s)
+unfolding openRule openDone openCause withRun
+open-kept r l s F =
+    kept-unless s (openCause s r l) (openDone s r l) F (λ e.
+    let z = s .counts in
+    let a = no-cause _ 3 _ (omega arith) e in
+    let b = no-cause _ 4 _ (omega arith) (a .1) in
+    let L = list-out z l (no-lack (listValid z l) 5 _ (omega arith) (b .1) .0) in
+    kept-done s (withRun s r (openedRun l)) _ F
+    (fit-run s (F .fits) r (openedRun l) (leb-gt _ _ (a .0)) (opened-fits z l L))
+    (formed-run s (well-out s (F .formed)) r (openedRun l) (opened-formed z l L)) refl)
