@@ -7,8 +7,8 @@ use mathlib.Core.Logic.{_↔_, _⊎_, inl, inr}
 use Prim.Native.Nat.{ℕ, _≤_, _<_, max}
 use native.Mathlib.Omega.{arith}
 use lib.Dec.{leb}
-use Rattle.words.proofs.Bools.{test, clash, leb-le, le-leb, leb-gt}
-use Rattle.words.proofs.Tests.{any-intro, any-some, any-same, all-intro, all-at, all-same}
+use Rattle.words.proofs.Bools.{test, clash, leb-le, le-leb, leb-gt, gt-leb}
+use Rattle.words.proofs.Tests.{any-intro, any-some, any-no, any-same, all-intro, all-at, all-same}
 use Rattle.clock.specs.Clock.{Clock, dominates, Dominates, present, join}
 
 -- The test and the statement.
@@ -96,12 +96,16 @@ pub present-same : (W : ℕ) (p q : Clock) → ((w : ℕ) → w < W → p w ≡ 
 unfolding present
 present-same W p q h = any-same W (λ w. leb 1 (p w)) (λ w. leb 1 (q w)) (λ w l. rw (h w l))
 
--- A clock in which nobody is present is zero.
+-- A clock in which nobody is present is zero, and a zero clock has nobody.
 pub absent : (W : ℕ) (p : Clock) → present W p ≡ false → (w : ℕ) → w < W → p w ≡ 0
 absent W p n w l =
     test (leb 1 (p w))
     (λ y. clash (present-intro W p w l (leb-le 1 (p w) y)) n)
     (λ y. omega (arith, leb-gt 1 (p w) y))
+
+pub present-no : (W : ℕ) (p : Clock) → ((w : ℕ) → w < W → p w ≡ 0) → present W p ≡ false
+unfolding present
+present-no W p h = any-no W (λ w. leb 1 (p w)) (λ w l. gt-leb 1 (p w) (omega (arith, h w l)))
 
 pub join-present : (W : ℕ) (p q : Clock) → So (present W (join p q))
     → So (present W p) ⊎ So (present W q)

@@ -1,10 +1,10 @@
 -- Clocks (document 01: "one count per writer"), of writers below W.
--- dominates ("covers"), concurrent ("rivals"), present (not all zero), join (the larger count at each place).
--- clockAt: the clock in a buffer from an index on. Apart: where a merge into the target is right.
+-- dominates ("covers"), concurrent ("rivals"), present (not all zero).
+-- join: the larger count at each place.
+-- clockAt: the clock in a buffer from an index on.
 -- Assumes nothing.
 use mathlib.Core.Bool.{Bool, not, _&&_}
 use mathlib.Core.List.{List}
-use mathlib.Core.Logic.{_⊎_}
 use Prim.Native.Nat.{ℕ, _+_, _≤_, _<_, max}
 use lib.Dec.{leb}
 use lib.ListN.{getD}
@@ -37,9 +37,3 @@ join p q w = max (p w) (q w)
 -- The clock in the words l from index at on.
 unfoldable pub clockAt : List ℕ → ℕ → Clock
 clockAt l at w = getD l (at + w) 0
-
--- n words at dst and n at src lie in a buffer of len words, and are one place or do not overlap.
-pub record Apart (len dst src n : ℕ) : Type 0 where
-  pub dst-in : dst + n ≤ len
-  pub src-in : src + n ≤ len
-  pub apart : (dst ≤ src) ⊎ (src + n ≤ dst)

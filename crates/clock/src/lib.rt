@@ -1,1 +1,51 @@
-// Clocks.
+// Clocks in a buffer of words.
+use words::larger;
+ghost use mathlib.Core.Path.{_≡_};
+ghost use Prim.Native.Nat.{_+_, _≤_};
+ghost use lib.ListN.{length};
+ghost use Rattle.words.specs.Words.{put, Apart};
+ghost use Rattle.clock.specs.Clock.{dominates, present, join, clockAt};
+
+// Whether the clock at a dominates the clock at b, of w counts.
+pub fn dominates(words: &[u32], a: usize, b: usize, w: usize) -> bool
+    requires { ⌜ (a + w ≤ length (now words)) × (b + w ≤ length (now words)) ⌝ }
+    ensures { λ r. ⌜ r
+        ≡ dominates w (clockAt (now (words .entry)) a) (clockAt (now (words .entry)) b) ⌝ }
+{
+    let mut i = 0;
+    while i < w {
+        if words[a + i] < words[b + i] {
+            return false;
+        }
+        i += 1;
+    }
+    true
+}
+
+// Whether some writer is present in the clock at an index.
+pub fn present(words: &[u32], at: usize, w: usize) -> bool
+    requires { ⌜ at + w ≤ length (now words) ⌝ }
+    ensures { λ r. ⌜ r ≡ present w (clockAt (now (words .entry)) at) ⌝ }
+{
+    let mut i = 0;
+    while i < w {
+        if words[at + i] != 0 {
+            return true;
+        }
+        i += 1;
+    }
+    false
+}
+
+// Merges n counts at src into those at dst: each becomes the larger of the two.
+pub fn merge_into(words: &mut [u32], dst: usize, src: usize, n: usize)
+    requires { ⌜ Apart (length (now words)) dst src n ⌝ }
+    ensures { λ _. ⌜ now (words .exit) ≡ put (now (words .entry)) dst n
+        (join (clockAt (now (words .entry)) dst) (clockAt (now (words .entry)) src)) ⌝ }
+{
+    let mut i = 0;
+    while i < n {
+        words[dst + i] = larger(words[dst + i], words[src + i]);
+        i += 1;
+    }
+}

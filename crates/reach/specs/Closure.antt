@@ -1,8 +1,8 @@
 -- The least set that holds a start set and is closed under a relation, of items below n.
--- Reach: what is meant. closure: what is computed. Closed, outside. edges, Rows: a relation as rows of masks.
+-- Reach: what is meant. closure: what is computed. Closed, outside.
+-- edges, Rows: a relation as rows of masks.
 -- Assumes nothing.
-use mathlib.Core.Path.{_≡_}
-use mathlib.Core.Bool.{Bool, not, _&&_, _||_, So}
+use mathlib.Core.Bool.{not, _&&_, _||_, So}
 use mathlib.Core.List.{List}
 use Prim.Native.Nat.{ℕ, zero, suc, _≤_, _<_, _^_}
 use lib.ListN.{getD, length}

@@ -5,10 +5,11 @@
 use mathlib.Core.Path.{_≡_, refl}
 use mathlib.Core.Bool.{So, _&&_}
 use Prim.Native.Nat.{ℕ, _+_, _*_, _≤_, _<_}
-use native.Mathlib.Nat.{suc-mul, mul-le-mul, mul-le-mul-right}
+use native.Mathlib.Nat.{mul-le-mul}
 use native.Mathlib.Omega.{arith}
 use lib.Dec.{leb}
 use Rattle.words.proofs.Bools.{and-intro, and-left, and-right, leb-le, le-leb}
+use Rattle.words.proofs.Slots.{slot-end}
 use Rattle.sizes.specs.declared.Counts.{Counts}
 use Rattle.sizes.specs.Bounds.{maxKeys, maxWriters, maxSites, maxRuns, between, ranged, Ranged, pastSize, versionSize, placeSize, siteSize, writerSize, runSize, masterAt, sitesAt, writersAt, runsAt, totalOf, siteAt, writerAt, runAt, snapshotAt, keyAt, rowAt}
 
@@ -122,8 +123,7 @@ pub record Lies (a b at n : ℕ) : Type 0 where
 -- Part s of k parts of v words.
 part-lies : (at s k v : ℕ) → s < k → Lies at (at + k * v) (at + s * v) v
 part-lies at s k v h =
-    let e : s * v + v ≤ k * v = omega (arith, mul-le-mul-right v h, suc-mul s v) in
-    record { starts = omega arith; ends = omega arith }
+    record { starts = omega arith; ends = omega (arith, slot-end s k v h) }
 
 pub site-lies : (z : Counts) (o : ℕ) → o < z .sites
     → Lies (sitesAt z) (writersAt z) (siteAt z o) (siteSize z)

@@ -1,6 +1,5 @@
 // The counts of a store, their limits, and the offsets and total that follow from them.
 ghost use mathlib.Core.Path.{_≡_};
-ghost use Prim.Native.Nat.{ℕ, _<_, _≤_};
 ghost use Rattle.sizes.specs.Bounds.{Ranged, countsOf, sizesOf, maxKeys, maxWriters, maxSites, maxRuns, maxJobs};
 
 // Sheets, writers, offices and runs (document 01: K, W, N, P).

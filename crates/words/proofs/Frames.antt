@@ -1,5 +1,5 @@
 -- Steps in turn over a buffer. Step i changes slot i alone, the v words from index at + i * v on.
--- fold-out: words outside of all slots. fold-slot: a slot after all steps. fold-found: before its own.
+-- fold-out: a word in no slot. fold-slot: a slot after all steps. fold-found: before its own.
 -- Assumes nothing.
 use mathlib.Core.Path.{_≡_, refl, _∙_}
 use mathlib.Core.List.{List}

@@ -9,7 +9,7 @@ use native.Mathlib.Nat.{not-suc-le-zero}
 use native.Mathlib.Numerals.{add-one}
 use lib.ListN.{length, getD, set, length-set}
 use lib.Seq.{getD-set-same, getD-set-other}
-use Rattle.words.specs.Words.{put, Same}
+use Rattle.words.specs.Words.{put, Same, Apart}
 use Rattle.words.proofs.Tests.{below-cases}
 
 -- ---- one store after the other
@@ -57,6 +57,18 @@ unfolding put
 put-same l at zero f g h = refl
 put-same l at (suc n) f g h =
     rw (put-same l at n f g (λ i k. h i (omega arith)), h n (omega arith))
+
+-- A turn of a loop that stores: the words after i stores, and the next one.
+pub put-step : (l : List ℕ) (at i : ℕ) (f : ℕ → ℕ) (m : List ℕ) (x : ℕ) → m ≡ put l at i f
+    → x ≡ f i → set m (at + i) x ≡ put l at (i + 1) f
+put-step l at i f m x e q = rw (put-more l at f i, ← e, ← q)
+
+-- What such a loop reads at src, before it has come there.
+pub put-read : (l : List ℕ) (dst src n i : ℕ) (f : ℕ → ℕ) → Apart (length l) dst src n → i < n
+    → getD (put l dst i f) (src + i) 0 ≡ getD l (src + i) 0
+put-read l dst src n i f A h =
+    ⊎-elim (λ k. put-high l dst i f (src + i) (omega arith))
+    (λ k. put-low l dst i f (src + i) (omega arith)) (A .apart)
 
 -- ---- windows
 

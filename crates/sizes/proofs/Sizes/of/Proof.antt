@@ -7,8 +7,6 @@ use Rattle.sizes.specs.Bounds.{Ranged, countsOf, pastSize, versionSize, 
 use Rattle.sizes.proofs.Offsets.{largest}
 use Rattle.sizes.proofs.Sizes.of.Statement.{statement}
 use Rattle.sizes.proofs.Sizes.of.Tie as tie
-use Rattle.sizes.proofs.Sizes.of.Reads as reads
-use Rattle.sizes.proofs.Sizes.of.Lts as lts
 
 -- The largest products of four counts.
 most : (k w n p : ℕ) → Ranged (countsOf k w n p)

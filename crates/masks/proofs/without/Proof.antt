@@ -1,0 +1,13 @@
+-- `masks::without` meets its contract.
+-- Assumes nothing.
+use mathlib.Core.Path.{refl}
+use Rattle.masks.specs.Mask.{without}
+use Rattle.masks.proofs.without.Statement.{statement}
+use Rattle.masks.proofs.without.Tie as tie
+
+returns : tie.Need-returns
+unfolding without
+returns c = refl
+
+pub without-spec : {M : Type 1} → statement M
+without-spec = tie.close (tie.spec returns)
