@@ -7,6 +7,9 @@ pub mod Updates
 pub mod Follow
 pub mod Formed
 pub mod Plans
+pub mod DoneReads
 pub mod Kept
 pub mod KeptOpen
 pub mod KeptIssue
+pub mod Draws
+pub mod KeptStep
