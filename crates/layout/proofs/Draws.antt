@@ -1,14 +1,13 @@
 -- Laws of the drawn sets T and C, and of the places they leave, for any versions.
 -- draw-..: members of a drawn set. fetched-held: what a cache holds after a fetch.
 -- Assumes nothing.
-use mathlib.Core.Path.{_≡_, refl, sym, _∙_}
-use mathlib.Core.Bool.{Bool, true, false, cond, not, So, _&&_}
+use mathlib.Core.Path.{_≡_}
+use mathlib.Core.Bool.{false, not, So, _&&_}
 use mathlib.Core.Logic.{_⊎_, inl, inr}
 use Prim.Native.Nat.{ℕ, _<_}
 use Rattle.words.specs.Tests.{Items, Within}
-use Rattle.words.proofs.Bools.{test, clash, and-intro, and-left, and-right, not-intro, not-elim}
+use Rattle.words.proofs.Bools.{test, clash, and-intro, and-left, and-right, not-intro}
 use Rattle.words.proofs.Tests.{any-none}
-use Rattle.reach.specs.Closure.{closure}
 use Rattle.reach.proofs.Closures.{closure-start, closure-least}
 use Rattle.model.specs.Algebra.{Algebra, Place, everything, lacking}
 use Rattle.model.specs.Sets.{draws, drawSet, fetchSet, fetched, unfetchable}

@@ -1,21 +1,19 @@
 -- Issue keeps a store fine.
 -- Assumes nothing.
-use mathlib.Core.Path.{_≡_, refl, sym, ap, _∙_}
-use mathlib.Core.Bool.{Bool, true, false, cond, not, So, _&&_}
-use mathlib.Core.Logic.{_⊎_, inl, inr, _≢_}
+use mathlib.Core.Path.{_≡_, refl}
+use mathlib.Core.Bool.{Bool, true, false, cond, So, _&&_}
+use mathlib.Core.Logic.{_⊎_, inl, inr}
 use mathlib.Core.List.{[], _∷_}
 use Prim.Native.Nat.{ℕ, _+_, _≤_, _<_, _^_}
 use native.Mathlib.Omega.{arith}
-use lib.Dec.{eqb, leb}
+use lib.Dec.{eqb}
 use Rattle.words.proofs.Bools.{test, and-false-right, leb-gt, le-leb, eq-eqb, ne-eqb}
 use Rattle.words.proofs.Numbers.{fold-keeps}
 use Rattle.masks.specs.Mask.{testBit}
 use Rattle.masks.proofs.Bits.{test-high}
-use Rattle.clock.specs.Clock.{Clock, join, present}
+use Rattle.clock.specs.Clock.{Clock, join}
 use Rattle.clock.proofs.Order.{present-intro}
-use Rattle.sizes.specs.declared.Counts.{Counts}
-use Rattle.model.specs.Algebra.{Place}
-use Rattle.model.specs.Version.{Version, held, merge}
+use Rattle.model.specs.Version.{held}
 use Rattle.model.specs.Store.{Run, Writer, Store, freeRun, withLast, withMaster, withWriter, withRun}
 use Rattle.model.specs.Issue.{issueCause, takenIn, newPast, newVersion, issuedMaster, issueSaved, issueDone, issueRule}
 use Rattle.layout.proofs.Parts.{FitPast, FitVersion, FitPlace}

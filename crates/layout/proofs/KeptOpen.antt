@@ -1,24 +1,23 @@
 -- Open keeps a store fine.
 -- Assumes nothing.
-use mathlib.Core.Path.{_≡_, refl, sym, ap, _∙_}
-use mathlib.Core.Bool.{Bool, false, not, So, _&&_}
+use mathlib.Core.Path.{_≡_, refl, sym}
+use mathlib.Core.Bool.{So, _&&_}
 use mathlib.Core.List.{List}
 use Prim.Native.Nat.{ℕ, _*_, _≤_, _<_}
 use native.Mathlib.Omega.{arith}
 use lib.Dec.{eqb}
 use lib.ListN.{length}
 use lib.Pow.{pow-pos}
-use Rattle.words.specs.Tests.{allBelow, anyBelow}
-use Rattle.words.proofs.Bools.{clash, and-left, and-right, leb-gt, eqb-eq}
+use Rattle.words.specs.Tests.{allBelow}
+use Rattle.words.proofs.Bools.{clash, and-left, and-right, leb-gt}
 use Rattle.words.proofs.Tests.{all-at}
 use Rattle.words.proofs.Lists.{upto-in, upto-out}
-use Rattle.masks.specs.Mask.{testBit, maskBelow}
 use Rattle.masks.proofs.Bits.{test-none}
 use Rattle.sizes.specs.declared.Counts.{Counts}
 use Rattle.sizes.specs.Bounds.{maxJobs, between}
 use Rattle.sizes.proofs.Offsets.{between-out}
 use Rattle.model.specs.Version.{held}
-use Rattle.model.specs.Store.{Job, Store, noJob, doneReads, withRun}
+use Rattle.model.specs.Store.{Store, noJob, withRun}
 use Rattle.model.specs.Form.{validJob, runFormed}
 use Rattle.model.specs.Runs.{listedJob, listedCount, listedJobs, listValid, openCause, openedRun, openDone, openRule}
 use Rattle.layout.proofs.Parts.{FitRun}

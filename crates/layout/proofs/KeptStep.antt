@@ -1,207 +1,35 @@
 -- Step keeps a store fine.
--- Ready: no cause of a refusal holds. cache-..: the cache after it. snapshot-..: the snapshot.
 -- Assumes nothing.
-use mathlib.Core.Path.{_≡_, refl, sym, ap, _∙_}
-use mathlib.Core.Bool.{Bool, true, false, cond, not, So, _&&_, _||_}
-use mathlib.Core.Logic.{_⊎_, inl, inr}
-use mathlib.Core.List.{[], _∷_}
-use Prim.Native.Nat.{ℕ, zero, suc, _+_, _≤_, _<_, _^_}
+use mathlib.Core.Path.{refl, ap, _∙_}
+use mathlib.Core.Bool.{So}
+use mathlib.Core.Logic.{inl, inr}
+use Prim.Native.Nat.{ℕ, _<_}
 use native.Mathlib.Omega.{arith}
-use native.Mathlib.Decide.{ℕ-discrete}
-use lib.Bits.{bitOr, or-lt}
-use lib.Dec.{eqb, leb}
-use Rattle.words.specs.Tests.{Items, Within, anyBelow}
-use Rattle.words.proofs.Bools.{test, clash, same-test, _∙˙_, and-intro, and-left, and-right, or-left, or-right, or-cases, leb-gt, eqb-eq, eq-eqb, ne-eqb}
-use Rattle.words.proofs.Tests.{any-intro, any-some}
-use Rattle.masks.specs.Mask.{testBit, withBit, maskBelow}
-use Rattle.masks.proofs.Bits.{test-or, test-with, with-lt}
-use Rattle.masks.proofs.Sets.{test-mask, mask-lt, mask-ext-below}
-use Rattle.sizes.specs.declared.Counts.{Counts}
-use Rattle.model.specs.Algebra.{Place, lacking}
-use Rattle.model.specs.Version.{Version, unheld, held, merge, versions}
-use Rattle.model.specs.Sets.{fetched, unfetchable, pullSet, pulled}
-use Rattle.model.specs.Store.{Job, Run, Store, planned, doneReads, withSites, withCache, withRun, withState, withJobDone}
+use lib.Bits.{bitOr}
+use Rattle.words.specs.Tests.{anyBelow}
+use Rattle.words.proofs.Bools.{test, _∙˙_, or-cases}
+use Rattle.masks.specs.Mask.{testBit, withBit}
+use Rattle.masks.proofs.Bits.{test-or, with-lt}
+use Rattle.model.specs.Version.{held}
+use Rattle.model.specs.Store.{Run, Store, withSites, withCache, withRun, withState, withJobDone}
 use Rattle.model.specs.Form.{runFormed}
-use Rattle.model.specs.Outcome.{Outcome, allowed, stepRow, brokenState}
-use Rattle.model.specs.Step.{readStart, stepSite, stepReads, stepStart, stepCache, stepPlan, stepPull, stepSnapshot, stepMoved, jobLimit, stepCause, stepBroken, stepDone, stepRule}
-use Rattle.layout.proofs.Parts.{FitPlace, FitRun}
-use Rattle.layout.proofs.Fit.{fit-choice, fit-merge, fit-cache, fit-run}
-use Rattle.layout.proofs.Formed.{PlaceFormed, formed-choice, version-merge, merge-held-left, merge-held-right, Formed, well-out, formed-cache, formed-run}
-use Rattle.layout.proofs.Plans.{Valid, valid-out, Plan, plan-out, plan-in}
-use Rattle.layout.proofs.Draws.{lacking-in, lacking-set, draw-start, draw-scope, fetched-held}
+use Rattle.model.specs.Outcome.{brokenState}
+use Rattle.model.specs.Step.{stepSite, stepReads, stepCache, stepSnapshot, stepMoved, stepCause, stepBroken, stepDone, stepRule}
+use Rattle.layout.proofs.Parts.{FitRun}
+use Rattle.layout.proofs.Fit.{fit-cache, fit-run}
+use Rattle.layout.proofs.Formed.{well-out, formed-cache, formed-run}
+use Rattle.layout.proofs.Plans.{Plan, plan-in}
+use Rattle.layout.proofs.Stepping.{Ready, ready, plan, valid, site, cache-fits, cache-formed, snapshot-fits, snapshot-formed, still-held, reads-held, carried}
 use Rattle.layout.proofs.DoneReads.{read-mask}
 use Rattle.layout.proofs.Follow.{Fine}
-use Rattle.layout.proofs.Kept.{Kept, kept-done, kept-broken, kept-unless, no-cause, no-lack, fetched-fits, fetched-formed}
-
--- ---- the snapshot after a pull
-
-merged-fits : (z : Counts) (p q : Place Version) → FitPlace z p → FitPlace z q
-    → FitPlace z (λ k. merge (p k) (q k))
-unfolding merge held
-merged-fits z p q F G = record {
-  each = λ k h. fit-merge z (p k) (q k) (F .each k h) (G .each k h);
-  rest = λ k h. rw (F .rest k h, G .rest k h) refl;
-}
-
--- ---- step of job j of run r, where no cause holds
-
-record Ready (s : Store) (r j : ℕ) : Type 0 where
-  run : r < s .counts .runs
-  state : 1 ≤ s .run r .state
-  job : j < s .run r .jobs
-  fetch : unfetchable (versions (s .counts .writers)) (s .counts .keys) (s .master)
-      (stepStart s r j) ≡ false
-
--- Only an open run may step.
-open-state : (n : ℕ) → So (allowed stepRow n) → 1 ≤ n
-unfolding allowed
-open-state zero p = clash p refl
-open-state (suc n) p = omega arith
-
-ready : (s : Store) (r j : ℕ) → stepCause s r j ≡ 0 → Ready s r j
-unfolding stepCause jobLimit
-ready s r j e =
-    let a = no-cause _ 3 _ (omega arith) e in
-    let b = no-cause _ 3 _ (omega arith) (a .1) in
-    let c = no-lack _ 4 _ (omega arith) (b .1) in
-    let d = no-cause _ 6 _ (omega arith) (c .1) in
-    let f = no-cause _ 7 _ (omega arith) (d .1) in
-    let state = open-state (s .run r .state) (c .0) in
-    let closed = ne-eqb (s .run r .state) 0 (λ q. omega arith) in
-    let job = b .0 in
-    record {
-      run = leb-gt _ _ (a .0);
-      state = state;
-      job = leb-gt _ _ (rw closed at job);
-      fetch = f .0;
-    }
+use Rattle.layout.proofs.Kept.{Kept, kept-done, kept-broken, kept-unless}
 
 module _ (s : Store) (r j : ℕ) (F : Fine s) (R : Ready s r j) where
-  formed : Formed s
-  formed = well-out s (F .formed)
-
-  plan : Plan (s .counts) (s .run r)
-  plan = plan-out (s .counts) (s .run r) (R .state) (formed .run r (R .run))
-
-  valid : Valid (s .counts) j (s .run r .job j)
-  valid = valid-out (s .counts) j (s .run r .job j) (plan .jobs .valid j (R .job))
-
-  site : stepSite s r j < s .counts .sites
-  unfolding stepSite
-  site = valid .site
+  was : Plan (s .counts) (s .run r)
+  was = plan s r j F R
 
   card : FitRun (s .counts) (s .run r)
   card = F .fits .run .each r (R .run)
-
-  -- ---- the cache
-
-  cache-fits : FitPlace (s .counts) (stepCache s r j)
-  unfolding stepCache
-  cache-fits =
-      fetched-fits (s .counts) (s .master) (s .site (stepSite s r j) .cache) (stepStart s r j)
-      (F .fits .master) (F .fits .site .each (stepSite s r j) site .cache)
-
-  cache-formed : PlaceFormed (s .counts) (stepCache s r j)
-  unfolding stepCache
-  cache-formed =
-      fetched-formed (s .counts) (s .master) (s .site (stepSite s r j) .cache) (stepStart s r j)
-      (formed .master) (formed .cache (stepSite s r j) site)
-
-  -- It holds the reads that the snapshot lacks.
-  cache-held : (k : ℕ) → k < s .counts .keys → So (stepReads s r j k)
-      → held (s .run r .snapshot k) ≡ false → So (held (stepCache s r j k))
-  unfolding stepCache stepStart readStart
-  cache-held k l p n =
-      let alg = versions (s .counts .writers) in
-      let K = s .counts .keys in
-      let cache = s .site (stepSite s r j) .cache in
-      let asked = lacking alg K (s .run r .snapshot) (stepReads s r j) in
-      fetched-held alg K (s .master) cache (stepStart s r j) (R .fetch) k l
-      (test (held (cache k)) (λ h. inr h)
-      (λ h. inl (lacking-in alg K cache asked k
-      (lacking-in alg K (s .run r .snapshot) (stepReads s r j) k p n) h)))
-
-  -- ---- the snapshot
-
-  snapshot-fits : FitPlace (s .counts) (stepSnapshot s r j)
-  unfolding stepSnapshot pulled
-  snapshot-fits =
-      let z = s .counts in
-      let old = s .run r .snapshot in
-      let both : Place Version = λ k. merge (old k) (stepCache s r j k) in
-      let C = pullSet (versions (z .writers)) (z .keys) (stepPlan s r j) old (stepCache s r j)
-      (stepReads s r j) in
-      fit-choice z C both old (merged-fits z old (stepCache s r j) (card .snapshot) cache-fits)
-      (card .snapshot)
-
-  snapshot-formed : PlaceFormed (s .counts) (stepSnapshot s r j)
-  unfolding stepSnapshot pulled
-  snapshot-formed =
-      let z = s .counts in
-      let old = s .run r .snapshot in
-      let both : Place Version = λ k. merge (old k) (stepCache s r j k) in
-      let C = pullSet (versions (z .writers)) (z .keys) (stepPlan s r j) old (stepCache s r j)
-      (stepReads s r j) in
-      let was = plan .snapshot .place in
-      formed-choice z C both old
-      (λ k h. version-merge z k (old k) (stepCache s r j k) (was k h) (cache-formed k h)) was
-
-  -- A key of C, and another one.
-  pulled-in : (k : ℕ) → So (stepPull s r j k)
-      → stepSnapshot s r j k ≡ merge (s .run r .snapshot k) (stepCache s r j k)
-  unfolding stepSnapshot pulled stepPull
-  pulled-in k h = rw h
-
-  pulled-out : (k : ℕ) → stepPull s r j k ≡ false → stepSnapshot s r j k ≡ s .run r .snapshot k
-  unfolding stepSnapshot pulled stepPull
-  pulled-out k h = rw h
-
-  -- Keys of C are planned, and reads that the snapshot lacks are in C.
-  pull-planned : Within (s .counts .keys) (stepPull s r j)
-      (planned (s .run r .jobs) (s .run r .job))
-  unfolding stepPull pullSet stepPlan stepReads planned
-  pull-planned =
-      let a = s .run r in
-      let alg = versions (s .counts .writers) in
-      let K = s .counts .keys in
-      let reads : Items = testBit (a .job j .reads) in
-      draw-scope alg K (planned (a .jobs) (a .job)) (a .snapshot) (stepCache s r j)
-      (lacking alg K (a .snapshot) reads)
-      (λ k _ p. any-intro (a .jobs) (λ i. testBit (a .job i .reads) k) j (R .job)
-      (lacking-set alg K (a .snapshot) reads k p))
-
-  pull-lacking : (k : ℕ) → So (stepReads s r j k) → held (s .run r .snapshot k) ≡ false
-      → So (stepPull s r j k)
-  unfolding stepPull pullSet
-  pull-lacking k p n =
-      let alg = versions (s .counts .writers) in
-      let K = s .counts .keys in
-      let old = s .run r .snapshot in
-      draw-start alg K (stepPlan s r j) old (stepCache s r j)
-      (lacking alg K old (stepReads s r j)) k (lacking-in alg K old (stepReads s r j) k p n)
-
-  -- What the snapshot held it still holds, and it holds the reads.
-  still-held : (k : ℕ) → So (held (s .run r .snapshot k)) → So (held (stepSnapshot s r j k))
-  still-held k h =
-      test (stepPull s r j k)
-      (λ t. rw (pulled-in k t) (merge-held-left (s .run r .snapshot k) (stepCache s r j k) h))
-      (λ t. rw (pulled-out k t) h)
-
-  reads-held : (k : ℕ) → k < s .counts .keys → So (stepReads s r j k)
-      → So (held (stepSnapshot s r j k))
-  reads-held k l p =
-      let old = s .run r .snapshot k in
-      test (held old) (still-held k)
-      (λ n. rw (pulled-in k (pull-lacking k p n))
-      (merge-held-right old (stepCache s r j k) (cache-held k l p n)))
-
-  carried : (k : ℕ) → k < s .counts .keys → So (held (stepSnapshot s r j k))
-      → So (planned (s .run r .jobs) (s .run r .job) k)
-  carried k l p =
-      test (stepPull s r j k) (pull-planned k l)
-      (λ t. plan .snapshot .carried k l (ap held (pulled-out k t) ∙˙ p))
-
-  -- ---- the run and the store
 
   -- The run after the job.
   stepped : Run
@@ -211,7 +39,7 @@ module _ (s : Store) (r j : ℕ) (F : Fine s) (R : Ready s r j) where
 
   stepped-fits : FitRun (s .counts) stepped
   unfolding stepped withJobDone
-  stepped-fits = record { job = card .job; snapshot = snapshot-fits }
+  stepped-fits = record { job = card .job; snapshot = snapshot-fits s r j F R }
 
   read-held : (k : ℕ) → k < s .counts .keys
       → So (testBit (bitOr (s .run r .read) (s .run r .job j .reads)) k)
@@ -221,8 +49,8 @@ module _ (s : Store) (r j : ℕ) (F : Fine s) (R : Ready s r j) where
       let a = s .run r in
       elim (or-cases (testBit (a .read) k) (testBit (a .job j .reads) k)
       (test-or (a .read) (a .job j .reads) k ∙˙ p)) [
-        | inl h ↦ still-held k (plan .snapshot .has k l h)
-        | inr h ↦ reads-held k l h
+        | inl h ↦ still-held s r j F R k (was .snapshot .has k l h)
+        | inr h ↦ reads-held s r j F R k l h
       ]
 
   stepped-formed : So (runFormed (s .counts) stepped)
@@ -230,24 +58,30 @@ module _ (s : Store) (r j : ℕ) (F : Fine s) (R : Ready s r j) where
   stepped-formed =
       let z = s .counts in
       let a = s .run r in
+      let reads = valid s r j F R .reads in
       plan-in z stepped (R .state) (record {
-        state = plan .state;
-        jobs = plan .jobs;
+        state = was .state;
+        jobs = was .jobs;
         masks = record {
-          low = with-lt (a .done) j (a .jobs) (plan .masks .low) (R .job);
-          reads = ap (λ (m : ℕ). bitOr m (a .job j .reads)) (plan .masks .reads)
-              ∙ read-mask (z .keys) (a .jobs) (a .job) (a .done) j (R .job) (valid .reads);
+          low = with-lt (a .done) j (a .jobs) (was .masks .low) (R .job);
+          reads = ap (λ (m : ℕ). bitOr m (a .job j .reads)) (was .masks .reads)
+              ∙ read-mask (z .keys) (a .jobs) (a .job) (a .done) j (R .job) reads;
         };
-        snapshot = record { place = snapshot-formed; carried = carried; has = read-held };
+        snapshot = record {
+          place = snapshot-formed s r j F R;
+          carried = carried s r j F R;
+          has = read-held;
+        };
       })
 
   done-kept : Kept s (stepDone s r j)
   unfolding stepDone stepped withCache withSites withRun
   done-kept =
       let o = stepSite s r j in
-      let s₁ = withCache s o (stepCache s r j) in
-      let f₁ = fit-cache s (F .fits) o (stepCache s r j) site cache-fits in
-      let g₁ = formed-cache s formed o (stepCache s r j) cache-formed in
+      let p = stepCache s r j in
+      let s₁ = withCache s o p in
+      let f₁ = fit-cache s (F .fits) o p (site s r j F R) (cache-fits s r j F R) in
+      let g₁ = formed-cache s (well-out s (F .formed)) o p (cache-formed s r j F R) in
       kept-done s (withRun s₁ r stepped) _ F (fit-run s₁ f₁ r stepped (R .run) stepped-fits)
       (formed-run s₁ g₁ r stepped stepped-formed) refl
 
@@ -259,11 +93,11 @@ module _ (s : Store) (r j : ℕ) (F : Fine s) (R : Ready s r j) where
       let b = withState a brokenState in
       kept-broken s (withRun s r b) _ F
       (fit-run s (F .fits) r b (R .run) (record { job = card .job; snapshot = card .snapshot }))
-      (formed-run s formed r b (plan-in z b (omega arith) (record {
+      (formed-run s (well-out s (F .formed)) r b (plan-in z b (omega arith) (record {
         state = omega arith;
-        jobs = plan .jobs;
-        masks = plan .masks;
-        snapshot = plan .snapshot;
+        jobs = was .jobs;
+        masks = was .masks;
+        snapshot = was .snapshot;
       }))) refl
 
 pub step-kept : (r j : ℕ) (s : Store) → Fine s → Kept s (stepRule r j s)

@@ -12,4 +12,7 @@ pub mod Kept
 pub mod KeptOpen
 pub mod KeptIssue
 pub mod Draws
+pub mod Stepping
 pub mod KeptStep
+pub mod KeptPrepare
+pub mod Rules

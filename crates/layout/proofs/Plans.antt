@@ -1,14 +1,14 @@
 -- Laws of the form of a run.
 -- Valid: a valid job. Plan: the form of a run that isn't free, as a record; plan-out, plan-in.
 -- Assumes nothing.
-use mathlib.Core.Path.{_≡_, refl, sym, ap, _∙_}
+use mathlib.Core.Path.{_≡_, refl}
 use mathlib.Core.Bool.{Bool, true, false, cond, not, So, _&&_}
 use mathlib.Core.Logic.{⊎-elim}
-use Prim.Native.Nat.{ℕ, _+_, _≤_, _<_, _^_}
+use Prim.Native.Nat.{ℕ, _≤_, _<_, _^_}
 use native.Mathlib.Omega.{arith}
 use lib.Dec.{eqb, leb, ltb}
-use Rattle.words.specs.Tests.{Items, allBelow}
-use Rattle.words.proofs.Bools.{test, clash, and-intro, and-left, and-right, or-right, not-intro, leb-le, le-leb, ltb-lt, lt-ltb, ge-ltb, eqb-eq, eq-eqb, ne-eqb}
+use Rattle.words.specs.Tests.{allBelow}
+use Rattle.words.proofs.Bools.{clash, and-intro, and-left, and-right, leb-le, le-leb, ltb-lt, lt-ltb, ge-ltb, eqb-eq, eq-eqb, ne-eqb}
 use Rattle.words.proofs.Tests.{below-or-not, all-intro, all-at}
 use Rattle.masks.specs.Mask.{testBit, maskBelow}
 use Rattle.sizes.specs.declared.Counts.{Counts}

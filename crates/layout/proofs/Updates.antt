@@ -9,14 +9,13 @@ use native.Mathlib.Omega.{arith}
 use lib.ListN.{length, drop, set, length-append}
 use lib.Seq.{sets}
 use Rattle.words.proofs.Stores.{sets-left, sets-behind, sets-all}
-use Rattle.sizes.specs.declared.Counts.{Counts}
-use Rattle.sizes.specs.Bounds.{placeSize, siteSize, writerSize, runSize, masterAt, sitesAt, writersAt, runsAt, totalOf, siteAt, writerAt, runAt, snapshotAt}
+use Rattle.sizes.specs.Bounds.{siteSize, writerSize, runSize, masterAt, sitesAt, writersAt, runsAt, totalOf, siteAt, writerAt, runAt, snapshotAt}
 use Rattle.model.specs.Algebra.{Place}
 use Rattle.model.specs.Version.{Version}
-use Rattle.model.specs.Store.{Writer, Job, Run, Site, Store, withLast, withMaster, withSites, withCache, withWriter, withRun, withState, withSnapshot}
+use Rattle.model.specs.Store.{Writer, Run, Store, withLast, withMaster, withSites, withCache, withWriter, withRun, withState, withSnapshot}
 use Rattle.layout.specs.Words.{headerWords, placeWords, siteWords, sitesWords, writerWords, writersWords, jobsWords, runWords, runsWords, storeWords}
 use Rattle.layout.specs.Buffer.{written}
-use Rattle.layout.proofs.Codec.{Laws, many-part, many-room}
+use Rattle.layout.proofs.Codec.{many-part, many-room}
 use Rattle.layout.proofs.Parts.{place-laws, site-laws, writer-laws, jobs-laws, run-laws}
 use Rattle.layout.proofs.Whole.{toMaster, toSites, toWriters, header-long, master-long, sites-long, writers-long}
 
