@@ -54,11 +54,11 @@ module _ (s : Store) (r w S : ℕ) (F : Fine s) (hr : r < s .counts .runs)
       let z = s .counts in
       let a = s .run r in
       let old = F .fits .writer .each w hw .past in
-      let card = F .fits .run .each r hr .snapshot in
+      let carried = F .fits .run .each r hr .snapshot in
       past-in z (newPast s r w S) (λ d u o.
       rw (row-in d u o)
       (taken-zero (z .keys) (s .writer w .past) a d u (past-out z (s .writer w .past) old d u o)
-      (λ k. past-out z (a .snapshot k .past) (place-fit z (a .snapshot) card k .past) d u o)))
+      (λ k. past-out z (a .snapshot k .past) (place-fit z (a .snapshot) carried k .past) d u o)))
 
   version-fits : FitVersion (s .counts) (newVersion s r w S)
   unfolding newVersion

@@ -28,8 +28,8 @@ module _ (s : Store) (r j : ℕ) (F : Fine s) (R : Ready s r j) where
   was : Plan (s .counts) (s .run r)
   was = plan s r j F R
 
-  card : FitRun (s .counts) (s .run r)
-  card = F .fits .run .each r (R .run)
+  fitting : FitRun (s .counts) (s .run r)
+  fitting = F .fits .run .each r (R .run)
 
   -- The run after the job.
   stepped : Run
@@ -39,7 +39,7 @@ module _ (s : Store) (r j : ℕ) (F : Fine s) (R : Ready s r j) where
 
   stepped-fits : FitRun (s .counts) stepped
   unfolding stepped withJobDone
-  stepped-fits = record { job = card .job; snapshot = snapshot-fits s r j F R }
+  stepped-fits = record { job = fitting .job; snapshot = snapshot-fits s r j F R }
 
   read-held : (k : ℕ) → k < s .counts .keys
       → So (testBit (bitOr (s .run r .read) (s .run r .job j .reads)) k)
@@ -91,8 +91,8 @@ module _ (s : Store) (r j : ℕ) (F : Fine s) (R : Ready s r j) where
       let z = s .counts in
       let a = s .run r in
       let b = withState a brokenState in
-      kept-broken s (withRun s r b) _ F
-      (fit-run s (F .fits) r b (R .run) (record { job = card .job; snapshot = card .snapshot }))
+      let fits : FitRun z b = record { job = fitting .job; snapshot = fitting .snapshot } in
+      kept-broken s (withRun s r b) _ F (fit-run s (F .fits) r b (R .run) fits)
       (formed-run s (well-out s (F .formed)) r b (plan-in z b (omega arith) (record {
         state = omega arith;
         jobs = was .jobs;

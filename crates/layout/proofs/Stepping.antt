@@ -71,8 +71,8 @@ module _ (s : Store) (r j : ℕ) (F : Fine s) (R : Ready s r j) where
   unfolding stepSite
   site = valid .site
 
-  card : FitRun (s .counts) (s .run r)
-  card = F .fits .run .each r (R .run)
+  fitting : FitRun (s .counts) (s .run r)
+  fitting = F .fits .run .each r (R .run)
 
   -- ---- the cache
 
@@ -112,8 +112,8 @@ module _ (s : Store) (r j : ℕ) (F : Fine s) (R : Ready s r j) where
       let both : Place Version = λ k. merge (old k) (stepCache s r j k) in
       let C = pullSet (versions (z .writers)) (z .keys) (stepPlan s r j) old (stepCache s r j)
       (stepReads s r j) in
-      fit-choice z C both old (fit-merged z old (stepCache s r j) (card .snapshot) cache-fits)
-      (card .snapshot)
+      fit-choice z C both old (fit-merged z old (stepCache s r j) (fitting .snapshot) cache-fits)
+      (fitting .snapshot)
 
   pub snapshot-formed : PlaceFormed (s .counts) (stepSnapshot s r j)
   unfolding stepSnapshot pulled
