@@ -7,3 +7,5 @@ pub mod ClosingPrepare
 pub mod Counting
 pub mod Breaks
 pub mod Invariant
+pub mod Finished
+pub mod Points

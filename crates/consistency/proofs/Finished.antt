@@ -1,0 +1,85 @@
+-- Part (c) of demand 3: two finished jobs of one run share one causal snapshot.
+-- Assumes nothing.
+use mathlib.Core.Path.{_≡_, sym, ap, _∙_}
+use mathlib.Core.Bool.{Bool, not, So, _&&_}
+use mathlib.Core.List.{List}
+use mathlib.Core.Logic.{⊎-elim}
+use Prim.Native.Nat.{ℕ, _≤_, _<_}
+use native.Mathlib.Omega.{arith}
+use lib.Dec.{eqb}
+use Rattle.words.specs.Tests.{allBelow}
+use Rattle.words.proofs.Bools.{test, clash, and-left, and-right, eqb-eq, eqb-ne, _∙˙_}
+use Rattle.words.proofs.Tests.{below-or-not}
+use Rattle.masks.specs.Mask.{testBit}
+use Rattle.masks.proofs.Bits.{test-none}
+use Rattle.sizes.specs.Bounds.{maxJobs}
+use Rattle.sizes.specs.declared.Counts.{Counts}
+use Rattle.model.specs.Store.{Run, Store, planned}
+use Rattle.model.specs.Version.{held}
+use Rattle.model.specs.Form.{zeroRows, zeroJob, freeFormed, runFormed, wellFormed}
+use Rattle.history.specs.History.{History, HappensBefore}
+use Rattle.history.specs.Book.{Book, BookRun}
+use Rattle.history.proofs.Notions.{Sound}
+use Rattle.history.proofs.Behind.{before-past}
+use Rattle.layout.proofs.Follow.{Fine}
+use Rattle.layout.proofs.Formed.{well-out}
+use Rattle.layout.proofs.Plans.{plan-out}
+use Rattle.consistency.specs.Trace.{ReadSet}
+use Rattle.consistency.specs.Claim.{Snapshot, Among}
+use Rattle.consistency.proofs.Invariant.{RunFollows, Follows, ReadAs, Inv}
+
+-- A free run has read nothing.
+free-read : (z : Counts) (a : Run) → So (freeFormed z a) → a .read ≡ 0
+unfolding freeFormed
+free-read z a p =
+    let jobs = allBelow maxJobs (λ i. zeroJob (a .job i)) in
+    let place = allBelow (z .keys) (λ k.
+    not (held (a .snapshot k)) && zeroRows z (a .snapshot k)) in
+    let read = eqb (a .read) 0 in
+    let done = eqb (a .done) 0 in
+    eqb-eq (a .read) 0
+    (and-left read (jobs && place)
+    (and-right done (read && (jobs && place))
+    (and-right (eqb (a .jobs) 0) (done && (read && (jobs && place))) p)))
+
+-- What a run has read is among the keys of its plan.
+pub read-planned : (z : Counts) (a : Run) → So (runFormed z a) → (k : ℕ) → k < z .keys
+    → So (testBit (a .read) k) → So (planned (a .jobs) (a .job) k)
+unfolding runFormed
+read-planned z a F k l p =
+    test (eqb (a .state) 0)
+    (λ y. clash (ap (λ (m : ℕ). testBit m k) (free-read z a (rw y at F)) ∙˙ p) (test-none k))
+    (λ n. let open′ : 1 ≤ a .state = omega (arith, eqb-ne (a .state) 0 n) in
+    let P = plan-out z a open′ F in
+    P .snapshot .carried k l (P .snapshot .has k l p))
+
+module _ (K W : ℕ) (h : History) (a : Run) (c : BookRun) (sound : Sound K W h)
+    (F : RunFollows K h a c)
+    (plan : (k : ℕ) → k < K → So (testBit (a .read) k) → So (planned (a .jobs) (a .job) k)) where
+  -- A key that a finished job has read is in the book's plan.
+  in-plan : (x : ReadSet) → ReadAs K a c x → (k : ℕ) → k < K → So (x .keys k)
+      → So (planned (c .jobs) (c .job) k)
+  in-plan x X k l p =
+      let q = plan k l (sym (F .read k l) ∙˙ X .keys k l p) in
+      rw (F .jobs, F .job) at q
+
+  pub share : (x y : ReadSet) → ReadAs K a c x → ReadAs K a c y → Snapshot K h x y
+  share x y X Y = record {
+    one-version = λ k l p q. X .version k l p ∙ sym (Y .version k l q);
+    included = λ e i d j le ld p m q t.
+        let has : So (c .snapshot e i) = ap (λ (s : ℕ → Bool). s i) (X .copy e le p) ∙˙ m in
+        let got = F .closed .closed e i d j le ld (in-plan y Y d ld q) has (before-past sound t) in
+        ap (λ (s : ℕ → Bool). s j) (sym (Y .copy d ld q)) ∙˙ got;
+  }
+
+pub shared : (s : Store) (b : Book) (f : ℕ → List ReadSet) → Fine s → Inv s b f
+    → (r : ℕ) (x y : ReadSet) → Among x (f r) → Among y (f r)
+    → Snapshot (s .counts .keys) (b .history) x y
+shared s b f F I r x y p q =
+    ⊎-elim
+    (λ l. share (s .counts .keys) (s .counts .writers) (b .history) (s .run r) (b .run r)
+    (I .follows .sound) (I .follows .run r l)
+    (read-planned (s .counts) (s .run r) (well-out s (F .formed) .run r l))
+    x y (I .reads r l x p) (I .reads r l y q))
+    (λ l. absurd (I .no-run r l x p))
+    (below-or-not r (s .counts .runs))
