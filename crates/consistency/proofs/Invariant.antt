@@ -25,6 +25,7 @@ pub record RunFollows (K : ℕ) (h : History) (a : Run) (c : BookRun) : Type 0 w
   pub jobs : a .jobs ≡ c .jobs
   pub job : a .job ≡ c .job
   pub read : (k : ℕ) → k < K → testBit (a .read) k ≡ c .read k
+  pub low : (k : ℕ) → So (c .read k) → k < K
   pub snapshot : Counted K h (a .snapshot) (c .snapshot)
   pub closed : ClosedIn K h (planned (c .jobs) (c .job)) (c .snapshot)
 
