@@ -1,5 +1,5 @@
--- A list of calls followed: at each point the buffer holds a fine store of which the invariant holds.
--- At: such a point. start-at, advance-at, follow-at. The calls' own part is handed over: CallsMove.
+-- A list of calls followed: at each point the buffer holds a fine store, and the invariant holds.
+-- At: such a point. start-at, advance-at, follow-at. The calls' own part comes in as CallsMove.
 -- Assumes nothing.
 use mathlib.Core.Path.{_≡_, refl, sym, ap, _∙_}
 use mathlib.Core.Bool.{So, true, false, cond, false≢true}
@@ -63,13 +63,14 @@ module _ (c : StoreCall) (t : Trace) (s : Store) (l : List ℕ) (e : t .buffer �
   outcome-at (broken a u) p q F m =
       rw p (record { store = u; base = l; holds = q; fine = F; inv = m })
   outcome-at (done a u) p q F m =
-      let back : storeOf (leaves (done a u) (t .buffer)) ≡ u = ap storeOf q ∙ store-back u l (F .fits) in
+      let back : storeOf (leaves (done a u) (t .buffer)) ≡ u =
+      ap storeOf q ∙ store-back u l (F .fits) in
       rw p (record { store = u; base = l; holds = q; fine = F; inv = rw back m })
 
   call-at : CallsMove → Fine s → Inv s (t .book) (t .finished) → At (advance (on c) t)
   call-at moves F I =
       let K = rule-kept c s F in
-      let rule : callOn (on c) (t .buffer) ≡ ruleOf c s = ap (callOn (on c)) e ∙ fine-rule c s l F in
+      let rule = ap (callOn (on c)) e ∙ fine-rule c s l F in
       let after = rw (fine-rule c s l F) at (fine-leaves c s l F (K .counts)) in
       outcome-at (ruleOf c s) rule (rw e after) (K .fine) (moves c s (t .book) (t .finished) F I)
 
@@ -110,6 +111,7 @@ fresh-inv z = record {
       jobs = refl;
       job = refl;
       read = λ k l. test-none k;
+      low = λ k p. absurd (false≢true p);
       snapshot = λ k l. sym (counted-none K []);
       closed = empty-closed K [] _;
     }
