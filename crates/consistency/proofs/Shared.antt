@@ -14,6 +14,7 @@ use Rattle.words.specs.Lists.{putAt}
 use Rattle.words.proofs.Bools.{test, eqb-eq}
 use Rattle.words.proofs.Lists.{putAt-same, putAt-other}
 use Rattle.masks.proofs.Bits.{test-none}
+use Rattle.sizes.specs.declared.Counts.{Counts}
 use Rattle.model.specs.Algebra.{Place}
 use Rattle.model.specs.Version.{Version, versions}
 use Rattle.model.specs.Store.{Run, Site, Store, freeRun, planned, withSites, withCache, withRun}
@@ -42,6 +43,10 @@ unless-moves c s b f n x v g = test (eqb n 0) (λ t. rw t (g (eqb-eq n 0 t))) (�
 -- ---- store and book side by side
 
 module _ {s : Store} {b : Book} (F : Follows s b) where
+  -- What holds with the store's counts holds with the book's.
+  pub by-counts : (P : Counts → Type 0) → P (s .counts) → P (b .counts)
+  by-counts P p = rw (← F .counts) p
+
   pub now-simulates :
       Simulates (versions (s .counts .writers)) (copies (s .counts .keys) (b .history))
       (s .counts .keys) (CountedAs (s .counts .keys) (b .history))
