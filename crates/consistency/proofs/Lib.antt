@@ -9,3 +9,6 @@ pub mod Breaks
 pub mod Invariant
 pub mod Finished
 pub mod Points
+pub mod Shared
+pub mod MovesCaches
+pub mod MovesRuns
