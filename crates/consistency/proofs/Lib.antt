@@ -7,3 +7,4 @@ pub mod ClosingPrepare
 pub mod Counting
 pub mod Breaks
 pub mod Invariant
+pub mod Issuing
