@@ -7,4 +7,7 @@ pub mod ClosingPrepare
 pub mod Counting
 pub mod Breaks
 pub mod Invariant
+pub mod Shared
+pub mod MovesCaches
+pub mod MovesRuns
 pub mod Issuing
