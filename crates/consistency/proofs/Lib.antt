@@ -12,3 +12,4 @@ pub mod Points
 pub mod Shared
 pub mod MovesCaches
 pub mod MovesRuns
+pub mod Issuing

@@ -4,6 +4,7 @@
 -- HasRead: what a list of finished jobs has read.
 -- Assumes nothing.
 use mathlib.Core.Path.{_≡_, refl, sym, ap₂}
+use mathlib.Core.Bool.{false≢true}
 use mathlib.Core.Logic.{_≢_}
 use mathlib.Core.List.{List, []}
 use Prim.Native.Nat.{ℕ, _<_}
@@ -100,6 +101,7 @@ empty-follows K h state jobs done job = record {
   jobs = refl;
   job = refl;
   read = λ k _. test-none k;
+  low = λ k p. absurd (false≢true p);
   snapshot = λ k _. sym (counted-none K h);
   closed = empty-closed K h (planned jobs job);
 }
