@@ -1,0 +1,67 @@
+#!/usr/bin/env python3
+"""Which law refuses an edit, if no computed example does. Usage: tools/law_edits.py CRATE/LABEL ..
+
+Each edit (crates/CRATE/must-fail/LABEL.edit) is applied to a copy of the repository without the computed examples, and
+all crates of the model and of demand 3 are checked. Prints the first error, or that all is still proved. Some seconds
+for each edit; not part of ./test, where the examples refuse the same edits in their own crates."""
+import os
+import re
+import shutil
+import subprocess
+import sys
+import tempfile
+
+EXAMPLES = {"model": ["Scripts", "Readings", "Computed"], "layout": ["Scripted"], "history": ["Scripted"]}
+
+
+def read_edit(path):
+    target, pairs = None, []
+    for line in open(path, encoding="utf-8").read().split("\n"):
+        if line.startswith("file: "):
+            target = line[6:]
+        elif line.startswith("old: "):
+            pairs.append([line[5:], None])
+        elif line.startswith("new: "):
+            pairs[-1][1] = line[5:]
+    return target, pairs
+
+
+def without_examples(root):
+    for crate, names in EXAMPLES.items():
+        proofs = os.path.join(root, "crates", crate, "proofs")
+        for name in names:
+            path = os.path.join(proofs, name + ".antt")
+            if os.path.exists(path):
+                os.remove(path)
+        lib = os.path.join(proofs, "Lib.antt")
+        kept = [l for l in open(lib, encoding="utf-8") if l.strip() not in ["pub mod " + n for n in names]]
+        open(lib, "w", encoding="utf-8").writelines(kept)
+
+
+def main():
+    here = os.path.dirname(os.path.dirname(os.path.abspath(__file__)))
+    root = os.path.join(tempfile.mkdtemp(), "copy")
+    skip = shutil.ignore_patterns(".git", "bin", "must-fail")
+    shutil.copytree(here, root, ignore=skip)
+    without_examples(root)
+    subprocess.run(["git", "init", "-q", root], check=True)
+    command = ["rt", "check", "consistency"]
+    run = lambda: subprocess.run(command, cwd=root, text=True, capture_output=True)
+    print("no edit:", "proved" if run().returncode == 0 else "NOT PROVED")
+    for name in sys.argv[1:]:
+        crate, label = name.split("/")
+        target, pairs = read_edit(os.path.join(here, "crates", crate, "must-fail", label + ".edit"))
+        path = os.path.join(root, "crates", crate, target)
+        before = text = open(path, encoding="utf-8").read()
+        for old, new in pairs:
+            assert text.count(old) == 1, (name, old)
+            text = text.replace(old, new)
+        open(path, "w", encoding="utf-8").write(text)
+        out = run()
+        found = re.search(r"crates/(\S+?\.antt):(\d+):\d+: error: `([^`]*)`", out.stdout + out.stderr)
+        print("%s: %s" % (name, "still proved" if out.returncode == 0 else found.groups() if found else "refused"), flush=True)
+        open(path, "w", encoding="utf-8").write(before)
+    shutil.rmtree(os.path.dirname(root))
+
+
+main()
