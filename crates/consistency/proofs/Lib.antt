@@ -8,3 +8,5 @@ pub mod Counting
 pub mod Breaks
 pub mod Invariant
 pub mod Shared
+pub mod Stepped
+pub mod MovesStep
