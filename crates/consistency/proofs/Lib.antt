@@ -8,5 +8,7 @@ pub mod Counting
 pub mod Breaks
 pub mod Invariant
 pub mod Shared
+pub mod MovesCaches
+pub mod MovesRuns
 pub mod Stepped
 pub mod MovesStep
