@@ -12,3 +12,4 @@ pub mod MovesCaches
 pub mod MovesRuns
 pub mod Stepped
 pub mod MovesStep
+pub mod MovesPrepare

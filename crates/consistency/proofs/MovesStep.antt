@@ -18,7 +18,7 @@ use Rattle.masks.proofs.Bits.{test-or}
 use Rattle.model.specs.Store.{Run, Store, withSites, withCache, withRun, withState, withJobDone}
 use Rattle.model.specs.Outcome.{brokenState}
 use Rattle.model.specs.Calls.{step}
-use Rattle.model.specs.Step.{stepSite, stepReads, stepCache, stepPull, stepSnapshot, stepMoved, stepCause, stepBroken, stepDone, stepRule}
+use Rattle.model.specs.Step.{stepSite, stepReads, stepCache, stepPlan, stepPull, stepSnapshot, stepMoved, stepCause, stepBroken, stepDone, stepRule}
 use Rattle.model.proofs.Steps.{Accepted, accepted}
 use Rattle.layout.proofs.Follow.{Fine}
 use Rattle.history.specs.Book.{Book, BookRun, bookRule, withBookRun, withBookCaches}
@@ -26,7 +26,7 @@ use Rattle.consistency.specs.Trace.{ReadSet, readNow, finish}
 use Rattle.consistency.specs.Claim.{first, later}
 use Rattle.consistency.proofs.Invariant.{RunFollows, ReadAs, Inv, Moves}
 use Rattle.consistency.proofs.Shared.{unless-moves, HasRead, inv-cache, inv-run}
-use Rattle.consistency.proofs.Stepped.{copyCache, copyPlan, copyRun, book-step, stepCache-related, stepCache-closed, stepSnapshot-related, stepSnapshot-closed, stepSnapshot-out, copySnapshot-out}
+use Rattle.consistency.proofs.Stepped.{copyCache, copyRun, book-step, stepCache-related, stepCache-closed, stepSnapshot-related, stepSnapshot-closed, stepSnapshot-out, copySnapshot-out}
 
 -- ---- a step that breaks its run
 
@@ -86,14 +86,14 @@ module _ {s : Store} {b : Book} {f : ℕ → List ReadSet} {r j : ℕ} (fine : F
       (copyRun s b r j)
 
   stepped-follows : RunFollows (s .counts .keys) (b .history) stepped (copyRun s b r j)
-  unfolding withJobDone copyRun stepReads copyPlan
+  unfolding withJobDone copyRun stepReads stepPlan
   stepped-follows =
       let F = v .follows in
       let G = F .run r (a .run-in) in
       let reads = s .run r .job j .reads in
       record {
-        jobs = G .jobs;
-        job = G .job;
+        jobs = refl;
+        job = refl;
         read = λ k h. test-or (s .run r .read) reads k
             ∙ ap (λ (c : Bool). c || testBit reads k) (G .read k h);
         snapshot = λ k h. stepSnapshot-related fine F a k h .0;
@@ -137,7 +137,7 @@ module _ {s : Store} {b : Book} {f : ℕ → List ReadSet} {r j : ℕ} (fine : F
   unfolding readNow withJobDone copyRun stepReads
   now =
       rw (next-run, next-book-run) (record {
-        keys = λ k h p. or-right (b .run r .read k) (rw (v .follows .run r (a .run-in) .job) p);
+        keys = λ k h p. or-right (b .run r .read k) p;
         version = λ k h p. refl;
         copy = λ k h p. refl;
       })

@@ -1,17 +1,16 @@
 -- A step on versions and on copies: the cache after its fetch, and the snapshot that it leaves.
--- copyCache, copyPlan, copyPull, copySnapshot, copyRun: the book's; book-step: they are.
+-- copyCache, copyPull, copySnapshot, copyRun: the book's; book-step: they are.
 -- ..-related: the store's stand for them. ..-closed: they are cuts. ..-out: outside of C.
 -- Assumes nothing.
-use mathlib.Core.Path.{_≡_, refl, sym, ap, _∙_}
+use mathlib.Core.Path.{_≡_, refl, sym, _∙_}
 use mathlib.Core.Bool.{false, _||_}
 use Prim.Native.Nat.{ℕ, _<_}
-use Rattle.words.specs.Tests.{Items, Within}
+use Rattle.words.specs.Tests.{Items}
 use Rattle.words.specs.Lists.{putAt}
-use Rattle.words.proofs.Bools.{_∙˙_}
 use Rattle.model.specs.Algebra.{Place}
 use Rattle.model.specs.Version.{versions}
 use Rattle.model.specs.Sets.{fetched, pullSet, pulled}
-use Rattle.model.specs.Store.{Store, planned}
+use Rattle.model.specs.Store.{Store}
 use Rattle.model.specs.Step.{readStart, stepSite, stepReads, stepStart, stepCache, stepPlan, stepPull, stepSnapshot}
 use Rattle.model.proofs.Steps.{Accepted, step-planned}
 use Rattle.layout.proofs.Stepping.{Ready, open-state, site}
@@ -24,7 +23,7 @@ use Rattle.consistency.proofs.Members.{pulled-out}
 use Rattle.consistency.proofs.ClosingSets.{fetched-closed, pulled-closed}
 use Rattle.consistency.proofs.Counting.{CountedAs}
 use Rattle.consistency.proofs.Invariant.{Follows}
-use Rattle.consistency.proofs.Shared.{now-simulates, master-closed, master-related, cache-related, cache-part, snapshot-related, plan-same}
+use Rattle.consistency.proofs.Shared.{now-simulates, master-closed, master-related, cache-related, cache-part, snapshot-related, snapshot-closed}
 
 pub accepted-ready : {s : Store} {r j : ℕ} → Accepted s r j → Ready s r j
 accepted-ready {s} {r} {j} a = record {
@@ -34,7 +33,7 @@ accepted-ready {s} {r} {j} a = record {
   fetch = a .fetchable;
 }
 
--- ---- the book's run r and its cache after job j, with the store's counts, site and reads
+-- ---- the book's run r and its cache after job j, with the store's counts and jobs
 
 module _ (s : Store) (b : Book) (r j : ℕ) where
   unfoldable pub copyCache : Place Copy
@@ -45,24 +44,23 @@ module _ (s : Store) (b : Book) (r j : ℕ) where
       fetched alg K (b .master) cache
       (readStart alg K (b .run r .snapshot) cache (stepReads s r j))
 
-  unfoldable pub copyPlan : Items
-  copyPlan = planned (b .run r .jobs) (b .run r .job)
-
   -- C
   unfoldable pub copyPull : Items
   copyPull =
       let K = s .counts .keys in
-      pullSet (copies K (b .history)) K copyPlan (b .run r .snapshot) copyCache (stepReads s r j)
+      pullSet (copies K (b .history)) K (stepPlan s r j) (b .run r .snapshot) copyCache
+      (stepReads s r j)
 
   unfoldable pub copySnapshot : Place Copy
   copySnapshot =
       let K = s .counts .keys in
-      pulled (copies K (b .history)) K copyPlan (b .run r .snapshot) copyCache (stepReads s r j)
+      pulled (copies K (b .history)) K (stepPlan s r j) (b .run r .snapshot) copyCache
+      (stepReads s r j)
 
   unfoldable pub copyRun : BookRun
   copyRun = record {
-    jobs = b .run r .jobs;
-    job = b .run r .job;
+    jobs = s .run r .jobs;
+    job = s .run r .job;
     read = λ k. b .run r .read k || stepReads s r j k;
     snapshot = copySnapshot;
   }
@@ -70,8 +68,8 @@ module _ (s : Store) (b : Book) (r j : ℕ) where
   pub book-step : Follows s b → r < s .counts .runs
       → bookStepJob r j b
       ≡ withBookRun (withBookCaches b (putAt (b .cache) (stepSite s r j) copyCache)) r copyRun
-  unfolding bookStepJob copyRun copySnapshot copyPlan copyCache stepSite stepReads
-  book-step F l = rw (← F .counts, ← F .run r l .job)
+  unfolding bookStepJob copyRun copySnapshot copyCache stepSite stepReads stepPlan
+  book-step F l = rw (← F .counts, ← F .run r l .jobs, ← F .run r l .job)
 
 -- ---- a step that is not refused
 
@@ -104,20 +102,13 @@ module _ {s : Store} {b : Book} {r j : ℕ} (fine : Fine s) (F : Follows s b)
 
   -- ---- C
 
-  pub stepPlan-same : (k : ℕ) → stepPlan s r j k ≡ copyPlan s b r j k
-  unfolding stepPlan copyPlan
-  stepPlan-same k = ap (λ (S : Items). S k) (plan-same (F .run r (a .run-in)))
-
-  reads-planned : Within (s .counts .keys) (stepReads s r j) (copyPlan s b r j)
-  reads-planned k _ p = stepPlan-same k ∙˙ step-planned s r j k (a .job-in) p
-
   stepPull-same : Agree (s .counts .keys) (stepPull s r j) (copyPull s b r j)
   unfolding stepPull copyPull
   stepPull-same =
       let reads = stepReads s r j in
-      pullSet-same (now-simulates F) (stepPlan s r j) (copyPlan s b r j) (s .run r .snapshot)
+      pullSet-same (now-simulates F) (stepPlan s r j) (stepPlan s r j) (s .run r .snapshot)
       (stepCache s r j) (b .run r .snapshot) (copyCache s b r j) reads reads
-      (λ k _. stepPlan-same k) (snapshot-related F r (a .run-in)) stepCache-related (λ _ _. refl)
+      (λ _ _. refl) (snapshot-related F r (a .run-in)) stepCache-related (λ _ _. refl)
 
   -- ---- the snapshot
 
@@ -126,17 +117,17 @@ module _ {s : Store} {b : Book} {r j : ℕ} (fine : Fine s) (F : Follows s b)
   unfolding stepSnapshot copySnapshot
   stepSnapshot-related =
       let reads = stepReads s r j in
-      pulled-rel (now-simulates F) (stepPlan s r j) (copyPlan s b r j) (s .run r .snapshot)
+      pulled-rel (now-simulates F) (stepPlan s r j) (stepPlan s r j) (s .run r .snapshot)
       (stepCache s r j) (b .run r .snapshot) (copyCache s b r j) reads reads
-      (λ k _. stepPlan-same k) (snapshot-related F r (a .run-in)) stepCache-related (λ _ _. refl)
+      (λ _ _. refl) (snapshot-related F r (a .run-in)) stepCache-related (λ _ _. refl)
 
-  pub stepSnapshot-closed : ClosedIn (s .counts .keys) (b .history) (copyPlan s b r j)
+  pub stepSnapshot-closed : ClosedIn (s .counts .keys) (b .history) (stepPlan s r j)
       (copySnapshot s b r j)
-  unfolding copySnapshot copyPlan
+  unfolding copySnapshot stepPlan
   stepSnapshot-closed =
-      pulled-closed (s .counts .keys) (b .history) (copyPlan s b r j) (b .run r .snapshot)
-      (copyCache s b r j) (stepReads s r j) (F .run r (a .run-in) .closed) stepCache-closed
-      reads-planned
+      pulled-closed (s .counts .keys) (b .history) (stepPlan s r j) (b .run r .snapshot)
+      (copyCache s b r j) (stepReads s r j) (snapshot-closed F r (a .run-in)) stepCache-closed
+      (λ k _. step-planned s r j k (a .job-in))
 
   -- Outside of C both snapshots are as they were.
   pub stepSnapshot-out : (k : ℕ) → stepPull s r j k ≡ false
@@ -150,5 +141,5 @@ module _ {s : Store} {b : Book} {r j : ℕ} (fine : Fine s) (F : Follows s b)
       → copySnapshot s b r j k ≡ b .run r .snapshot k
   unfolding copySnapshot copyPull
   copySnapshot-out k h e =
-      pulled-out (copies (s .counts .keys) (b .history)) (s .counts .keys) (copyPlan s b r j)
+      pulled-out (copies (s .counts .keys) (b .history)) (s .counts .keys) (stepPlan s r j)
       (b .run r .snapshot) (copyCache s b r j) (stepReads s r j) k (sym (stepPull-same k h) ∙ e)
