@@ -13,3 +13,4 @@ pub mod MovesRuns
 pub mod Stepped
 pub mod MovesStep
 pub mod MovesPrepare
+pub mod Cutting
