@@ -50,20 +50,24 @@ inv-state : {s : Store} {b : Book} {f : ℕ → List ReadSet} → Inv s b f → 
     → r < s .counts .runs → Inv (withRun s r (withState (s .run r) n)) b f
 unfolding withState
 inv-state {s} {b} {f} v r n l =
-    let G = v .follows .run r l in
     let a = withState (s .run r) n in
-    let follows : RunFollows (s .counts .keys) (b .history) a (b .run r) = record {
-      jobs = G .jobs;
-      job = G .job;
-      read = G .read;
-      snapshot = G .snapshot;
-      closed = G .closed;
-    } in
-    let has : HasRead (s .counts .keys) a (b .run r) (f r) =
-    λ x i.
-    let R = v .reads r l x i in
-    record { keys = R .keys; version = R .version; copy = R .copy } in
-    rw (same-book b r) at (inv-run v f r a (b .run r) follows l (λ q _. refl) has)
+    rw (same-book b r) at (inv-run v f r a (b .run r) follows l (λ _ _. refl) has)
+  where
+    follows : RunFollows (s .counts .keys) (b .history) (withState (s .run r) n) (b .run r)
+    follows =
+        let G = v .follows .run r l in
+        record {
+          jobs = G .jobs;
+          job = G .job;
+          read = G .read;
+          snapshot = G .snapshot;
+          closed = G .closed;
+        }
+
+    has : HasRead (s .counts .keys) (withState (s .run r) n) (b .run r) (f r)
+    has x i =
+        let R = v .reads r l x i in
+        record { keys = R .keys; version = R .version; copy = R .copy }
 
 -- ---- a step that is done
 
