@@ -13,3 +13,7 @@ pub mod Shared
 pub mod MovesCaches
 pub mod MovesRuns
 pub mod Issuing
+pub mod Stepped
+pub mod MovesStep
+pub mod MovesPrepare
+pub mod Cutting
