@@ -11,3 +11,4 @@ pub mod Shared
 pub mod MovesCaches
 pub mod MovesRuns
 pub mod Issuing
+pub mod MovesIssue
