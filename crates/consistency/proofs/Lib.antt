@@ -12,3 +12,4 @@ pub mod MovesCaches
 pub mod MovesRuns
 pub mod Issuing
 pub mod MovesIssue
+pub mod Covering

@@ -142,11 +142,11 @@ module _ (s : Store) (b : Book) (F : Follows s b) (r w S : ℕ) (hr : r < s .cou
 -- ---- the call
 
 -- Of no keys: only the run is freed.
-freed-moves : (s : Store) (b : Book) (f : ℕ → List ReadSet) (r w S : ℕ) → Inv s b f
+done-moves : (s : Store) (b : Book) (f : ℕ → List ReadSet) (r w S : ℕ) → Inv s b f
     → r < s .counts .runs → w < s .counts .writers → S < 2 ^ s .counts .keys
     → Moves (issue r w S) s b f (issueDone s r w S)
 unfolding issueDone bookRule bookIssued finish
-freed-moves s b f r w S v hr hw hS =
+done-moves s b f r w S v hr hw hS =
     test (eqb S 0)
     (λ y. rw y
     (rw y (inv-anew v r freeRun noRun (free-follows (s .counts .keys) (b .history)) hr)))
@@ -160,4 +160,4 @@ issue-moves r w S s b f _ v =
     let x = no-cause _ 3 _ (omega arith) e in
     let y = no-cause _ 3 _ (omega arith) (x .1) in
     let z = no-cause _ 3 _ (omega arith) (y .1) in
-    freed-moves s b f r w S v (leb-gt _ _ (x .0)) (leb-gt _ _ (y .0)) (leb-gt _ _ (z .0)))
+    done-moves s b f r w S v (leb-gt _ _ (x .0)) (leb-gt _ _ (y .0)) (leb-gt _ _ (z .0)))
