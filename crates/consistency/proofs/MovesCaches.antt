@@ -9,7 +9,7 @@ use Rattle.words.specs.Lists.{putAt}
 use Rattle.words.proofs.Bools.{leb-gt}
 use Rattle.sizes.specs.declared.Counts.{Counts}
 use Rattle.model.specs.Algebra.{Place}
-use Rattle.model.specs.Version.{versions}
+use Rattle.model.specs.Version.{Version, versions}
 use Rattle.model.specs.Sets.{fetched, evicted}
 use Rattle.model.specs.Store.{Store, withCache}
 use Rattle.model.specs.Calls.{fetch, evict}
@@ -18,11 +18,24 @@ use Rattle.layout.proofs.Follow.{Fine}
 use Rattle.layout.proofs.Kept.{no-cause}
 use Rattle.history.specs.Copies.{Copy, copies}
 use Rattle.history.specs.Book.{Book, bookFetch, bookEvict, bookRule, withBookCaches}
+use Rattle.history.proofs.Notions.{ClosedAll}
 use Rattle.consistency.specs.Trace.{ReadSet, finish}
-use Rattle.consistency.proofs.Simulation.{fetched-rel, evicted-rel}
+use Rattle.consistency.proofs.Simulation.{Related, fetched-rel, evicted-rel}
 use Rattle.consistency.proofs.ClosingSets.{fetched-closed, evicted-closed}
+use Rattle.consistency.proofs.Counting.{CountedAs}
 use Rattle.consistency.proofs.Invariant.{Inv, Moves}
 use Rattle.consistency.proofs.Shared.{unless-moves, by-counts, now-simulates, master-closed, master-related, cache-related, cache-part, inv-cache}
+
+-- Cache o changed, in the book by a rule that takes the counts.
+cache-next : {s : Store} {b : Book} {f : ℕ → List ReadSet} (o : ℕ) (p : Place Version)
+    (q : Counts → Place Copy) → Inv s b f
+    → Related (s .counts .keys) (CountedAs (s .counts .keys) (b .history)) p (q (s .counts))
+    → ClosedAll (s .counts .keys) (b .history) (q (s .counts))
+    → Inv (withCache s o p) (withBookCaches b (putAt (b .cache) o (q (b .counts)))) f
+cache-next {s} {b} {f} o p q v rel closed =
+    by-counts (v .follows)
+    (λ z. Inv (withCache s o p) (withBookCaches b (putAt (b .cache) o (q z))) f)
+    (inv-cache v o p (q (s .counts)) (λ k l. rel k l .0) closed)
 
 pub fetch-moves : (o k : ℕ) (s : Store) (b : Book) (f : ℕ → List ReadSet) → Fine s → Inv s b f
     → Moves (fetch o k) s b f (fetchRule o k s)
@@ -32,15 +45,13 @@ fetch-moves o k s b f _ v =
     let F = v .follows in
     let K = s .counts .keys in
     let l : o < s .counts .sites = leb-gt _ _ (no-cause _ 3 _ (omega arith) e .0) in
-    let p = fetched (versions (s .counts .writers)) K (s .master) (s .site o .cache) (only k) in
-    let q : Counts → Place Copy = λ z.
-    fetched (copies (z .keys) (b .history)) (z .keys) (b .master) (b .cache o) (only k) in
-    let rel = fetched-rel (now-simulates F) (s .master) (s .site o .cache) (b .master) (b .cache o)
-    (only k) (only k) (master-related F) (cache-related F o l) (λ _ _. refl) in
-    let closed = fetched-closed K (b .history) (b .master) (b .cache o) (only k)
-    (cache-part F o l) (master-closed F) (F .closed o l) in
-    by-counts F (λ z. Inv (withCache s o p) (withBookCaches b (putAt (b .cache) o (q z))) f)
-    (inv-cache v o p (q (s .counts)) (λ d h. rel d h .0) closed))
+    cache-next o
+    (fetched (versions (s .counts .writers)) K (s .master) (s .site o .cache) (only k))
+    (λ z. fetched (copies (z .keys) (b .history)) (z .keys) (b .master) (b .cache o) (only k)) v
+    (fetched-rel (now-simulates F) (s .master) (s .site o .cache) (b .master) (b .cache o) (only k)
+    (only k) (master-related F) (cache-related F o l) (λ _ _. refl))
+    (fetched-closed K (b .history) (b .master) (b .cache o) (only k) (cache-part F o l)
+    (master-closed F) (F .closed o l)))
 
 pub evict-moves : (o k : ℕ) (s : Store) (b : Book) (f : ℕ → List ReadSet) → Fine s → Inv s b f
     → Moves (evict o k) s b f (evictRule o k s)
@@ -50,11 +61,8 @@ evict-moves o k s b f _ v =
     let F = v .follows in
     let K = s .counts .keys in
     let l : o < s .counts .sites = leb-gt _ _ (no-cause _ 3 _ (omega arith) e .0) in
-    let p = evicted (versions (s .counts .writers)) K (s .site o .cache) (only k) in
-    let q : Counts → Place Copy = λ z.
-    evicted (copies (z .keys) (b .history)) (z .keys) (b .cache o) (only k) in
-    let rel = evicted-rel (now-simulates F) (s .site o .cache) (b .cache o) (only k) (only k)
-    (cache-related F o l) (λ _ _. refl) in
-    let closed = evicted-closed K (b .history) (b .cache o) (only k) (F .closed o l) in
-    by-counts F (λ z. Inv (withCache s o p) (withBookCaches b (putAt (b .cache) o (q z))) f)
-    (inv-cache v o p (q (s .counts)) (λ d h. rel d h .0) closed))
+    cache-next o (evicted (versions (s .counts .writers)) K (s .site o .cache) (only k))
+    (λ z. evicted (copies (z .keys) (b .history)) (z .keys) (b .cache o) (only k)) v
+    (evicted-rel (now-simulates F) (s .site o .cache) (b .cache o) (only k) (only k)
+    (cache-related F o l) (λ _ _. refl))
+    (evicted-closed K (b .history) (b .cache o) (only k) (F .closed o l)))

@@ -7,10 +7,11 @@ use mathlib.Core.Path.{_≡_, refl, sym, ap₂}
 use mathlib.Core.Bool.{false≢true}
 use mathlib.Core.Logic.{_≢_}
 use mathlib.Core.List.{List, []}
-use Prim.Native.Nat.{ℕ, _≤_, _<_}
+use Prim.Native.Nat.{ℕ, _<_}
 use native.Mathlib.Omega.{arith}
 use native.Mathlib.Decide.{ℕ-discrete}
 use lib.Dec.{eqb}
+use Rattle.words.specs.Tests.{none}
 use Rattle.words.specs.Lists.{putAt}
 use Rattle.words.proofs.Bools.{test, eqb-eq}
 use Rattle.words.proofs.Lists.{putAt-same, putAt-other}
@@ -18,12 +19,12 @@ use Rattle.masks.proofs.Bits.{test-none}
 use Rattle.sizes.specs.declared.Counts.{Counts}
 use Rattle.model.specs.Algebra.{Place}
 use Rattle.model.specs.Version.{Version, versions}
-use Rattle.model.specs.Store.{Run, Site, Store, freeRun, planned, withSites, withCache, withRun}
+use Rattle.model.specs.Store.{Job, Run, Site, Store, emptyPlace, noJobs, freeRun, planned, withSites, withCache, withRun}
 use Rattle.model.specs.Outcome.{Outcome, unless}
 use Rattle.model.specs.Calls.{StoreCall}
 use Rattle.history.specs.History.{History}
 use Rattle.history.specs.Copies.{Copy, copies}
-use Rattle.history.specs.Book.{BookRun, Book, noRun, withBookCaches, withBookRun}
+use Rattle.history.specs.Book.{BookRun, Book, noCopies, noRun, withBookCaches, withBookRun}
 use Rattle.history.proofs.Notions.{ClosedAll}
 use Rattle.history.proofs.Past.{past-laws}
 use Rattle.history.proofs.Counted.{counted-none}
@@ -86,15 +87,27 @@ pub plan-same : {K : ℕ} {h : History} {a : Run} {c : BookRun} → RunFollows K
     → planned (a .jobs) (a .job) ≡ planned (c .jobs) (c .job)
 plan-same F = ap₂ planned (F .jobs) (F .job)
 
-pub free-follows : (K : ℕ) (h : History) → RunFollows K h freeRun noRun
-free-follows K h = record {
+-- A run with nothing read and nothing on its snapshot.
+pub empty-follows : (K : ℕ) (h : History) (state jobs done : ℕ) (job : ℕ → Job)
+    → RunFollows K h (record {
+      state = state;
+      jobs = jobs;
+      done = done;
+      read = 0;
+      job = job;
+      snapshot = emptyPlace;
+    }) (record { jobs = jobs; job = job; read = none; snapshot = noCopies })
+empty-follows K h state jobs done job = record {
   jobs = refl;
   job = refl;
   read = λ k _. test-none k;
   low = λ k p. absurd (false≢true p);
   snapshot = λ k _. sym (counted-none K h);
-  closed = empty-closed K h (planned 0 (noRun .job));
+  closed = empty-closed K h (planned jobs job);
 }
+
+pub free-follows : (K : ℕ) (h : History) → RunFollows K h freeRun noRun
+free-follows K h = empty-follows K h 0 0 0 noJobs
 
 -- ---- one part changed
 
