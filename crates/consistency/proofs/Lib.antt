@@ -13,3 +13,7 @@ pub mod MovesRuns
 pub mod Issuing
 pub mod MovesIssue
 pub mod Covering
+pub mod Stepped
+pub mod MovesStep
+pub mod MovesPrepare
+pub mod Cutting

@@ -25,7 +25,7 @@ use Rattle.model.specs.Calls.{StoreCall}
 use Rattle.history.specs.History.{History}
 use Rattle.history.specs.Copies.{Copy, copies}
 use Rattle.history.specs.Book.{BookRun, Book, noCopies, noRun, withBookCaches, withBookRun}
-use Rattle.history.proofs.Notions.{ClosedAll}
+use Rattle.history.proofs.Notions.{ClosedIn, ClosedAll}
 use Rattle.history.proofs.Past.{past-laws}
 use Rattle.history.proofs.Counted.{counted-none}
 use Rattle.consistency.specs.Trace.{ReadSet}
@@ -86,6 +86,12 @@ module _ {s : Store} {b : Book} (F : Follows s b) where
 pub plan-same : {K : ℕ} {h : History} {a : Run} {c : BookRun} → RunFollows K h a c
     → planned (a .jobs) (a .job) ≡ planned (c .jobs) (c .job)
 plan-same F = ap₂ planned (F .jobs) (F .job)
+
+-- So the book's snapshot is a cut for the plan of the store's run.
+pub snapshot-closed : {s : Store} {b : Book} → Follows s b → (r : ℕ) → r < s .counts .runs
+    → ClosedIn (s .counts .keys) (b .history) (planned (s .run r .jobs) (s .run r .job))
+    (b .run r .snapshot)
+snapshot-closed F r l = rw (plan-same (F .run r l)) (F .run r l .closed)
 
 -- A run with nothing read and nothing on its snapshot.
 pub empty-follows : (K : ℕ) (h : History) (state jobs done : ℕ) (job : ℕ → Job)

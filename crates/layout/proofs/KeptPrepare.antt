@@ -1,5 +1,6 @@
 -- Prepare keeps a store fine.
 -- Caches: caches that fit and are formed. merged-..: the snapshot that they are merged into.
+-- Ready: no cause of a refusal holds. was, unread: the run before it, with no key read.
 -- Assumes nothing.
 use mathlib.Core.Path.{_≡_, refl, ap, _∙_}
 use mathlib.Core.Bool.{Bool, true, false, cond, So, _&&_}
@@ -121,10 +122,10 @@ module _ (z : Counts) (sites plan : Items) (cache : ℕ → Place Version) (C : 
 
 -- ---- prepare of run r, with no job done
 
-record Ready (s : Store) (r : ℕ) : Type 0 where
-  run : r < s .counts .runs
-  state : 1 ≤ s .run r .state
-  done : s .run r .done ≡ 0
+pub record Ready (s : Store) (r : ℕ) : Type 0 where
+  pub run : r < s .counts .runs
+  pub state : 1 ≤ s .run r .state
+  pub done : s .run r .done ≡ 0
 
 -- Only an open run may be prepared.
 open-state : (n : ℕ) → So (allowed prepareRow n) → 1 ≤ n
@@ -132,7 +133,7 @@ unfolding allowed
 open-state zero p = clash p refl
 open-state (suc n) p = omega arith
 
-ready : (s : Store) (r : ℕ) → prepareCause s r ≡ 0 → Ready s r
+pub ready : (s : Store) (r : ℕ) → prepareCause s r ≡ 0 → Ready s r
 unfolding prepareCause
 ready s r e =
     let a = no-cause _ 3 _ (omega arith) e in
@@ -145,7 +146,7 @@ ready s r e =
     }
 
 module _ (s : Store) (r : ℕ) (F : Fine s) (R : Ready s r) where
-  was : Plan (s .counts) (s .run r)
+  pub was : Plan (s .counts) (s .run r)
   was = plan-out (s .counts) (s .run r) (R .state) (well-out s (F .formed) .run r (R .run))
 
   caches : Caches (s .counts) (prepareCaches s r)
@@ -164,8 +165,8 @@ module _ (s : Store) (r : ℕ) (F : Fine s) (R : Ready s r) where
   }
 
   -- No key is read.
-  none : (k : ℕ) → testBit (s .run r .read) k ≡ false
-  none k =
+  pub unread : (k : ℕ) → testBit (s .run r .read) k ≡ false
+  unread k =
       let a = s .run r in
       let K = s .counts .keys in
       let e : a .read ≡ 0 =
@@ -200,7 +201,7 @@ module _ (s : Store) (r : ℕ) (F : Fine s) (R : Ready s r) where
         snapshot = record {
           place = merged-formed z sites plan (prepareCaches s r) caches;
           carried = λ k _ p. merged-planned z sites plan (prepareCaches s r) caches k p;
-          has = λ k _ p. clash p (none k);
+          has = λ k _ p. clash p (unread k);
         };
       })
 

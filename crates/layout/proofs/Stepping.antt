@@ -34,7 +34,7 @@ pub record Ready (s : Store) (r j : ℕ) : Type 0 where
       (stepStart s r j) ≡ false
 
 -- Only an open run may step.
-open-state : (n : ℕ) → So (allowed stepRow n) → 1 ≤ n
+pub open-state : (n : ℕ) → So (allowed stepRow n) → 1 ≤ n
 unfolding allowed
 open-state zero p = clash p refl
 open-state (suc n) p = omega arith

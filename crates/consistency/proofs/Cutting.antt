@@ -1,0 +1,52 @@
+-- Where the store follows the book: every cache is a causal cut, every snapshot an overlapping cut
+-- for its plan, and a step breaks its run exactly if no choice works.
+-- cuts, overlaps, step-ready, breaks.
+-- Assumes nothing.
+use mathlib.Core.Path.{refl, _∙_}
+use mathlib.Core.Bool.{So}
+use Prim.Native.Nat.{ℕ, _<_}
+use Rattle.model.specs.Algebra.{causalCut, overlappingCut}
+use Rattle.model.specs.Version.{versions}
+use Rattle.model.specs.Store.{Store, planned}
+use Rattle.model.specs.Step.{stepPlan, stepCache}
+use Rattle.model.proofs.Steps.{Accepted}
+use Rattle.layout.proofs.Stepping.{plan}
+use Rattle.layout.proofs.Follow.{Fine}
+use Rattle.history.specs.Book.{Book}
+use Rattle.consistency.specs.Claim.{BreakExact}
+use Rattle.consistency.proofs.Simulation.{causalCut-same, overlappingCut-same}
+use Rattle.consistency.proofs.Closing.{closed-causal, closed-overlapping}
+use Rattle.consistency.proofs.Breaks.{Ready, breaks-exact}
+use Rattle.consistency.proofs.Invariant.{Follows}
+use Rattle.consistency.proofs.Shared.{now-simulates, cache-related, snapshot-related, snapshot-closed}
+use Rattle.consistency.proofs.Stepped.{accepted-ready, copyCache, stepCache-related, stepCache-closed}
+
+module _ {s : Store} {b : Book} (F : Follows s b) where
+  pub cuts : (o : ℕ) → o < s .counts .sites
+      → So (causalCut (versions (s .counts .writers)) (s .counts .keys) (s .site o .cache))
+  cuts o l =
+      causalCut-same (now-simulates F) (s .site o .cache) (b .cache o) (cache-related F o l)
+      ∙ closed-causal (F .closed o l)
+
+  pub overlaps : (r : ℕ) → r < s .counts .runs
+      → So (overlappingCut (versions (s .counts .writers)) (s .counts .keys)
+      (planned (s .run r .jobs) (s .run r .job)) (s .run r .snapshot))
+  overlaps r l =
+      let S = planned (s .run r .jobs) (s .run r .job) in
+      overlappingCut-same (now-simulates F) S S (s .run r .snapshot) (b .run r .snapshot)
+      (λ _ _. refl) (snapshot-related F r l)
+      ∙ closed-overlapping (snapshot-closed F r l)
+
+  -- A step that is not refused finds what it needs.
+  pub step-ready : Fine s → (r j : ℕ) → Accepted s r j → Ready s r j
+  unfolding stepPlan
+  step-ready fine r j a = record {
+    overlaps = overlaps r (a .run-in);
+    cut = causalCut-same (now-simulates F) (stepCache s r j) (copyCache s b r j)
+        (stepCache-related fine F a)
+        ∙ closed-causal (stepCache-closed fine F a);
+    on-snapshot = plan s r j fine (accepted-ready a) .snapshot .has;
+  }
+
+  pub breaks : Fine s → (r j : ℕ) → BreakExact s r j
+  breaks fine r j = breaks-exact s r j (step-ready fine r j)

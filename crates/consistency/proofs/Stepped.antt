@@ -1,0 +1,145 @@
+-- A step on versions and on copies: the cache after its fetch, and the snapshot that it leaves.
+-- copyCache, copyPull, copySnapshot, copyRun: the book's; book-step: they are.
+-- ..-related: the store's stand for them. ..-closed: they are cuts. ..-out: outside of C.
+-- Assumes nothing.
+use mathlib.Core.Path.{_≡_, refl, sym, _∙_}
+use mathlib.Core.Bool.{false, _||_}
+use Prim.Native.Nat.{ℕ, _<_}
+use Rattle.words.specs.Tests.{Items}
+use Rattle.words.specs.Lists.{putAt}
+use Rattle.model.specs.Algebra.{Place}
+use Rattle.model.specs.Version.{versions}
+use Rattle.model.specs.Sets.{fetched, pullSet, pulled}
+use Rattle.model.specs.Store.{Store}
+use Rattle.model.specs.Step.{readStart, stepSite, stepReads, stepStart, stepCache, stepPlan, stepPull, stepSnapshot}
+use Rattle.model.proofs.Steps.{Accepted, step-planned}
+use Rattle.layout.proofs.Stepping.{Ready, open-state, site}
+use Rattle.layout.proofs.Follow.{Fine}
+use Rattle.history.specs.Copies.{Copy, copies}
+use Rattle.history.specs.Book.{Book, BookRun, bookStepJob, withBookRun, withBookCaches}
+use Rattle.history.proofs.Notions.{ClosedIn, ClosedAll}
+use Rattle.consistency.proofs.Simulation.{Agree, Related, readStart-same, fetched-rel, pullSet-same, pulled-rel}
+use Rattle.consistency.proofs.Members.{pulled-out}
+use Rattle.consistency.proofs.ClosingSets.{fetched-closed, pulled-closed}
+use Rattle.consistency.proofs.Counting.{CountedAs}
+use Rattle.consistency.proofs.Invariant.{Follows}
+use Rattle.consistency.proofs.Shared.{now-simulates, master-closed, master-related, cache-related, cache-part, snapshot-related, snapshot-closed}
+
+pub accepted-ready : {s : Store} {r j : ℕ} → Accepted s r j → Ready s r j
+accepted-ready {s} {r} {j} a = record {
+  run = a .run-in;
+  state = open-state (s .run r .state) (a .open-run);
+  job = a .job-in;
+  fetch = a .fetchable;
+}
+
+-- ---- the book's run r and its cache after job j, with the store's counts and jobs
+
+module _ (s : Store) (b : Book) (r j : ℕ) where
+  unfoldable pub copyCache : Place Copy
+  copyCache =
+      let K = s .counts .keys in
+      let alg = copies K (b .history) in
+      let cache = b .cache (stepSite s r j) in
+      fetched alg K (b .master) cache
+      (readStart alg K (b .run r .snapshot) cache (stepReads s r j))
+
+  -- C
+  unfoldable pub copyPull : Items
+  copyPull =
+      let K = s .counts .keys in
+      pullSet (copies K (b .history)) K (stepPlan s r j) (b .run r .snapshot) copyCache
+      (stepReads s r j)
+
+  unfoldable pub copySnapshot : Place Copy
+  copySnapshot =
+      let K = s .counts .keys in
+      pulled (copies K (b .history)) K (stepPlan s r j) (b .run r .snapshot) copyCache
+      (stepReads s r j)
+
+  unfoldable pub copyRun : BookRun
+  copyRun = record {
+    jobs = s .run r .jobs;
+    job = s .run r .job;
+    read = λ k. b .run r .read k || stepReads s r j k;
+    snapshot = copySnapshot;
+  }
+
+  pub book-step : Follows s b → r < s .counts .runs
+      → bookStepJob r j b
+      ≡ withBookRun (withBookCaches b (putAt (b .cache) (stepSite s r j) copyCache)) r copyRun
+  unfolding bookStepJob copyRun copySnapshot copyCache stepSite stepReads stepPlan
+  book-step F l = rw (← F .counts, ← F .run r l .jobs, ← F .run r l .job)
+
+-- ---- a step that is not refused
+
+module _ {s : Store} {b : Book} {r j : ℕ} (fine : Fine s) (F : Follows s b)
+    (a : Accepted s r j) where
+  at-site : stepSite s r j < s .counts .sites
+  at-site = site s r j fine (accepted-ready a)
+
+  -- ---- the cache
+
+  pub stepCache-related : Related (s .counts .keys) (CountedAs (s .counts .keys) (b .history))
+      (stepCache s r j) (copyCache s b r j)
+  unfolding stepCache stepStart copyCache
+  stepCache-related =
+      let L = now-simulates F in
+      let o = stepSite s r j in
+      let reads = stepReads s r j in
+      let rc = cache-related F o at-site in
+      fetched-rel L (s .master) (s .site o .cache) (b .master) (b .cache o) _ _ (master-related F)
+      rc
+      (readStart-same L (s .run r .snapshot) (s .site o .cache) (b .run r .snapshot) (b .cache o)
+      reads reads (snapshot-related F r (a .run-in)) rc (λ _ _. refl))
+
+  pub stepCache-closed : ClosedAll (s .counts .keys) (b .history) (copyCache s b r j)
+  unfolding copyCache
+  stepCache-closed =
+      let o = stepSite s r j in
+      fetched-closed (s .counts .keys) (b .history) (b .master) (b .cache o) _
+      (cache-part F o at-site) (master-closed F) (F .closed o at-site)
+
+  -- ---- C
+
+  stepPull-same : Agree (s .counts .keys) (stepPull s r j) (copyPull s b r j)
+  unfolding stepPull copyPull
+  stepPull-same =
+      let reads = stepReads s r j in
+      pullSet-same (now-simulates F) (stepPlan s r j) (stepPlan s r j) (s .run r .snapshot)
+      (stepCache s r j) (b .run r .snapshot) (copyCache s b r j) reads reads
+      (λ _ _. refl) (snapshot-related F r (a .run-in)) stepCache-related (λ _ _. refl)
+
+  -- ---- the snapshot
+
+  pub stepSnapshot-related : Related (s .counts .keys) (CountedAs (s .counts .keys) (b .history))
+      (stepSnapshot s r j) (copySnapshot s b r j)
+  unfolding stepSnapshot copySnapshot
+  stepSnapshot-related =
+      let reads = stepReads s r j in
+      pulled-rel (now-simulates F) (stepPlan s r j) (stepPlan s r j) (s .run r .snapshot)
+      (stepCache s r j) (b .run r .snapshot) (copyCache s b r j) reads reads
+      (λ _ _. refl) (snapshot-related F r (a .run-in)) stepCache-related (λ _ _. refl)
+
+  pub stepSnapshot-closed : ClosedIn (s .counts .keys) (b .history) (stepPlan s r j)
+      (copySnapshot s b r j)
+  unfolding copySnapshot stepPlan
+  stepSnapshot-closed =
+      pulled-closed (s .counts .keys) (b .history) (stepPlan s r j) (b .run r .snapshot)
+      (copyCache s b r j) (stepReads s r j) (snapshot-closed F r (a .run-in)) stepCache-closed
+      (λ k _. step-planned s r j k (a .job-in))
+
+  -- Outside of C both snapshots are as they were.
+  pub stepSnapshot-out : (k : ℕ) → stepPull s r j k ≡ false
+      → stepSnapshot s r j k ≡ s .run r .snapshot k
+  unfolding stepSnapshot stepPull
+  stepSnapshot-out =
+      pulled-out (versions (s .counts .writers)) (s .counts .keys) (stepPlan s r j)
+      (s .run r .snapshot) (stepCache s r j) (stepReads s r j)
+
+  pub copySnapshot-out : (k : ℕ) → k < s .counts .keys → stepPull s r j k ≡ false
+      → copySnapshot s b r j k ≡ b .run r .snapshot k
+  unfolding copySnapshot copyPull
+  copySnapshot-out k h e =
+      pulled-out (copies (s .counts .keys) (b .history)) (s .counts .keys) (stepPlan s r j)
+      (b .run r .snapshot) (copyCache s b r j) (stepReads s r j) k (sym (stepPull-same k h) ∙ e)
