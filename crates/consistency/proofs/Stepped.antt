@@ -25,6 +25,7 @@ use Rattle.consistency.proofs.Counting.{CountedAs}
 use Rattle.consistency.proofs.Invariant.{Follows}
 use Rattle.consistency.proofs.Shared.{now-simulates, master-closed, master-related, cache-related, cache-part, snapshot-related, snapshot-closed}
 
+-- What the laws about a fine store's step ask.
 pub accepted-ready : {s : Store} {r j : ℕ} → Accepted s r j → Ready s r j
 accepted-ready {s} {r} {j} a = record {
   run = a .run-in;
