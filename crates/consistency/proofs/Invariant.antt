@@ -1,6 +1,6 @@
 -- What holds of store, book and reads after each call, and what a call has to show.
--- RunFollows, Follows: store and book. ReadAs: what a finished job has read. Inv: all of it.
--- Moves: after an outcome.
+-- RunFollows, WriterFollows, Follows: store and book. ReadAs: what a finished job has read.
+-- Inv: all of it. Moves: after an outcome.
 -- Assumes nothing.
 use mathlib.Core.Path.{_≡_}
 use mathlib.Core.Bool.{So, cond}

@@ -1,18 +1,16 @@
 -- One more issue, on copies and in the store: what an issue leaves is counted from the book's.
 -- ..-grow: what stays as it was. issuedCopies, issued-..: the master's copies and versions.
--- taken-counted, newPast-entered, newVersion-entered: the store makes the version of the new issue.
+-- taken-counted, newPast-entered, newVersion-entered: the store makes the new issue's version.
 -- Assumes nothing.
-use mathlib.Core.Path.{_≡_, refl, sym, ap, ap₂, _∙_, fun-ext}
+use mathlib.Core.Path.{_≡_, sym, _∙_, fun-ext}
 use mathlib.Core.Bool.{cond, _&&_, _||_, So}
-use mathlib.Core.Logic.{inl, inr, _≢_}
+use mathlib.Core.Logic.{inl, inr}
 use mathlib.Core.List.{_∷_}
-use Prim.Native.Nat.{ℕ, suc, _+_, _<_, max}
+use Prim.Native.Nat.{ℕ, _<_}
 use native.Mathlib.Omega.{arith}
 use native.Mathlib.Numerals.{add-one}
-use lib.Dec.{eqb}
 use lib.ListN.{length}
 use Rattle.words.specs.Tests.{Items, anyBelow}
-use Rattle.words.specs.Numbers.{countBelow}
 use Rattle.words.proofs.Bools.{test, _∙˙_, or-left, or-right, or-cases}
 use Rattle.words.proofs.Tests.{below-cases}
 use Rattle.words.proofs.Numbers.{fold-same}
@@ -24,7 +22,7 @@ use Rattle.model.specs.Store.{Run, Store}
 use Rattle.model.specs.Issue.{takenIn, newPast, newVersion, issuedMaster}
 use Rattle.model.proofs.Merges.{version-path}
 use Rattle.history.specs.History.{Issue, History, saved, inPast}
-use Rattle.history.specs.Copies.{Copy, byWriter, counted}
+use Rattle.history.specs.Copies.{Copy, counted}
 use Rattle.history.specs.Book.{Book, BookRun, entry}
 use Rattle.history.proofs.Notions.{ClosedIn}
 use Rattle.history.proofs.Past.{saved-top, saved-low, saved-below, past-top, topPast-own, past-laws}
@@ -33,7 +31,7 @@ use Rattle.history.proofs.Grown.{counted-grow}
 use Rattle.history.proofs.Entered.{readAny, enteredPast, entered, merged-counted}
 use Rattle.consistency.specs.Claim.{Counted}
 use Rattle.consistency.proofs.Closing.{closed-grow}
-use Rattle.consistency.proofs.Invariant.{RunFollows, WriterFollows, Follows}
+use Rattle.consistency.proofs.Invariant.{RunFollows, Follows}
 
 module _ (K : ℕ) (e : Issue) (h : History) where
   -- ---- places that the issue leaves as they were
@@ -128,8 +126,12 @@ module _ (s : Store) (b : Book) (F : Follows s b) (r w S : ℕ) (hr : r < s .cou
       fun-ext (λ d. fun-ext (λ u.
       let v = F .writer w hw in
       let K = s .counts .keys in
-      rw (taken-counted K (b .history) (s .writer w .past) (s .run r) (b .run r) (F .run r hr) d,
-      v .past, v .count, add-one)))
+      rw (
+        taken-counted K (b .history) (s .writer w .past) (s .run r) (b .run r) (F .run r hr) d,
+        v .past,
+        v .count,
+        add-one,
+      )))
 
   pub newVersion-entered : newVersion s r w S
       ≡ entered (s .counts .keys) (entry r w S b) (b .history)

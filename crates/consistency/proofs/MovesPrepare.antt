@@ -104,6 +104,7 @@ module _ {s : Store} {b : Book} {r : ℕ} (fine : Fine s) (F : Follows s b) (R :
     jobs = refl;
     job = refl;
     read = F .run r (R .run) .read;
+    low = F .run r (R .run) .low;
     snapshot = λ k l. snapshot-related k l .0;
     closed = snapshot-closed;
   }

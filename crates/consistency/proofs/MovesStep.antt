@@ -10,23 +10,24 @@ use native.Mathlib.Decide.{ℕ-discrete}
 use lib.Bits.{bitOr}
 use Rattle.words.specs.Tests.{anyBelow}
 use Rattle.words.specs.Lists.{putAt}
-use Rattle.words.proofs.Bools.{test, clash, and-cases, or-left, or-right}
+use Rattle.words.proofs.Bools.{test, clash, and-cases, or-left, or-right, or-cases}
 use Rattle.words.proofs.Tests.{any-none}
 use Rattle.words.proofs.Lists.{putAt-same, putAt-other}
 use Rattle.masks.specs.Mask.{testBit, withBit}
-use Rattle.masks.proofs.Bits.{test-or}
+use Rattle.masks.proofs.Bits.{test-or, test-low}
 use Rattle.model.specs.Store.{Run, Store, withSites, withCache, withRun, withState, withJobDone}
 use Rattle.model.specs.Outcome.{brokenState}
 use Rattle.model.specs.Calls.{step}
 use Rattle.model.specs.Step.{stepSite, stepReads, stepCache, stepPlan, stepPull, stepSnapshot, stepMoved, stepCause, stepBroken, stepDone, stepRule}
 use Rattle.model.proofs.Steps.{Accepted, accepted}
+use Rattle.layout.proofs.Stepping.{valid}
 use Rattle.layout.proofs.Follow.{Fine}
 use Rattle.history.specs.Book.{Book, BookRun, bookRule, withBookRun, withBookCaches}
 use Rattle.consistency.specs.Trace.{ReadSet, readNow, finish}
 use Rattle.consistency.specs.Claim.{first, later}
 use Rattle.consistency.proofs.Invariant.{RunFollows, ReadAs, Inv, Moves}
 use Rattle.consistency.proofs.Shared.{unless-moves, HasRead, inv-cache, inv-run}
-use Rattle.consistency.proofs.Stepped.{copyCache, copyRun, book-step, stepCache-related, stepCache-closed, stepSnapshot-related, stepSnapshot-closed, stepSnapshot-out, copySnapshot-out}
+use Rattle.consistency.proofs.Stepped.{accepted-ready, copyCache, copyRun, book-step, stepCache-related, stepCache-closed, stepSnapshot-related, stepSnapshot-closed, stepSnapshot-out, copySnapshot-out}
 
 -- ---- a step that breaks its run
 
@@ -60,6 +61,7 @@ inv-state {s} {b} {f} v r n l =
           jobs = G .jobs;
           job = G .job;
           read = G .read;
+          low = G .low;
           snapshot = G .snapshot;
           closed = G .closed;
         }
@@ -95,11 +97,17 @@ module _ {s : Store} {b : Book} {f : ℕ → List ReadSet} {r j : ℕ} (fine : F
       let F = v .follows in
       let G = F .run r (a .run-in) in
       let reads = s .run r .job j .reads in
+      let job-reads = valid s r j fine (accepted-ready a) .reads in
       record {
         jobs = refl;
         job = refl;
         read = λ k h. test-or (s .run r .read) reads k
             ∙ ap (λ (c : Bool). c || testBit reads k) (G .read k h);
+        low = λ k p.
+            elim (or-cases (b .run r .read k) (testBit reads k) p) [
+              | inl q ↦ G .low k q
+              | inr q ↦ test-low reads (s .counts .keys) k job-reads q
+            ];
         snapshot = λ k h. stepSnapshot-related fine F a k h .0;
         closed = stepSnapshot-closed fine F a;
       }

@@ -3,7 +3,7 @@
 -- Assumes nothing.
 use mathlib.Core.Path.{_≡_, refl, sym, ap, _∙_}
 use mathlib.Core.Bool.{Bool, true, false, not, _&&_, _||_, xor, So}
-use mathlib.Core.Logic.{_≢_}
+use mathlib.Core.Logic.{inl, inr, _≢_}
 use Prim.Native.Nat.{ℕ, zero, suc, _*_, _/_, _%_, _^_, _≤_, _<_, min, max}
 use native.Mathlib.Omega.{arith}
 use native.Mathlib.Nat.{div-one, zero-div, pow-suc, one-mul, div-eq-of-lt, lt-of-lt-of-le}
@@ -12,7 +12,8 @@ use lib.Arith.{bin-ind}
 use lib.Dec.{eqb, eqb·zero-suc, eqb·suc-zero, eqb·suc-suc}
 use lib.Pow.{shr-shr, shl-exact, pow-mono, pow-lt}
 use lib.Bits.{bitOr, bitAnd, bitXor, differ, or-step, and-step, xor-step, or-shr, and-shr, xor-shr, or-lt, xor-lt, and-le-l}
-use Rattle.words.proofs.Bools.{test, eqb-eq, eqb-ne, eq-eqb, ne-eqb, or-true-right, or-false-right}
+use Rattle.words.proofs.Bools.{test, clash, eqb-eq, eqb-ne, eq-eqb, ne-eqb, or-true-right, or-false-right}
+use Rattle.words.proofs.Tests.{below-or-not}
 use Rattle.masks.specs.Mask.{testBit, withBit, withIf, without}
 
 -- ---- an item of the result of an operation
@@ -124,6 +125,13 @@ test-with-other m k j f = test-with m k j ∙ rw (ne-eqb j k f) (or-false-right 
 pub test-high : (m n j : ℕ) → m < 2 ^ n → n ≤ j → testBit m j ≡ false
 unfolding testBit
 test-high m n j h k = rw (div-eq-of-lt (lt-of-lt-of-le h (pow-mono k)))
+
+pub test-low : (m n j : ℕ) → m < 2 ^ n → So (testBit m j) → j < n
+test-low m n j h p =
+    elim (below-or-not j n) [
+      | inl l ↦ l
+      | inr g ↦ clash p (test-high m n j h g)
+    ]
 
 -- ---- a mask is its items
 

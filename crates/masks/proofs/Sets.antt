@@ -11,8 +11,8 @@ use lib.Dec.{eqb}
 use lib.Pow.{pow-pos}
 use lib.Bits.{bitOr, or-lt}
 use Rattle.words.specs.Tests.{Items, anyBelow}
-use Rattle.words.proofs.Bools.{same-test, not-intro, not-elim, eqb-eq, eq-eqb}
-use Rattle.words.proofs.Tests.{below-cases, below-or-not, any-none, any-no, any-same}
+use Rattle.words.proofs.Bools.{test, clash, same-test, not-intro, not-elim, eqb-eq, eq-eqb}
+use Rattle.words.proofs.Tests.{below-cases, below-or-not, any-some, any-none, any-no, any-same}
 use Rattle.masks.specs.Mask.{testBit, withIf, maskBelow, unionBelow}
 use Rattle.masks.proofs.Bits.{test-or, test-none, test-with-same, test-with-other, test-high, mask-ext, with-if-lt}
 
@@ -76,6 +76,13 @@ mask-none n m h = same-test there back
     back a =
         eq-eqb m 0 (mask-ext-below n m 0 h (pow-pos n)
         (λ j l. any-none n (testBit m) (not-elim a) j l ∙ sym (test-none j)))
+
+-- One that isn't 0 has an item.
+pub mask-some : (n m : ℕ) → m < 2 ^ n → eqb m 0 ≡ false → (j : ℕ) × So (testBit m j)
+mask-some n m h e =
+    let any = anyBelow n (testBit m) in
+    let found = test any (λ y. y) (λ z. clash (mask-none n m h ∙ not-intro z) e) in
+    let r = any-some n (testBit m) found in (r .0, r .2)
 
 pub set-none : (n : ℕ) (p : Items) → eqb (maskBelow n p) 0 ≡ not (anyBelow n p)
 set-none n p =

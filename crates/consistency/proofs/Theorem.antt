@@ -1,0 +1,64 @@
+-- Demand 3, proved: the claim of specs/Claim for every list of calls after an accepted new.
+-- Assumes nothing.
+use mathlib.Core.Path.{_≡_, ap, _∙_, sym}
+use mathlib.Core.List.{List}
+use Prim.Native.Nat.{ℕ}
+use Rattle.words.proofs.Bools.{_∙˙_}
+use Rattle.model.specs.Store.{Store}
+use Rattle.model.specs.Calls.{StoreCall, openRun, fetch, evict, prepare, step, issue, dropRun, look, ruleOf}
+use Rattle.layout.specs.Reading.{storeOf}
+use Rattle.layout.specs.Buffer.{inForm}
+use Rattle.layout.proofs.Whole.{store-back}
+use Rattle.layout.proofs.Follow.{Fine, fine-form}
+use Rattle.history.specs.Book.{Book}
+use Rattle.consistency.specs.Trace.{ReadSet, Trace}
+use Rattle.consistency.specs.Claim.{Holds, HoldsAt, Demand3}
+use Rattle.consistency.proofs.Invariant.{Inv}
+use Rattle.consistency.proofs.MovesCaches.{fetch-moves, evict-moves}
+use Rattle.consistency.proofs.MovesRuns.{open-moves, drop-moves, look-moves}
+use Rattle.consistency.proofs.MovesPrepare.{prepare-moves}
+use Rattle.consistency.proofs.MovesStep.{step-moves}
+use Rattle.consistency.proofs.MovesIssue.{issue-moves}
+use Rattle.consistency.proofs.Cutting.{cuts, overlaps, breaks}
+use Rattle.consistency.proofs.Finished.{shared}
+use Rattle.consistency.proofs.Points.{CallsMove, At, start-at, follow-at}
+
+-- Every call keeps the invariant.
+pub calls-move : CallsMove
+unfolding ruleOf
+calls-move (openRun r l) s b f F I = open-moves r l s b f F I
+calls-move (fetch o k) s b f F I = fetch-moves o k s b f F I
+calls-move (evict o k) s b f F I = evict-moves o k s b f F I
+calls-move (prepare r) s b f F I = prepare-moves r s b f F I
+calls-move (step r j) s b f F I = step-moves r j s b f F I
+calls-move (issue r w S) s b f F I = issue-moves r w S s b f F I
+calls-move (dropRun r) s b f F I = drop-moves r s b f F I
+calls-move (look p i k) s b f F I = look-moves p i k s b f F I
+
+-- The claim, read off the invariant.
+pub inv-holds : (s : Store) (b : Book) (f : ℕ → List ReadSet) → Fine s → Inv s b f → Holds s b f
+inv-holds s b f F I =
+    let G = I .follows in
+    record {
+      counts = G .counts;
+      cuts = cuts G;
+      master = G .master;
+      caches = G .cache;
+      snapshots = λ r l. G .run r l .snapshot;
+      shared = shared s b f F I;
+      breaks = breaks G F;
+      overlaps = overlaps G;
+      every-save = λ k i. G .every k i;
+    }
+
+pub point-holds : (t : Trace) → At t → HoldsAt t
+point-holds t A =
+    let back = ap storeOf (A .holds) ∙ store-back (A .store) (A .base) (A .fine .fits) in
+    record {
+      formed = sym (ap inForm (A .holds)) ∙˙ fine-form (A .store) (A .base) (A .fine);
+      holds = rw back (inv-holds (A .store) (t .book) (t .finished) (A .fine) (A .inv));
+    }
+
+pub demand-3 : Demand3
+demand-3 l z ok cs sofar rest e =
+    point-holds _ (follow-at calls-move sofar _ (start-at z l ok))
