@@ -1,3 +1,4 @@
 pub mod Notions
 pub mod Past
 pub mod Behind
+pub mod Scripted
