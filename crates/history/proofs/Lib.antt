@@ -6,3 +6,4 @@ pub mod Reached
 pub mod Counted
 pub mod Grown
 pub mod Entered
+pub mod Scripted

@@ -1,0 +1,160 @@
+-- Scripts through store and book: after each call each version is its copy counted.
+-- tabled, keptBook: a function, a book written down.
+-- follows: the test. followed: the test after each call of a list.
+-- Assumes nothing.
+use mathlib.Core.Path.{_≡_, refl}
+use mathlib.Core.Bool.{Bool, true, false, cond, _&&_}
+use mathlib.Core.List.{List, [], _∷_, _++_, map}
+use Prim.Native.Nat.{ℕ, zero, suc, _<_}
+use native.Mathlib.Nat.{not-suc-le-zero, le-of-suc-le-suc}
+use lib.Dec.{eqb}
+use lib.ListN.{length, getD}
+use Rattle.words.specs.Tests.{none, anyBelow, allBelow, only}
+use Rattle.words.specs.Numbers.{foldBelow, countBelow, largest, when}
+use Rattle.words.specs.Lists.{putAt, upto, blocks}
+use Rattle.masks.specs.Mask.{testBit, withBit, withIf, maskBelow}
+use Rattle.reach.specs.Closure.{closure, rounds, round}
+use Rattle.clock.specs.Clock.{dominates, present, join}
+use Rattle.sizes.specs.Bounds.{countsOf, between, pastSize, versionSize, placeSize, siteSize, writerSize, runSize, masterAt, sitesAt, writersAt, runsAt, totalOf}
+use Rattle.sizes.specs.declared.Counts.{Counts}
+use Rattle.model.specs.Algebra.{Place, lacking}
+use Rattle.model.specs.Version.{Version, held, dependency, supersedes, larger, merge}
+use Rattle.model.specs.Sets.{draws, drawSet, fetchSet, fetched, unfetchable, evictSet, evicted, pullSet, pulled}
+use Rattle.model.specs.Store.{Store, fresh, planned, withMaster, withLast, withSites, withCache, withWriter, withRun, withState, withSnapshot, withJobDone}
+use Rattle.model.specs.Form.{validJob}
+use Rattle.model.specs.Outcome.{refuse, unless, allowed}
+use Rattle.model.specs.Caches.{fetchCause, fetchDone, fetchRule, evictCause, evictDone, evictRule}
+use Rattle.model.specs.Runs.{listedJob, listedCount, listedJobs, listValid, openCause, openedRun, openDone, openRule, dropCause, dropDone, dropRule}
+use Rattle.model.specs.Prepare.{jobStart, fetchReads, preparedCaches, unpreparable, usesSite, sitesMerged, siteCaches, prepareCause, prepareCaches, prepareSnapshot, prepareDone, prepareRule}
+use Rattle.model.specs.Step.{readStart, stepSite, stepReads, stepStart, stepFetch, stepCache, stepPlan, stepPull, stepSnapshot, stepMoved, jobLimit, notReady, stepCause, stepBroken, stepDone, stepRule}
+use Rattle.model.specs.Issue.{issueCause, takenIn, newPast, newVersion, issuedMaster, issueSaved, issueDone, issueRule}
+use Rattle.model.specs.Look.{lookPlace, lookLimit, lookCause, rowNumbers, lookDone, lookRule}
+use Rattle.model.specs.Calls.{StoreCall, openRun, fetch, step, issue, ruleOf}
+use Rattle.model.proofs.Scripts.{nextStore, case-a-script, longer-script, reading-script}
+use Rattle.layout.specs.Words.{clockWords, pastWords, versionWords, placeWords, siteWords, sitesWords, writerWords, writersWords, jobWords, jobsWords, runWords, runsWords, headerWords, storeWords}
+use Rattle.layout.specs.Reading.{readClock, readPast, readVersion, readPlace, readSite, readWriter, readJob, readJobs, readRun, countsIn, storeOf}
+use Rattle.layout.specs.Calls.{on, isOk}
+use Rattle.history.specs.History.{Issue, writerOf, leads, inPast}
+use Rattle.history.specs.Copies.{Copy, reaches, heldCopy, needsCopy, meetsCopy, union, lastIn, byWriter, counted}
+use Rattle.history.specs.Book.{BookRun, Book, noCopies, noRun, freshBook, withBookCaches, withBookRun, bookOpen, bookFetch, bookEvict, bookPrepare, bookStepJob, entry, bookIssue, bookIssued, bookRule, bookOk, bookStep}
+
+-- ---- a book written down: copies are functions, built on those before each call, and would be
+-- ---- computed again at each look; in lists they are computed once
+
+-- f 0, f 1, .. f (n - 1).
+abbrev pub firsts : {A : Type 0} → ℕ → (ℕ → A) → List A
+firsts zero f = []
+firsts (suc n) f = f 0 ∷ firsts n (λ i. f (suc i))
+
+-- f below n, looked up in a list, and x from n on.
+abbrev pub tabled : {A : Type 0} → ℕ → A → (ℕ → A) → ℕ → A
+tabled n x f = let l = firsts n f in λ i. getD l i x
+
+-- To write down changes nothing.
+pub tabled-same : {A : Type 0} (n : ℕ) (x : A) (f : ℕ → A) (i : ℕ) → i < n → tabled n x f i ≡ f i
+tabled-same zero x f i h = absurd (not-suc-le-zero h)
+tabled-same (suc n) x f zero h = refl
+tabled-same (suc n) x f (suc i) h = tabled-same n x (λ j. f (suc j)) i (le-of-suc-le-suc h)
+
+-- For keys below K and issues below n.
+abbrev pub keptPlace : ℕ → ℕ → Place Copy → Place Copy
+keptPlace K n p = tabled K none (λ k. tabled n false (p k))
+
+abbrev pub keptIssue : ℕ → ℕ → Issue → Issue
+keptIssue K n e = record {
+  writer = e .writer;
+  keys = tabled K false (e .keys);
+  read = keptPlace K n (e .read);
+}
+
+abbrev pub keptRun : ℕ → ℕ → BookRun → BookRun
+keptRun K n a = record {
+  jobs = a .jobs;
+  job = a .job;
+  read = tabled K false (a .read);
+  snapshot = keptPlace K n (a .snapshot);
+}
+
+abbrev pub keptBook : Book → Book
+keptBook b =
+    let z = b .counts in
+    let K = z .keys in
+    let n = length (b .history) in
+    record {
+      counts = z;
+      history = map (keptIssue K n) (b .history);
+      master = keptPlace K n (b .master);
+      cache = tabled (z .sites) noCopies (λ o. keptPlace K n (b .cache o));
+      run = tabled (z .runs) noRun (λ r. keptRun K n (b .run r));
+    }
+
+-- ---- the test
+
+abbrev pub sameVersion : Counts → Version → Version → Bool
+sameVersion z u v =
+    eqb (u .issue) (v .issue)
+    && allBelow (z .keys) (λ d. allBelow (z .writers) (λ w. eqb (u .past d w) (v .past d w)))
+
+-- Each version of a place is its copy counted.
+abbrev pub isCounted : Book → Place Version → Place Copy → Bool
+isCounted b p c =
+    let z = b .counts in
+    allBelow (z .keys) (λ k. sameVersion z (p k) (counted (z .keys) (b .history) (c k)))
+
+-- On master, caches and snapshots.
+abbrev pub follows : Store → Book → Bool
+follows s b =
+    isCounted b (s .master) (b .master)
+    && (allBelow (b .counts .sites) (λ o. isCounted b (s .site o .cache) (b .cache o))
+    && allBelow (b .counts .runs) (λ r. isCounted b (s .run r .snapshot) (b .run r .snapshot)))
+
+-- After each call. The store is written down as its words (crate layout, `store-back`: the same).
+abbrev pub followed : List StoreCall → Store → Book → Bool
+followed [] s b = true
+followed (c ∷ cs) s b =
+    let x = ruleOf c s in
+    let t = storeOf (storeWords (nextStore x s)) in
+    let d = keptBook (bookStep (on c) (isOk x) b) in
+    follows t d && followed cs t d
+
+abbrev pub from-new : Counts → List StoreCall → Bool
+from-new z cs = followed cs (fresh z) (freshBook z)
+
+-- ---- the scripts
+
+-- Writer 0, having read nothing, saves the sheets of S.
+abbrev pub saving : ℕ → List StoreCall
+saving S = openRun 0 (0 ∷ 0 ∷ 0 ∷ []) ∷ step 0 0 ∷ issue 0 0 S ∷ []
+
+-- After `new 2 1 1 1`: an issue of nothing isn't entered. Site 0 takes 0; then 0 and 1 are saved,
+-- and 1 needs both saves of 0, being by the same writer: the site takes 0 again with it.
+abbrev pub later-script : List StoreCall
+later-script = saving 0 ++ saving 1 ++ fetch 0 0 ∷ (saving 1 ++ saving 2 ++ fetch 0 1 ∷ [])
+
+pub record Scripted : Type 0 where
+  pub later : from-new (countsOf 2 1 1 1) later-script ≡ true
+  pub reading : from-new (countsOf 2 2 2 1) reading-script ≡ true
+  pub case-a : from-new (countsOf 2 2 2 1) case-a-script ≡ true
+  pub longer : from-new (countsOf 3 2 2 2) longer-script ≡ true
+
+pub scripted : Scripted
+unfolding anyBelow allBelow only foldBelow countBelow largest when putAt upto blocks testBit
+    withBit withIf maskBelow closure rounds round dominates present join between pastSize
+    versionSize placeSize siteSize writerSize runSize masterAt sitesAt writersAt runsAt totalOf
+    lacking held dependency supersedes larger merge draws drawSet fetchSet fetched unfetchable
+    evictSet evicted pullSet pulled fresh planned withMaster withLast withSites withCache
+    withWriter withRun withState withSnapshot withJobDone validJob refuse unless allowed fetchCause
+    fetchDone fetchRule evictCause evictDone evictRule listedJob listedCount listedJobs listValid
+    openCause openedRun openDone openRule dropCause dropDone dropRule jobStart fetchReads
+    preparedCaches unpreparable usesSite sitesMerged siteCaches prepareCause prepareCaches
+    prepareSnapshot prepareDone prepareRule readStart stepSite stepReads stepStart stepFetch
+    stepCache stepPlan stepPull stepSnapshot stepMoved jobLimit notReady stepCause stepBroken
+    stepDone stepRule issueCause takenIn newPast newVersion issuedMaster issueSaved issueDone
+    issueRule lookPlace lookLimit lookCause rowNumbers lookDone lookRule ruleOf clockWords
+    pastWords versionWords placeWords siteWords sitesWords writerWords writersWords jobWords
+    jobsWords runWords runsWords headerWords storeWords readClock readPast readVersion readPlace
+    readSite readWriter readJob readJobs readRun countsIn storeOf isOk writerOf leads inPast
+    reaches heldCopy needsCopy meetsCopy union lastIn byWriter counted freshBook withBookCaches
+    withBookRun bookOpen bookFetch bookEvict bookPrepare bookStepJob entry bookIssue bookIssued
+    bookRule bookOk bookStep
+scripted = record { later = refl; reading = refl; case-a = refl; longer = refl }
