@@ -26,7 +26,7 @@ use Rattle.model.proofs.Needs.{dependency-mono, supersedes-iff, supersedes-tran
 use Rattle.model.proofs.Cuts.{needsMet-at, needsMet-intro, overlappingCut-within, overlappingCut-at, lacking-iff, draws-iff}
 use Rattle.model.proofs.Pulls.{pullSet-reached, pulled-out, pulled-held, pulled-overlap}
 use Rattle.model.proofs.Steps.{Accepted, accepted, step-planned, step-cached}
-use Rattle.consistency.specs.Claim.{Pick, Pick.cards, Pick.sites, Pick.merged, Pick.neither, pickOf, chosen, Works, isRefused, isBroken, BreakExact}
+use Rattle.consistency.specs.Claim.{Pick, Pick.ofSnapshot, Pick.ofCache, Pick.merged, Pick.neither, pickOf, chosen, Works, isRefused, isBroken, BreakExact}
 
 -- At a step of run r's job j: the snapshot is an overlapping cut for the plan, the cache after the
 -- fetch a causal cut, and each read key is on the snapshot.
@@ -43,8 +43,8 @@ pub record Ready (s : Store) (r j : ℕ) : Type 0 where
 pick-above : (W : ℕ) (p : Pick) (a b : Version) → So (held (pickOf p a b)) → pickOf p a b ≢ a
     → So (held b) → (e : ℕ) → Dominates W (pickOf p a b .past e) (b .past e)
 unfolding pickOf held
-pick-above W cards a b h f g e = absurd (f refl)
-pick-above W sites a b h f g e = dominates-refl W (b .past e)
+pick-above W ofSnapshot a b h f g e = absurd (f refl)
+pick-above W ofCache a b h f g e = dominates-refl W (b .past e)
 pick-above W merged a b h f g e = merge-right W e a b g
 pick-above W neither a b h f g e = clash h refl
 
@@ -135,7 +135,7 @@ module _ (s : Store) (r j : ℕ) where
 
   -- The merge for each key in C, the snapshot's version for every other.
   merging : ℕ → Pick
-  merging k = cond (stepPull s r j k) merged cards
+  merging k = cond (stepPull s r j k) merged ofSnapshot
 
   chosen-merging : (k : ℕ) → So (plan k) → chosen s r j merging k ≡ stepSnapshot s r j k
   unfolding merging pickOf stepSnapshot stepPull pulled

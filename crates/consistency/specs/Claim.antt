@@ -48,16 +48,16 @@ pub data Among (x : ReadSet) : List ReadSet → Type 0 where
 -- "for each sheet of the plan, of the card's version, the office's (after the step's fetch),
 -- their merge or none"
 pub data Pick : Type 0 where
-  cards : Pick
-  sites : Pick
+  ofSnapshot : Pick
+  ofCache : Pick
   merged : Pick
   neither : Pick
 
 unfoldable pub pickOf : Pick → Version → Version → Version
-pickOf cards card cache = card
-pickOf sites card cache = cache
-pickOf merged card cache = merge card cache
-pickOf neither card cache = unheld
+pickOf ofSnapshot snapshot cache = snapshot
+pickOf ofCache snapshot cache = cache
+pickOf merged snapshot cache = merge snapshot cache
+pickOf neither snapshot cache = unheld
 
 -- The choice made for run r's job j: nothing outside of the plan.
 unfoldable pub chosen : Store → ℕ → ℕ → (ℕ → Pick) → Place Version
@@ -88,7 +88,7 @@ isBroken (done a s) = false
 abbrev pub BreakExact : Store → ℕ → ℕ → Type 0
 BreakExact s r j =
     isRefused (stepRule r j s) ≡ false
-    → So (isBroken (stepRule r j s)) ↔ ¬ ((pick : ℕ → Pick) × Works s r j pick)
+    → (So (isBroken (stepRule r j s)) ↔ ¬ ((pick : ℕ → Pick) × Works s r j pick))
 
 -- ---- all of it, at one point of the list: store, book, and what finished jobs have read
 

@@ -46,9 +46,9 @@ module _ {A : Type 0} (alg : Algebra A) (K : ℕ) where
   -- plan's sheet needed by the shelf's c, the card doesn't meet that need and the shelf holds d,
   -- then d is in C".
   unfoldable pub pullSet : Items → Place A → Place A → Items → Items
-  pullSet plan card cache reads = drawSet plan card cache (lacking alg K card reads)
+  pullSet plan snapshot cache reads = drawSet plan snapshot cache (lacking alg K snapshot reads)
 
   -- "each c in C becomes on the card the merge of the card's and the shelf's version"
   unfoldable pub pulled : Items → Place A → Place A → Items → Place A
-  pulled plan card cache reads k =
-      cond (pullSet plan card cache reads k) (alg .merge (card k) (cache k)) (card k)
+  pulled plan snapshot cache reads k =
+      cond (pullSet plan snapshot cache reads k) (alg .merge (snapshot k) (cache k)) (snapshot k)

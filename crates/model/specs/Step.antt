@@ -18,7 +18,7 @@ use Rattle.model.specs.Outcome.{Outcome, broken, done, refuse, unless, a
 
 -- "reads R that the card lacks and the shelf lacks are fetched together"
 unfoldable pub readStart : {A : Type 0} → Algebra A → ℕ → Place A → Place A → Items → Items
-readStart alg K card cache reads = lacking alg K cache (lacking alg K card reads)
+readStart alg K snapshot cache reads = lacking alg K cache (lacking alg K snapshot reads)
 
 module _ (s : Store) (r j : ℕ) where
   unfoldable pub stepSite : ℕ
