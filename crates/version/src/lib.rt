@@ -81,3 +81,36 @@ pub fn held_mask(words: &[u32], z: Counts, at: usize) -> u32
     }
     mask
 }
+
+// Copies the version at src to dst.
+pub fn copy_version(words: &mut [u32], z: Counts, dst: usize, src: usize)
+    requires { ⌜ Ranged z ⌝ }
+    requires { ⌜ Apart (length (now words)) dst src (versionSize z) ⌝ }
+    ensures { λ _. ⌜ now (words .exit) ≡ putVersion z (now (words .entry)) dst
+        (readVersion z (now (words .entry)) src) ⌝ }
+{
+    let n = z.version_size();
+    copy(words, dst, src, n);
+}
+
+// Clears the version at an index: it is not held.
+pub fn clear_version(words: &mut [u32], z: Counts, at: usize)
+    requires { ⌜ Ranged z ⌝ }
+    requires { ⌜ at + versionSize z ≤ length (now words) ⌝ }
+    ensures { λ _. ⌜ now (words .exit) ≡ putVersion z (now (words .entry)) at unheld ⌝ }
+{
+    let n = z.version_size();
+    zero(words, at, n);
+}
+
+// Merges the version at src into the one at dst: each word becomes the larger of the two.
+pub fn merge_version(words: &mut [u32], z: Counts, dst: usize, src: usize)
+    requires { ⌜ Ranged z ⌝ }
+    requires { ⌜ Apart (length (now words)) dst src (versionSize z) ⌝ }
+    ensures { λ _. ⌜ now (words .exit) ≡ putVersion z (now (words .entry)) dst
+        (larger (readVersion z (now (words .entry)) dst)
+        (readVersion z (now (words .entry)) src)) ⌝ }
+{
+    let n = z.version_size();
+    merge_into(words, dst, src, n);
+}
