@@ -1,4 +1,4 @@
--- Where the places of a store lie: the master, the caches and the snapshots, and one beside another.
+-- Where the places of a store lie: the master, the caches and the snapshots.
 -- ..-area: one of them. site-master, snapshot-site: target and source.
 -- place-back, place-beside: a place that was stored is read, or another one.
 -- Assumes nothing.

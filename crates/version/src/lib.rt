@@ -70,7 +70,8 @@ pub fn meets(words: &[u32], z: Counts, target: usize, d: usize, source: usize, t
 // The mask of the keys that the place holds.
 pub fn held_mask(words: &[u32], z: Counts, at: usize) -> u32
     requires { ⌜ Area (length (now words)) z at ⌝ }
-    ensures { λ r. ⌜ r ≡ maskBelow (z .keys) (λ k. held (readPlace z (now (words .entry)) at k)) ⌝ }
+    ensures { λ r. ⌜ r
+        ≡ maskBelow (z .keys) (λ k. held (readPlace z (now (words .entry)) at k)) ⌝ }
 {
     let n = z.keys;
     let mut mask: u32 = 0;
