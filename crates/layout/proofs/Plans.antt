@@ -66,7 +66,7 @@ pub record Jobs (z : Counts) (a : Run) : Type 0 where
 abbrev jobTest : Counts → Run → ℕ → Bool
 jobTest z a i = cond (ltb i (a .jobs)) (validJob z i (a .job i)) (zeroJob (a .job i))
 
-jobs-out : (z : Counts) (a : Run) → So (jobsFormed z a) → Jobs z a
+pub jobs-out : (z : Counts) (a : Run) → So (jobsFormed z a) → Jobs z a
 unfolding jobsFormed
 jobs-out z a p =
     let b = between maxJobs (a .jobs) in
