@@ -14,9 +14,9 @@ use Rattle.clock.specs.Clock.{Clock, join}
 use Rattle.sizes.specs.declared.Counts.{Counts}
 use Rattle.model.specs.Algebra.{Place}
 use Rattle.model.specs.Version.{Version, unheld, held, larger, merge}
-use Rattle.model.specs.Store.{Writer, Run, Site, Store, emptyPlace, noWriter, noSite, freeRun, fresh, withLast, withMaster, withSites, withCache, withWriter, withRun, withState, withSnapshot}
+use Rattle.model.specs.Store.{Writer, Run, Site, Store, emptyPlace, freeRun, fresh, withLast, withMaster, withSites, withCache, withWriter, withRun}
 use Rattle.layout.proofs.Codec.{FitMany}
-use Rattle.layout.proofs.Parts.{FitPast, FitVersion, FitPlace, FitSite, FitSites, FitWriter, FitRun}
+use Rattle.layout.proofs.Parts.{FitPast, FitVersion, FitPlace, FitSites, FitWriter, FitRun}
 use Rattle.layout.proofs.Whole.{FitStore}
 
 -- ---- what stands where nothing does
@@ -102,6 +102,15 @@ fit-merge z a b F G = go (held a) (held b)
     go true true = fit-larger z a b F G
     go true false = F
     go false y = G
+
+-- Two places merged.
+pub fit-merged : (z : Counts) (p q : Place Version) → FitPlace z p → FitPlace z q
+    → FitPlace z (λ k. merge (p k) (q k))
+unfolding merge held
+fit-merged z p q F G = record {
+  each = λ k h. fit-merge z (p k) (q k) (F .each k h) (G .each k h);
+  rest = λ k h. rw (F .rest k h, G .rest k h) refl;
+}
 
 -- A past is zero outside of the counts, and fits if it is.
 pub past-out : (z : Counts) (p : ℕ → Clock) → FitPast z p → (d w : ℕ)

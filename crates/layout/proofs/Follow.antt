@@ -2,22 +2,20 @@
 -- nextStore: the store after an outcome. Fine: a store that a buffer in form can hold.
 -- fine-..: what a call does to a buffer with a fine store in it.
 -- Assumes nothing.
-use mathlib.Core.Path.{_≡_, refl, sym, ap, _∙_}
-use mathlib.Core.Bool.{Bool, true, false, cond, So, _&&_}
-use mathlib.Core.List.{List, [], _∷_}
-use Prim.Native.Nat.{ℕ, _≤_, _<_}
-use lib.ListN.{length}
+use mathlib.Core.Path.{_≡_, refl}
+use mathlib.Core.Bool.{So}
+use mathlib.Core.List.{List}
+use Prim.Native.Nat.{ℕ}
 use Rattle.words.proofs.Bools.{and-intro, and-left, and-right}
-use Rattle.sizes.specs.declared.Counts.{Counts}
-use Rattle.sizes.specs.Bounds.{Ranged, totalOf}
-use Rattle.model.specs.Store.{Store, fresh}
+use Rattle.sizes.specs.Bounds.{Ranged}
+use Rattle.model.specs.Store.{Store}
 use Rattle.model.specs.Form.{wellFormed}
 use Rattle.model.specs.Outcome.{Outcome, refused, broken, done}
 use Rattle.model.specs.Calls.{StoreCall, ruleOf}
 use Rattle.layout.specs.Reading.{storeOf}
 use Rattle.layout.specs.Buffer.{written, shaped, inForm}
-use Rattle.layout.specs.Calls.{Call, on, onStore, callOn, leaves}
-use Rattle.layout.proofs.Shapes.{Shaped, shaped-out}
+use Rattle.layout.specs.Calls.{on, onStore, callOn, leaves}
+use Rattle.layout.proofs.Shapes.{shaped-out}
 use Rattle.layout.proofs.Whole.{FitStore, store-fits, store-back, written-shaped, written-twice}
 
 -- The store after a call.

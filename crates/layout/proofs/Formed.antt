@@ -2,15 +2,15 @@
 -- version-..: one version. formed-..: a place, and a store with one part changed.
 -- Formed: the test of the store as a record; well-out, well-in.
 -- Assumes nothing.
-use mathlib.Core.Path.{_≡_, refl, sym, ap, _∙_}
-use mathlib.Core.Bool.{Bool, true, false, cond, not, So, _&&_}
-use Prim.Native.Nat.{ℕ, _+_, _≤_, _<_, max}
+use mathlib.Core.Path.{_≡_, refl}
+use mathlib.Core.Bool.{Bool, false, cond, not, So, _&&_}
+use Prim.Native.Nat.{ℕ, _<_, max}
 use native.Mathlib.Omega.{arith}
 use native.Mathlib.Decide.{ℕ-discrete}
 use lib.Dec.{leb}
 use Rattle.words.specs.Tests.{allBelow}
 use Rattle.words.specs.Lists.{putAt}
-use Rattle.words.proofs.Bools.{test, clash, and-intro, and-left, and-right, not-intro, leb-le, le-leb, leb-gt}
+use Rattle.words.proofs.Bools.{test, and-intro, and-left, and-right, not-intro, leb-le, le-leb}
 use Rattle.words.proofs.Tests.{all-intro, all-at, any-no}
 use Rattle.words.proofs.Lists.{putAt-same, putAt-other}
 use Rattle.clock.specs.Clock.{Clock, present, join}

@@ -2,12 +2,12 @@
 -- Kept: of an outcome. no-cause, no-lack: what a cause of 0 says.
 -- look-kept, drop-kept, fetch-kept, evict-kept: of these rules.
 -- Assumes nothing.
-use mathlib.Core.Path.{_≡_, refl, sym, ap, _∙_}
-use mathlib.Core.Bool.{Bool, true, false, cond, not, So}
+use mathlib.Core.Path.{_≡_, refl}
+use mathlib.Core.Bool.{Bool, true, false, not, So}
 use mathlib.Core.List.{List}
-use Prim.Native.Nat.{ℕ, _≤_, _<_}
+use Prim.Native.Nat.{ℕ, _<_}
 use native.Mathlib.Omega.{arith}
-use lib.Dec.{eqb, leb}
+use lib.Dec.{eqb}
 use Rattle.words.specs.Tests.{Items, only}
 use Rattle.words.proofs.Bools.{test, leb-gt, eqb-eq}
 use Rattle.sizes.specs.declared.Counts.{Counts}
@@ -16,7 +16,6 @@ use Rattle.model.specs.Algebra.{Place}
 use Rattle.model.specs.Version.{Version, versions}
 use Rattle.model.specs.Sets.{fetchSet, fetched, evictSet, evicted}
 use Rattle.model.specs.Store.{Store, emptyPlace, freeRun, fresh, withSites, withCache, withRun}
-use Rattle.model.specs.Form.{wellFormed}
 use Rattle.model.specs.Outcome.{Outcome, refused, broken, done, refuse, unless}
 use Rattle.model.specs.Caches.{fetchCause, fetchDone, fetchRule, evictCause, evictDone, evictRule}
 use Rattle.model.specs.Runs.{dropCause, dropDone, dropRule}

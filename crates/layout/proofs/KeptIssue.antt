@@ -1,21 +1,19 @@
 -- Issue keeps a store fine.
 -- Assumes nothing.
-use mathlib.Core.Path.{_≡_, refl, sym, ap, _∙_}
-use mathlib.Core.Bool.{Bool, true, false, cond, not, So, _&&_}
-use mathlib.Core.Logic.{_⊎_, inl, inr, _≢_}
+use mathlib.Core.Path.{_≡_, refl}
+use mathlib.Core.Bool.{Bool, true, false, cond, So, _&&_}
+use mathlib.Core.Logic.{_⊎_, inl, inr}
 use mathlib.Core.List.{[], _∷_}
 use Prim.Native.Nat.{ℕ, _+_, _≤_, _<_, _^_}
 use native.Mathlib.Omega.{arith}
-use lib.Dec.{eqb, leb}
+use lib.Dec.{eqb}
 use Rattle.words.proofs.Bools.{test, and-false-right, leb-gt, le-leb, eq-eqb, ne-eqb}
 use Rattle.words.proofs.Numbers.{fold-keeps}
 use Rattle.masks.specs.Mask.{testBit}
 use Rattle.masks.proofs.Bits.{test-high}
-use Rattle.clock.specs.Clock.{Clock, join, present}
+use Rattle.clock.specs.Clock.{Clock, join}
 use Rattle.clock.proofs.Order.{present-intro}
-use Rattle.sizes.specs.declared.Counts.{Counts}
-use Rattle.model.specs.Algebra.{Place}
-use Rattle.model.specs.Version.{Version, held, merge}
+use Rattle.model.specs.Version.{held}
 use Rattle.model.specs.Store.{Run, Writer, Store, freeRun, withLast, withMaster, withWriter, withRun}
 use Rattle.model.specs.Issue.{issueCause, takenIn, newPast, newVersion, issuedMaster, issueSaved, issueDone, issueRule}
 use Rattle.layout.proofs.Parts.{FitPast, FitVersion, FitPlace}
@@ -56,11 +54,11 @@ module _ (s : Store) (r w S : ℕ) (F : Fine s) (hr : r < s .counts .runs)
       let z = s .counts in
       let a = s .run r in
       let old = F .fits .writer .each w hw .past in
-      let card = F .fits .run .each r hr .snapshot in
+      let carried = F .fits .run .each r hr .snapshot in
       past-in z (newPast s r w S) (λ d u o.
       rw (row-in d u o)
       (taken-zero (z .keys) (s .writer w .past) a d u (past-out z (s .writer w .past) old d u o)
-      (λ k. past-out z (a .snapshot k .past) (place-fit z (a .snapshot) card k .past) d u o)))
+      (λ k. past-out z (a .snapshot k .past) (place-fit z (a .snapshot) carried k .past) d u o)))
 
   version-fits : FitVersion (s .counts) (newVersion s r w S)
   unfolding newVersion

@@ -1,31 +1,30 @@
 -- Open keeps a store fine.
 -- Assumes nothing.
-use mathlib.Core.Path.{_≡_, refl, sym, ap, _∙_}
-use mathlib.Core.Bool.{Bool, false, not, So, _&&_}
+use mathlib.Core.Path.{_≡_, refl, sym}
+use mathlib.Core.Bool.{So, _&&_}
 use mathlib.Core.List.{List}
 use Prim.Native.Nat.{ℕ, _*_, _≤_, _<_}
 use native.Mathlib.Omega.{arith}
 use lib.Dec.{eqb}
 use lib.ListN.{length}
 use lib.Pow.{pow-pos}
-use Rattle.words.specs.Tests.{allBelow, anyBelow}
-use Rattle.words.proofs.Bools.{clash, and-left, and-right, leb-gt, eqb-eq}
-use Rattle.words.proofs.Tests.{any-no, all-at}
+use Rattle.words.specs.Tests.{allBelow}
+use Rattle.words.proofs.Bools.{clash, and-left, and-right, leb-gt}
+use Rattle.words.proofs.Tests.{all-at}
 use Rattle.words.proofs.Lists.{upto-in, upto-out}
-use Rattle.masks.specs.Mask.{testBit, maskBelow}
 use Rattle.masks.proofs.Bits.{test-none}
-use Rattle.masks.proofs.Sets.{set-none}
 use Rattle.sizes.specs.declared.Counts.{Counts}
 use Rattle.sizes.specs.Bounds.{maxJobs, between}
 use Rattle.sizes.proofs.Offsets.{between-out}
 use Rattle.model.specs.Version.{held}
-use Rattle.model.specs.Store.{Job, Store, noJob, doneReads, withRun}
+use Rattle.model.specs.Store.{Store, noJob, withRun}
 use Rattle.model.specs.Form.{validJob, runFormed}
 use Rattle.model.specs.Runs.{listedJob, listedCount, listedJobs, listValid, openCause, openedRun, openDone, openRule}
 use Rattle.layout.proofs.Parts.{FitRun}
 use Rattle.layout.proofs.Fit.{fit-empty, fit-run}
 use Rattle.layout.proofs.Formed.{formed-empty, well-out, formed-run}
 use Rattle.layout.proofs.Plans.{zero-job, plan-in}
+use Rattle.layout.proofs.DoneReads.{none-read}
 use Rattle.layout.proofs.Follow.{Fine}
 use Rattle.layout.proofs.Kept.{Kept, kept-done, kept-unless, no-cause, no-lack}
 
@@ -56,14 +55,6 @@ job-out : (l : List ℕ) (i : ℕ) → listedCount l ≤ i → listedJobs l i �
 unfolding listedJobs
 job-out l i h = upto-out (listedCount l) noJob (listedJob l) i h
 
--- With no job done, nothing is read.
-pub none-read : (K n : ℕ) (job : ℕ → Job) → maskBelow K (doneReads n job 0) ≡ 0
-unfolding doneReads
-none-read K n job =
-    eqb-eq _ 0 (set-none K (doneReads n job 0)
-    ∙ rw (any-no K (doneReads n job 0)
-    (λ k _. any-no n (λ j. testBit 0 j && testBit (job j .reads) k) (λ j _. rw (test-none j)))))
-
 opened-fits : (z : Counts) (l : List ℕ) → Listed z l → FitRun z (openedRun l)
 unfolding openedRun
 opened-fits z l L = record {
@@ -85,13 +76,13 @@ opened-formed z l L = plan-in z (openedRun l) (omega arith) (record {
     beyond = λ i _ h. rw (job-out l i h) zero-job;
   };
   masks = record {
-    done = pow-pos (listedCount l);
-    read = sym (none-read (z .keys) (listedCount l) (listedJobs l));
+    low = pow-pos (listedCount l);
+    reads = sym (none-read (z .keys) (listedCount l) (listedJobs l));
   };
   snapshot = record {
     place = formed-empty z;
     carried = λ k _ p. clash p refl;
-    read = λ k _ p. clash p (test-none k);
+    has = λ k _ p. clash p (test-none k);
   };
 })
 

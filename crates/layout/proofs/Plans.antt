@@ -1,14 +1,14 @@
 -- Laws of the form of a run.
 -- Valid: a valid job. Plan: the form of a run that isn't free, as a record; plan-out, plan-in.
 -- Assumes nothing.
-use mathlib.Core.Path.{_≡_, refl, sym, ap, _∙_}
+use mathlib.Core.Path.{_≡_, refl}
 use mathlib.Core.Bool.{Bool, true, false, cond, not, So, _&&_}
 use mathlib.Core.Logic.{⊎-elim}
-use Prim.Native.Nat.{ℕ, _+_, _≤_, _<_, _^_}
+use Prim.Native.Nat.{ℕ, _≤_, _<_, _^_}
 use native.Mathlib.Omega.{arith}
 use lib.Dec.{eqb, leb, ltb}
-use Rattle.words.specs.Tests.{Items, allBelow}
-use Rattle.words.proofs.Bools.{test, clash, and-intro, and-left, and-right, or-right, not-intro, leb-le, le-leb, ltb-lt, lt-ltb, ge-ltb, eqb-eq, eq-eqb, ne-eqb}
+use Rattle.words.specs.Tests.{allBelow}
+use Rattle.words.proofs.Bools.{clash, and-intro, and-left, and-right, leb-le, le-leb, ltb-lt, lt-ltb, ge-ltb, eqb-eq, eq-eqb, ne-eqb}
 use Rattle.words.proofs.Tests.{below-or-not, all-intro, all-at}
 use Rattle.masks.specs.Mask.{testBit, maskBelow}
 use Rattle.sizes.specs.declared.Counts.{Counts}
@@ -56,17 +56,18 @@ zero-job = refl
 
 -- ---- the three parts of a run's form
 
-pub record Jobs (z : Counts) (a : Run) : Type 0 where
-  pub low : 1 ≤ a .jobs
-  pub high : a .jobs ≤ maxJobs
-  pub valid : (i : ℕ) → i < a .jobs → So (validJob z i (a .job i))
-  pub beyond : (i : ℕ) → i < maxJobs → a .jobs ≤ i → So (zeroJob (a .job i))
+-- n jobs, and zero words beyond them.
+pub record Jobs (z : Counts) (n : ℕ) (job : ℕ → Job) : Type 0 where
+  pub low : 1 ≤ n
+  pub high : n ≤ maxJobs
+  pub valid : (i : ℕ) → i < n → So (validJob z i (job i))
+  pub beyond : (i : ℕ) → i < maxJobs → n ≤ i → So (zeroJob (job i))
 
 -- What is asked of job i.
 abbrev jobTest : Counts → Run → ℕ → Bool
 jobTest z a i = cond (ltb i (a .jobs)) (validJob z i (a .job i)) (zeroJob (a .job i))
 
-pub jobs-out : (z : Counts) (a : Run) → So (jobsFormed z a) → Jobs z a
+pub jobs-out : (z : Counts) (a : Run) → So (jobsFormed z a) → Jobs z (a .jobs) (a .job)
 unfolding jobsFormed
 jobs-out z a p =
     let b = between maxJobs (a .jobs) in
@@ -79,7 +80,7 @@ jobs-out z a p =
       beyond = λ i l h. let t = each i l in rw (ge-ltb i (a .jobs) h) at t;
     }
 
-jobs-in : (z : Counts) (a : Run) → Jobs z a → So (jobsFormed z a)
+jobs-in : (z : Counts) (a : Run) → Jobs z (a .jobs) (a .job) → So (jobsFormed z a)
 unfolding jobsFormed
 jobs-in z a J =
     and-intro (between-in maxJobs (a .jobs) (J .low) (J .high))
@@ -87,29 +88,33 @@ jobs-in z a J =
     (λ h. rw (lt-ltb i (a .jobs) h) (J .valid i h))
     (λ h. rw (ge-ltb i (a .jobs) h) (J .beyond i l h)) (below-or-not i (a .jobs))))
 
-pub record Masks (z : Counts) (a : Run) : Type 0 where
-  pub done : a .done < 2 ^ a .jobs
-  pub read : a .read ≡ maskBelow (z .keys) (doneReads (a .jobs) (a .job) (a .done))
+-- The done mask, and the read mask that follows from it.
+pub record Masks (z : Counts) (n : ℕ) (job : ℕ → Job) (done read : ℕ) : Type 0 where
+  pub low : done < 2 ^ n
+  pub reads : read ≡ maskBelow (z .keys) (doneReads n job done)
 
-masks-out : (z : Counts) (a : Run) → So (masksFormed z a) → Masks z a
+masks-out : (z : Counts) (a : Run) → So (masksFormed z a)
+    → Masks z (a .jobs) (a .job) (a .done) (a .read)
 unfolding masksFormed
 masks-out z a p =
     let d = ltb (a .done) (2 ^ a .jobs) in
     let reads = maskBelow (z .keys) (doneReads (a .jobs) (a .job) (a .done)) in
     record {
-      done = ltb-lt _ _ (and-left d (eqb (a .read) reads) p);
-      read = eqb-eq _ _ (and-right d (eqb (a .read) reads) p);
+      low = ltb-lt _ _ (and-left d (eqb (a .read) reads) p);
+      reads = eqb-eq _ _ (and-right d (eqb (a .read) reads) p);
     }
 
-masks-in : (z : Counts) (a : Run) → Masks z a → So (masksFormed z a)
+masks-in : (z : Counts) (a : Run) → Masks z (a .jobs) (a .job) (a .done) (a .read)
+    → So (masksFormed z a)
 unfolding masksFormed
-masks-in z a M = and-intro (lt-ltb _ _ (M .done)) (eq-eqb _ _ (M .read))
+masks-in z a M = and-intro (lt-ltb _ _ (M .low)) (eq-eqb _ _ (M .reads))
 
-pub record Snapshot (z : Counts) (a : Run) : Type 0 where
-  pub place : PlaceFormed z (a .snapshot)
-  pub carried : (k : ℕ) → k < z .keys → So (held (a .snapshot k))
-      → So (planned (a .jobs) (a .job) k)
-  pub read : (k : ℕ) → k < z .keys → So (testBit (a .read) k) → So (held (a .snapshot k))
+-- A snapshot that carries planned keys, and all that are read.
+pub record Snapshot (z : Counts) (n : ℕ) (job : ℕ → Job) (read : ℕ) (p : Place Version)
+    : Type 0 where
+  pub place : PlaceFormed z p
+  pub carried : (k : ℕ) → k < z .keys → So (held (p k)) → So (planned n job k)
+  pub has : (k : ℕ) → k < z .keys → So (testBit read k) → So (held (p k))
 
 -- What is asked of key k.
 abbrev keyTest : Run → ℕ → Bool
@@ -117,7 +122,8 @@ keyTest a k =
     implies (held (a .snapshot k)) (planned (a .jobs) (a .job) k)
     && implies (testBit (a .read) k) (held (a .snapshot k))
 
-snapshot-out : (z : Counts) (a : Run) → So (snapshotFormed z a) → Snapshot z a
+snapshot-out : (z : Counts) (a : Run) → So (snapshotFormed z a)
+    → Snapshot z (a .jobs) (a .job) (a .read) (a .snapshot)
 unfolding snapshotFormed
 snapshot-out z a p =
     let b = placeFormed z (a .snapshot) in
@@ -128,26 +134,27 @@ snapshot-out z a p =
       carried = λ k h. implies-out (held (a .snapshot k)) (plan k) (and-left
           (implies (held (a .snapshot k)) (plan k))
           (implies (testBit (a .read) k) (held (a .snapshot k))) (each k h));
-      read = λ k h. implies-out (testBit (a .read) k) (held (a .snapshot k)) (and-right
+      has = λ k h. implies-out (testBit (a .read) k) (held (a .snapshot k)) (and-right
           (implies (held (a .snapshot k)) (plan k))
           (implies (testBit (a .read) k) (held (a .snapshot k))) (each k h));
     }
 
-snapshot-in : (z : Counts) (a : Run) → Snapshot z a → So (snapshotFormed z a)
+snapshot-in : (z : Counts) (a : Run) → Snapshot z (a .jobs) (a .job) (a .read) (a .snapshot)
+    → So (snapshotFormed z a)
 unfolding snapshotFormed
 snapshot-in z a S =
     and-intro (place-in z (a .snapshot) (S .place))
     (all-intro (z .keys) (keyTest a) (λ k h. and-intro
     (implies-in (held (a .snapshot k)) (planned (a .jobs) (a .job) k) (S .carried k h))
-    (implies-in (testBit (a .read) k) (held (a .snapshot k)) (S .read k h))))
+    (implies-in (testBit (a .read) k) (held (a .snapshot k)) (S .has k h))))
 
 -- ---- a run that isn't free
 
 pub record Plan (z : Counts) (a : Run) : Type 0 where
   pub state : a .state ≤ 2
-  pub jobs : Jobs z a
-  pub masks : Masks z a
-  pub snapshot : Snapshot z a
+  pub jobs : Jobs z (a .jobs) (a .job)
+  pub masks : Masks z (a .jobs) (a .job) (a .done) (a .read)
+  pub snapshot : Snapshot z (a .jobs) (a .job) (a .read) (a .snapshot)
 
 pub plan-out : (z : Counts) (a : Run) → 1 ≤ a .state → So (runFormed z a) → Plan z a
 unfolding runFormed

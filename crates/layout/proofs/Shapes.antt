@@ -2,7 +2,7 @@
 -- Shaped: the record. shaped-out, shaped-in: from the test and back.
 -- Assumes nothing.
 use mathlib.Core.Path.{_≡_, sym, ap}
-use mathlib.Core.Bool.{Bool, So, _&&_}
+use mathlib.Core.Bool.{So, _&&_}
 use mathlib.Core.List.{List, [], _∷_}
 use Prim.Native.Nat.{ℕ, _≤_}
 use native.Mathlib.Omega.{arith}

@@ -1,24 +1,28 @@
 -- A store of words into one part of a written store, as a change of the store.
--- put-..-part: within one site, writer or run. put-..: a whole part, or one word of it.
+-- put-..-part: within one site, writer or run. put-..: a whole part, or some words of it.
+-- run-twice, phase: one change after another.
 -- Assumes nothing.
-use mathlib.Core.Path.{_≡_, refl, sym, ap, _∙_}
+use mathlib.Core.Path.{_≡_, refl, sym, ap, _∙_, fun-ext}
+use mathlib.Core.Bool.{Bool, true, false, cond}
 use mathlib.Core.List.{List, [], _∷_, _++_, append-assoc}
 use Prim.Native.Nat.{ℕ, _+_, _*_, _≤_, _<_}
 use native.Mathlib.Nat.{add-zero}
 use native.Mathlib.Omega.{arith}
+use lib.Dec.{eqb}
 use lib.ListN.{length, drop, set, length-append}
 use lib.Seq.{sets}
+use Rattle.words.specs.Lists.{putAt}
 use Rattle.words.proofs.Stores.{sets-left, sets-behind, sets-all}
-use Rattle.sizes.specs.declared.Counts.{Counts}
-use Rattle.sizes.specs.Bounds.{placeSize, siteSize, writerSize, runSize, masterAt, sitesAt, writersAt, runsAt, totalOf, siteAt, writerAt, runAt, snapshotAt}
+use Rattle.sizes.specs.Bounds.{siteSize, writerSize, runSize, masterAt, sitesAt, writersAt, runsAt, totalOf, siteAt, writerAt, runAt, snapshotAt}
 use Rattle.model.specs.Algebra.{Place}
 use Rattle.model.specs.Version.{Version}
-use Rattle.model.specs.Store.{Writer, Job, Run, Site, Store, withLast, withMaster, withSites, withCache, withWriter, withRun, withState, withSnapshot}
+use Rattle.model.specs.Store.{Writer, Run, Store, withLast, withMaster, withSites, withCache, withWriter, withRun, withState, withSnapshot, withJobDone}
 use Rattle.layout.specs.Words.{headerWords, placeWords, siteWords, sitesWords, writerWords, writersWords, jobsWords, runWords, runsWords, storeWords}
 use Rattle.layout.specs.Buffer.{written}
-use Rattle.layout.proofs.Codec.{Laws, many-part, many-room}
+use Rattle.layout.specs.Reading.{storeOf}
+use Rattle.layout.proofs.Codec.{many-part, many-room}
 use Rattle.layout.proofs.Parts.{place-laws, site-laws, writer-laws, jobs-laws, run-laws}
-use Rattle.layout.proofs.Whole.{toMaster, toSites, toWriters, header-long, master-long, sites-long, writers-long}
+use Rattle.layout.proofs.Whole.{FitStore, store-back, written-twice, toMaster, toSites, toWriters, header-long, master-long, sites-long, writers-long}
 
 -- A store into the middle one of three lists.
 sets-area : (a b c x : List ℕ) (at i : ℕ) → length a ≡ at → i + length x ≤ length b
@@ -202,3 +206,39 @@ put-snapshot s l r p h =
     (ap (λ (i : ℕ). sets (runWords z a) i new) (sym e ∙ sym (add-zero (length before)))
     ∙ sets-behind before old new 0 (omega arith)
     ∙ ap (λ (t : List ℕ). before ++ t) (sets-all old new same))
+
+-- The done and the read mask.
+pub put-masks : (s : Store) (l : List ℕ) (r x y : ℕ) → r < s .counts .runs
+    → sets (written s l) (runAt (s .counts) r + 2) (x ∷ y ∷ [])
+    ≡ written (withRun s r (withJobDone (s .run r) x y (s .run r .snapshot))) l
+unfolding runSize runWords withJobDone
+put-masks s l r x y h =
+    let a = s .run r in
+    put-run-part s l r 2 (x ∷ y ∷ []) (withJobDone a x y (a .snapshot)) h (omega arith) refl
+
+-- ---- one change after another
+
+-- A run changed twice.
+pub run-twice : (s : Store) (r : ℕ) (x y : Run) → withRun (withRun s r x) r y ≡ withRun s r y
+unfolding withRun putAt
+run-twice s r x y = ap storeWith (fun-ext (λ i. last (eqb i r) i))
+  where
+    storeWith : (ℕ → Run) → Store
+    storeWith f = record {
+      counts = s .counts;
+      last = s .last;
+      master = s .master;
+      site = s .site;
+      writer = s .writer;
+      run = f;
+    }
+
+    last : (b : Bool) (i : ℕ) → cond b y (cond b x (s .run i)) ≡ cond b y (s .run i)
+    last true i = refl
+    last false i = refl
+
+-- A change of what the change before it left is the change of its store.
+pub phase : (s : Store) (l : List ℕ) (f : Store → Store) → FitStore s → f s .counts ≡ s .counts
+    → written (f (storeOf (written s l))) (written s l) ≡ written (f s) l
+phase s l f F e =
+    ap (λ (t : Store). written (f t) (written s l)) (store-back s l F) ∙ written-twice s (f s) l e

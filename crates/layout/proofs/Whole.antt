@@ -5,7 +5,7 @@
 use mathlib.Core.Path.{_≡_, refl, sym, ap, ap₂, _∙_}
 use mathlib.Core.Bool.{So}
 use mathlib.Core.List.{List, _++_}
-use Prim.Native.Nat.{ℕ, _+_, _*_, _≤_}
+use Prim.Native.Nat.{ℕ, _+_, _≤_}
 use native.Mathlib.Nat.{zero-add}
 use native.Mathlib.Omega.{arith}
 use lib.ListN.{length, getD, drop, length-append, length-drop}
@@ -20,9 +20,8 @@ use Rattle.model.specs.Store.{Writer, Run, Site, Store}
 use Rattle.layout.specs.Words.{headerWords, placeWords, sitesWords, writersWords, runsWords, storeWords}
 use Rattle.layout.specs.Reading.{readWord, countsIn, storeOf}
 use Rattle.layout.specs.Buffer.{written, shaped}
-use Rattle.layout.proofs.Codec.{Laws}
 use Rattle.layout.proofs.Parts.{FitPlace, FitSites, FitWriters, FitRuns, place-laws, sites-laws, writers-laws, runs-laws}
-use Rattle.layout.proofs.Shapes.{Shaped, shaped-out, shaped-in}
+use Rattle.layout.proofs.Shapes.{shaped-out, shaped-in}
 
 pub record FitStore (s : Store) : Type 0 where
   pub master : FitPlace (s .counts) (s .master)

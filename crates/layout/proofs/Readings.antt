@@ -1,0 +1,94 @@
+-- What stands at an index of a buffer: single words of versions, and the parts of its store.
+-- ..-in: a part of the store is what is read at its offset. ..-word: a part of it is one word.
+-- Assumes nothing.
+use mathlib.Core.Path.{_≡_, refl, ap, _∙_}
+use mathlib.Core.List.{List}
+use Prim.Native.Nat.{ℕ, _+_, _*_, _<_}
+use native.Mathlib.Omega.{arith}
+use lib.Dec.{leb}
+use Rattle.words.proofs.Lists.{upto-in}
+use Rattle.clock.specs.Clock.{Clock, present, clockAt}
+use Rattle.clock.proofs.Order.{present-same}
+use Rattle.sizes.specs.declared.Counts.{Counts}
+use Rattle.sizes.specs.Bounds.{maxJobs, siteSize, writerSize, runSize, masterAt, sitesAt, writersAt, runsAt, siteAt, writerAt, runAt, snapshotAt, keyAt, rowAt}
+use Rattle.model.specs.Version.{held}
+use Rattle.model.specs.Store.{noSite, noWriter, noJob, freeRun}
+use Rattle.layout.specs.Reading.{readWord, readClock, readPast, readVersion, readPlace, readSite, readWriter, readJob, readJobs, readRun, countsIn, storeOf}
+use Rattle.layout.proofs.Places.{place-at}
+
+-- ---- the parts of the store that a buffer holds
+
+pub counts-in : (l : List ℕ) → storeOf l .counts ≡ countsIn l
+unfolding storeOf
+counts-in l = refl
+
+pub last-in : (l : List ℕ) → storeOf l .last ≡ readWord l 4
+unfolding storeOf
+last-in l = refl
+
+module _ (l : List ℕ) (z : Counts) (e : z ≡ countsIn l) where
+  pub master-in : storeOf l .master ≡ readPlace z l (masterAt z)
+  unfolding storeOf
+  master-in = rw e
+
+  pub site-in : (o : ℕ) → o < z .sites → storeOf l .site o ≡ readSite z l (siteAt z o)
+  unfolding storeOf siteAt
+  site-in o h =
+      rw (← e) (upto-in (z .sites) noSite (λ o. readSite z l (sitesAt z + o * siteSize z)) o h)
+
+  pub cache-in : (o : ℕ) → o < z .sites → storeOf l .site o .cache ≡ readPlace z l (siteAt z o)
+  unfolding readSite
+  cache-in o h = rw (site-in o h)
+
+  pub writer-in : (w : ℕ) → w < z .writers → storeOf l .writer w ≡ readWriter z l (writerAt z w)
+  unfolding storeOf writerAt
+  writer-in w h =
+      let at : ℕ → ℕ = λ w. writersAt z + w * writerSize z in
+      rw (← e) (upto-in (z .writers) noWriter (λ w. readWriter z l (at w)) w h)
+
+  pub run-in : (r : ℕ) → r < z .runs → storeOf l .run r ≡ readRun z l (runAt z r)
+  unfolding storeOf runAt
+  run-in r h =
+      rw (← e) (upto-in (z .runs) freeRun (λ r. readRun z l (runsAt z + r * runSize z)) r h)
+
+  pub snapshot-in : (r : ℕ) → r < z .runs
+      → storeOf l .run r .snapshot ≡ readPlace z l (snapshotAt z r)
+  unfolding readRun snapshotAt
+  snapshot-in r h =
+      rw (run-in r h) (ap (readPlace z l) (omega arith))
+
+-- ---- single words
+
+module _ (z : Counts) (l : List ℕ) where
+  pub held-word : (at k : ℕ) → k < z .keys
+      → held (readPlace z l at k) ≡ leb 1 (readWord l (keyAt z at k))
+  unfolding readVersion held
+  held-word at k h = rw (place-at z l at k h)
+
+  -- A count in row d of the version at an index.
+  pub count-word : (at d w : ℕ) → d < z .keys → w < z .writers
+      → readVersion z l at .past d w ≡ readWord l (rowAt z at d + w)
+  unfolding readVersion readPast readClock rowAt
+  count-word at d w h i =
+      ap (λ (c : Clock). c w)
+      (upto-in (z .keys) (λ w. 0) (λ d. readClock z l (at + 1 + d * z .writers)) d h)
+      ∙ upto-in (z .writers) 0 (λ w. readWord l (at + 1 + d * z .writers + w * 1)) w i
+      ∙ ap (readWord l) (omega arith)
+
+  -- Row d of key k of the place at an index.
+  pub row-word : (at k d w : ℕ) → k < z .keys → d < z .keys → w < z .writers
+      → readPlace z l at k .past d w ≡ clockAt l (rowAt z (keyAt z at k) d) w
+  unfolding clockAt
+  row-word at k d w h i j = rw (place-at z l at k h) (count-word (keyAt z at k) d w i j)
+
+  pub present-word : (at k d : ℕ) → k < z .keys → d < z .keys
+      → present (z .writers) (readPlace z l at k .past d)
+      ≡ present (z .writers) (clockAt l (rowAt z (keyAt z at k) d))
+  present-word at k d h i =
+      present-same (z .writers) (readPlace z l at k .past d) (clockAt l (rowAt z (keyAt z at k) d))
+      (λ w j. row-word at k d w h i j)
+
+-- Job i of the jobs at an index.
+pub job-at : (l : List ℕ) (at i : ℕ) → i < maxJobs → readJobs l at i ≡ readJob l (at + i * 3)
+unfolding readJobs
+job-at l at i h = upto-in maxJobs noJob (λ i. readJob l (at + i * 3)) i h
