@@ -1,5 +1,6 @@
 -- The snapshot of a run by masks: the keys that it holds, the plan's and those read.
--- without-none: one mask within another. snapshot-test, empty-test, free-test: the tests of the code.
+-- without-none: one mask within another.
+-- carried-test, empty-test, free-test: what the code tests is what is asked.
 -- Assumes nothing.
 use mathlib.Core.Path.{_≡_, refl, sym, ap, ap₂, _∙_}
 use mathlib.Core.Bool.{Bool, true, false, cond, not, So, _&&_, _||_, and-true, and-false}

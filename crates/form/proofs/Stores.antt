@@ -16,7 +16,8 @@ use Rattle.layout.specs.Reading.{readPlace, readRun, countsIn, storeOf}
 use Rattle.layout.specs.Buffer.{shaped}
 use Rattle.layout.proofs.Shapes.{shaped-out}
 use Rattle.layout.proofs.Readings.{cache-in, run-in}
-use Rattle.form.specs.Parts.{Area, RunArea, StoreArea}
+use Rattle.version.specs.Places.{Area}
+use Rattle.form.specs.Parts.{RunArea, StoreArea}
 
 module _ (z : Counts) (len : ℕ) (A : StoreArea len z) where
   pub master-area : Area len z 10
@@ -35,7 +36,6 @@ module _ (z : Counts) (len : ℕ) (A : StoreArea len z) where
         fits = omega (arith, e .ends, A .fits);
       }
 
-  -- A run, and its snapshot.
   pub run-area : (r : ℕ) → r < z .runs → RunArea len z (runAt z r)
   unfolding runSize
   run-area r h =
@@ -46,9 +46,6 @@ module _ (z : Counts) (len : ℕ) (A : StoreArea len z) where
         low = omega (arith, e .ends);
         fits = omega (arith, e .ends, A .fits);
       }
-
-pub snapshot-area : (z : Counts) (len at : ℕ) → RunArea len z at → Area len z (at + 28)
-snapshot-area z len at A = record { ranged = A .ranged; low = A .low; fits = A .fits }
 
 -- A buffer of the right shape holds its store.
 pub shaped-area : (l : List ℕ) → So (shaped l) → StoreArea (length l) (countsIn l)
