@@ -3,19 +3,19 @@
 use mathlib.Core.Path.{_≡_, refl, sym, ap, ap₂}
 use mathlib.Core.Bool.{Bool, So, _&&_}
 use mathlib.Core.List.{List}
-use Prim.Native.Nat.{ℕ, _+_, _≤_, _<_}
+use Prim.Native.Nat.{ℕ, _≤_, _<_}
 use native.Mathlib.Omega.{arith}
 use lib.ListN.{length}
 use Rattle.words.specs.Tests.{allBelow}
 use Rattle.words.proofs.Tests.{all-same}
-use Rattle.sizes.specs.declared.Counts.{Counts}
 use Rattle.sizes.specs.Bounds.{runSize, masterAt, siteAt, runAt}
+use Rattle.sizes.specs.declared.Counts.{Counts}
 use Rattle.sizes.proofs.Offsets.{ordered, run-lies}
 use Rattle.model.specs.Form.{placeFormed, runFormed, wellFormed}
-use Rattle.layout.specs.Reading.{readPlace, readRun, countsIn, storeOf}
 use Rattle.layout.specs.Buffer.{shaped}
-use Rattle.layout.proofs.Shapes.{shaped-out}
+use Rattle.layout.specs.Reading.{readPlace, readRun, countsIn, storeOf}
 use Rattle.layout.proofs.Readings.{cache-in, run-in}
+use Rattle.layout.proofs.Shapes.{shaped-out}
 use Rattle.form.specs.Parts.{RunArea, StoreArea}
 
 pub run-area : (len : ℕ) (z : Counts) → StoreArea len z → (r : ℕ) → r < z .runs
