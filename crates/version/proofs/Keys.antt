@@ -50,6 +50,7 @@ clear-keys z l at S A =
     place-run z l at S (λ k m. unheld) (λ k. unheld) (A .fits) (λ k q h F e. refl)
 
 module _ (z : Counts) (l : List ℕ) (dst src : ℕ) (S : Items) (A : Areas (length l) z dst src) where
+  -- The two places.
   abbrev p : Place Version
   p = readPlace z l dst
 

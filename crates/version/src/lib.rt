@@ -187,7 +187,8 @@ fn merge_if(words: &mut [u32], z: Counts, dst: usize, src: usize, mask: u32, k: 
     }
 }
 
-// Merges the keys of the mask from the place at src into the place at dst.
+// Merges the keys of the mask from the place at src into the place at dst. In a place that is
+// well formed an unheld version has only zero words: the larger words are the merge.
 pub fn merge_keys(words: &mut [u32], z: Counts, dst: usize, src: usize, mask: u32)
     requires { ⌜ Areas (length (now words)) z dst src ⌝ }
     requires { ⌜ So (placeFormed z (readPlace z (now words) dst))
