@@ -6,9 +6,8 @@ use mathlib.Core.Path.{_≡_, refl, ap, _∙_}
 use mathlib.Core.Bool.{false, cond, So, true≢false}
 use mathlib.Core.Logic.{inl, inr, _≢_}
 use Prim.Native.Nat.{ℕ, _<_}
-use lib.Dec.{eqb}
 use Rattle.words.specs.Tests.{Items, anyBelow}
-use Rattle.words.proofs.Bools.{test, clash, _∙˙_, and-left, and-right, and-cases, eqb-eq}
+use Rattle.words.proofs.Bools.{test, clash, _∙˙_, and-left, and-right, and-cases}
 use Rattle.words.proofs.Tests.{any-some, any-none}
 use Rattle.masks.specs.Mask.{testBit}
 use Rattle.reach.specs.Closure.{Reach, Reach.here, Reach.next}
@@ -21,6 +20,7 @@ use Rattle.model.specs.Sets.{draws, pulled}
 use Rattle.model.specs.Store.{Store}
 use Rattle.model.specs.Outcome.{unless}
 use Rattle.model.specs.Step.{stepRule, stepReads, stepCache, stepPlan, stepPull, stepSnapshot, stepMoved, stepCause, stepBroken, stepDone}
+use Rattle.model.proofs.Outcomes.{unless-cases}
 use Rattle.model.proofs.Merges.{merge-right}
 use Rattle.model.proofs.Needs.{dependency-mono, supersedes-iff, supersedes-trans}
 use Rattle.model.proofs.Cuts.{needsMet-at, needsMet-intro, overlappingCut-within, overlappingCut-at, lacking-iff, draws-iff}
@@ -177,10 +177,10 @@ module _ (s : Store) (r j : ℕ) where
   -- ---- the outcome
 
   not-refused : isRefused (stepRule r j s) ≡ false → stepCause s r j ≡ 0
-  unfolding stepRule unless isRefused
-  not-refused e =
-      test (eqb (stepCause s r j) 0) (λ y. eqb-eq (stepCause s r j) 0 y)
-      (λ n. absurd (true≢false (rw n at e)))
+  unfolding stepRule isRefused
+  not-refused =
+      unless-cases (λ x. isRefused x ≡ false → stepCause s r j ≡ 0) (stepCause s r j) _ (λ e _. e)
+      (λ _ y. absurd (true≢false y))
 
   broken-moved : stepCause s r j ≡ 0 → isBroken (stepRule r j s) ≡ anyBelow K (stepMoved s r j)
   unfolding stepRule unless isBroken stepBroken stepDone

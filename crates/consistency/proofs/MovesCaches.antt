@@ -14,8 +14,8 @@ use Rattle.model.specs.Sets.{fetched, evicted}
 use Rattle.model.specs.Store.{Store, withCache}
 use Rattle.model.specs.Calls.{fetch, evict}
 use Rattle.model.specs.Caches.{fetchCause, fetchDone, fetchRule, evictCause, evictDone, evictRule}
+use Rattle.model.proofs.Outcomes.{no-cause}
 use Rattle.layout.proofs.Follow.{Fine}
-use Rattle.layout.proofs.Kept.{no-cause}
 use Rattle.history.specs.Copies.{Copy, copies}
 use Rattle.history.specs.Book.{Book, bookFetch, bookEvict, bookRule, withBookCaches}
 use Rattle.history.proofs.Notions.{ClosedAll}

@@ -18,7 +18,7 @@ use Rattle.masks.proofs.Sets.{mask-some}
 use Rattle.model.specs.Store.{Store, freeRun, withLast, withMaster, withRun, withWriter}
 use Rattle.model.specs.Issue.{issueCause, issuedMaster, issuedWriter, issueSaved, issueDone, issueRule}
 use Rattle.model.specs.Calls.{issue}
-use Rattle.model.proofs.Steps.{no-cause}
+use Rattle.model.proofs.Outcomes.{no-cause}
 use Rattle.layout.proofs.Follow.{Fine}
 use Rattle.history.specs.Book.{Book, noRun, withBookRun, entry, bookIssue, bookIssued, bookRule}
 use Rattle.history.proofs.Notions.{Sound}

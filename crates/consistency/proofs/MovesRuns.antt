@@ -9,8 +9,8 @@ use Rattle.model.specs.Outcome.{openState}
 use Rattle.model.specs.Calls.{openRun, dropRun, look}
 use Rattle.model.specs.Runs.{listedCount, listedJobs, openCause, openedRun, openDone, openRule, dropCause, dropDone, dropRule}
 use Rattle.model.specs.Look.{lookCause, lookDone, lookRule}
+use Rattle.model.proofs.Outcomes.{no-cause}
 use Rattle.layout.proofs.Follow.{Fine}
-use Rattle.layout.proofs.Kept.{no-cause}
 use Rattle.history.specs.Book.{Book, noRun, bookOpen, bookRule}
 use Rattle.consistency.specs.Trace.{ReadSet, finish}
 use Rattle.consistency.proofs.Invariant.{Inv, Moves}

@@ -27,7 +27,7 @@ use Rattle.consistency.specs.Trace.{ReadSet, readNow, finish}
 use Rattle.consistency.specs.Claim.{first, later}
 use Rattle.consistency.proofs.Invariant.{RunFollows, ReadAs, Inv, Moves}
 use Rattle.consistency.proofs.Shared.{unless-moves, HasRead, inv-cache, inv-run}
-use Rattle.consistency.proofs.Stepped.{accepted-ready, copyCache, copyRun, book-step, stepCache-related, stepCache-closed, stepSnapshot-related, stepSnapshot-closed, stepSnapshot-out, copySnapshot-out}
+use Rattle.consistency.proofs.Stepped.{copyCache, copyRun, book-step, stepCache-related, stepCache-closed, stepSnapshot-related, stepSnapshot-closed, stepSnapshot-out, copySnapshot-out}
 
 -- ---- a step that breaks its run
 
@@ -97,7 +97,7 @@ module _ {s : Store} {b : Book} {f : ℕ → List ReadSet} {r j : ℕ} (fine : F
       let F = v .follows in
       let G = F .run r (a .run-in) in
       let reads = s .run r .job j .reads in
-      let job-reads = valid s r j fine (accepted-ready a) .reads in
+      let job-reads = valid s r j fine a .reads in
       record {
         jobs = refl;
         job = refl;

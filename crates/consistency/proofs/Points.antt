@@ -20,11 +20,12 @@ use Rattle.model.specs.Version.{Version, zeroPast}
 use Rattle.model.specs.Store.{Store, fresh, freeRun, noJobs}
 use Rattle.model.specs.Outcome.{Outcome, refused, broken, done, unless}
 use Rattle.model.specs.Calls.{StoreCall, ruleOf}
+use Rattle.model.proofs.Outcomes.{nextStore, unless-done, unless-refused}
 use Rattle.layout.specs.Reading.{storeOf}
 use Rattle.layout.specs.Buffer.{written}
 use Rattle.layout.specs.Calls.{Call, new, on, newCause, newOn, callOn, leaves, isOk}
 use Rattle.layout.proofs.Whole.{store-back}
-use Rattle.layout.proofs.Follow.{Fine, nextStore, fine-rule, fine-leaves}
+use Rattle.layout.proofs.Follow.{Fine, fine-rule, fine-leaves}
 use Rattle.layout.proofs.Kept.{Kept}
 use Rattle.layout.proofs.Rules.{rule-kept, new-fine}
 use Rattle.history.specs.History.{saved}
@@ -57,7 +58,7 @@ module _ (c : StoreCall) (t : Trace) (s : Store) (l : List ℕ) (e : t .buffer �
   outcome-at : (x : Outcome) → callOn (on c) (t .buffer) ≡ x
       → leaves x (t .buffer) ≡ written (nextStore x s) l → Fine (nextStore x s)
       → Moves c s (t .book) (t .finished) x → At (advance (on c) t)
-  unfolding advance bookStep bookOk nextStore isOk
+  unfolding advance bookStep bookOk isOk
   outcome-at (refused n) p q F m =
       rw p (record { store = s; base = l; holds = q; fine = F; inv = m })
   outcome-at (broken a u) p q F m =
@@ -119,8 +120,8 @@ fresh-inv z = record {
 -- An accepted new leaves the fresh store.
 module _ (l : List ℕ) (z : Counts) (e : newCause l z ≡ 0) where
   new-done : newOn l z ≡ done (totalOf z ∷ []) (fresh z)
-  unfolding newOn unless
-  new-done = rw e
+  unfolding newOn
+  new-done = unless-done (newCause l z) _ e
 
   new-left : leaves (newOn l z) l ≡ written (fresh z) l
   unfolding leaves
@@ -137,8 +138,8 @@ module _ (l : List ℕ) (z : Counts) (e : newCause l z ≡ 0) where
 
 -- A refused one leaves everything.
 new-refused : (l : List ℕ) (z : Counts) → newCause l z ≢ 0 → newOn l z ≡ refused (newCause l z)
-unfolding newOn unless
-new-refused l z n = rw (ne-eqb (newCause l z) 0 n)
+unfolding newOn
+new-refused l z n = unless-refused (newCause l z) _ n
 
 again-at : (k w n p : ℕ) (t : Trace) → At t → At (advance (new k w n p) t)
 unfolding advance callOn bookStep bookOk isOk leaves finish

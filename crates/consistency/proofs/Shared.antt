@@ -10,10 +10,8 @@ use mathlib.Core.List.{List, []}
 use Prim.Native.Nat.{ℕ, _<_}
 use native.Mathlib.Omega.{arith}
 use native.Mathlib.Decide.{ℕ-discrete}
-use lib.Dec.{eqb}
 use Rattle.words.specs.Tests.{none}
 use Rattle.words.specs.Lists.{putAt}
-use Rattle.words.proofs.Bools.{test, eqb-eq}
 use Rattle.words.proofs.Lists.{putAt-same, putAt-other}
 use Rattle.masks.proofs.Bits.{test-none}
 use Rattle.sizes.specs.declared.Counts.{Counts}
@@ -22,6 +20,7 @@ use Rattle.model.specs.Version.{Version, versions}
 use Rattle.model.specs.Store.{Job, Run, Site, Store, emptyPlace, noJobs, freeRun, planned, withSites, withCache, withRun}
 use Rattle.model.specs.Outcome.{Outcome, unless}
 use Rattle.model.specs.Calls.{StoreCall}
+use Rattle.model.proofs.Outcomes.{unless-cases}
 use Rattle.history.specs.History.{History}
 use Rattle.history.specs.Copies.{Copy, copies}
 use Rattle.history.specs.Book.{BookRun, Book, noCopies, noRun, withBookCaches, withBookRun}
@@ -39,8 +38,7 @@ use Rattle.consistency.proofs.Invariant.{RunFollows, Follows, ReadAs, I
 
 pub unless-moves : (c : StoreCall) (s : Store) (b : Book) (f : ℕ → List ReadSet) (n : ℕ)
     (x : Outcome) → Inv s b f → (n ≡ 0 → Moves c s b f x) → Moves c s b f (unless n x)
-unfolding unless
-unless-moves c s b f n x v g = test (eqb n 0) (λ t. rw t (g (eqb-eq n 0 t))) (λ t. rw t v)
+unless-moves c s b f n x v g = unless-cases (Moves c s b f) n x g (λ _. v)
 
 -- ---- store and book side by side
 

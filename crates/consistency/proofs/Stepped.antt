@@ -13,7 +13,7 @@ use Rattle.model.specs.Sets.{fetched, pullSet, pulled}
 use Rattle.model.specs.Store.{Store}
 use Rattle.model.specs.Step.{readStart, stepSite, stepReads, stepStart, stepCache, stepPlan, stepPull, stepSnapshot}
 use Rattle.model.proofs.Steps.{Accepted, step-planned}
-use Rattle.layout.proofs.Stepping.{Ready, open-state, site}
+use Rattle.layout.proofs.Stepping.{site}
 use Rattle.layout.proofs.Follow.{Fine}
 use Rattle.history.specs.Copies.{Copy, copies}
 use Rattle.history.specs.Book.{Book, BookRun, bookStepJob, withBookRun, withBookCaches}
@@ -24,15 +24,6 @@ use Rattle.consistency.proofs.ClosingSets.{fetched-closed, pulled-close
 use Rattle.consistency.proofs.Counting.{CountedAs}
 use Rattle.consistency.proofs.Invariant.{Follows}
 use Rattle.consistency.proofs.Shared.{now-simulates, master-closed, master-related, cache-related, cache-part, snapshot-related, snapshot-closed}
-
--- What the laws about a fine store's step ask.
-pub accepted-ready : {s : Store} {r j : ℕ} → Accepted s r j → Ready s r j
-accepted-ready {s} {r} {j} a = record {
-  run = a .run-in;
-  state = open-state (s .run r .state) (a .open-run);
-  job = a .job-in;
-  fetch = a .fetchable;
-}
 
 -- ---- the book's run r and its cache after job j, with the store's counts and jobs
 
@@ -77,7 +68,7 @@ module _ (s : Store) (b : Book) (r j : ℕ) where
 module _ {s : Store} {b : Book} {r j : ℕ} (fine : Fine s) (F : Follows s b)
     (a : Accepted s r j) where
   at-site : stepSite s r j < s .counts .sites
-  at-site = site s r j fine (accepted-ready a)
+  at-site = site s r j fine a
 
   -- ---- the cache
 

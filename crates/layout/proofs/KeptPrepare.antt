@@ -4,7 +4,7 @@
 -- Assumes nothing.
 use mathlib.Core.Path.{_≡_, refl, ap, _∙_}
 use mathlib.Core.Bool.{Bool, true, false, cond, So, _&&_}
-use Prim.Native.Nat.{ℕ, zero, suc, _≤_, _<_}
+use Prim.Native.Nat.{ℕ, _≤_, _<_}
 use native.Mathlib.Omega.{arith}
 use Rattle.words.specs.Tests.{Items}
 use Rattle.words.proofs.Bools.{test, clash, leb-gt, eqb-eq}
@@ -19,6 +19,7 @@ use Rattle.model.specs.Store.{Job, Run, Site, Store, emptyPlace, planned, withS
 use Rattle.model.specs.Form.{runFormed}
 use Rattle.model.specs.Outcome.{allowed, prepareRow}
 use Rattle.model.specs.Prepare.{jobStart, fetchReads, preparedCaches, usesSite, sitesMerged, siteCaches, prepareCause, prepareCaches, prepareSnapshot, prepareDone, prepareRule}
+use Rattle.model.proofs.Outcomes.{no-cause, no-lack, allowed-used}
 use Rattle.layout.proofs.Codec.{FitMany}
 use Rattle.layout.proofs.Parts.{FitVersion, FitPlace, FitSites, FitRun}
 use Rattle.layout.proofs.Fit.{fit-unheld, fit-put, fit-merge, fit-sites, fit-run}
@@ -26,7 +27,7 @@ use Rattle.layout.proofs.Formed.{VersionFormed, version-unheld, version
 use Rattle.layout.proofs.Plans.{valid-out, Jobs, Plan, plan-out, plan-in}
 use Rattle.layout.proofs.DoneReads.{none-read}
 use Rattle.layout.proofs.Follow.{Fine}
-use Rattle.layout.proofs.Kept.{Kept, kept-done, kept-unless, no-cause, no-lack, fetched-fits, fetched-formed}
+use Rattle.layout.proofs.Kept.{Kept, kept-done, kept-unless, fetched-fits, fetched-formed}
 
 -- ---- the caches
 
@@ -127,21 +128,15 @@ pub record Ready (s : Store) (r : ℕ) : Type 0 where
   pub state : 1 ≤ s .run r .state
   pub done : s .run r .done ≡ 0
 
--- Only an open run may be prepared.
-open-state : (n : ℕ) → So (allowed prepareRow n) → 1 ≤ n
-unfolding allowed
-open-state zero p = clash p refl
-open-state (suc n) p = omega arith
-
 pub ready : (s : Store) (r : ℕ) → prepareCause s r ≡ 0 → Ready s r
-unfolding prepareCause
+unfolding prepareCause allowed
 ready s r e =
     let a = no-cause _ 3 _ (omega arith) e in
     let b = no-lack _ 4 _ (omega arith) (a .1) in
     let c = no-lack _ 6 _ (omega arith) (b .1) in
     record {
       run = leb-gt _ _ (a .0);
-      state = open-state (s .run r .state) (b .0);
+      state = allowed-used prepareRow (s .run r .state) refl (b .0);
       done = eqb-eq (s .run r .done) 0 (c .0);
     }
 

@@ -10,10 +10,11 @@ use Rattle.sizes.proofs.Offsets.{ranged-out}
 use Rattle.model.specs.Store.{Store, fresh}
 use Rattle.model.specs.Outcome.{unless}
 use Rattle.model.specs.Calls.{StoreCall, openRun, fetch, evict, prepare, step, issue, dropRun, look, ruleOf}
+use Rattle.model.proofs.Outcomes.{no-lack, nextStore}
 use Rattle.layout.specs.Buffer.{written}
 use Rattle.layout.specs.Calls.{Call, new, on, newCause, newOn, callOn, leaves, after}
-use Rattle.layout.proofs.Follow.{nextStore, Fine, fine-leaves}
-use Rattle.layout.proofs.Kept.{Kept, no-lack, fresh-fine, look-kept, drop-kept, fetch-kept, evict-kept}
+use Rattle.layout.proofs.Follow.{Fine, fine-leaves}
+use Rattle.layout.proofs.Kept.{Kept, fresh-fine, look-kept, drop-kept, fetch-kept, evict-kept}
 use Rattle.layout.proofs.KeptOpen.{open-kept}
 use Rattle.layout.proofs.KeptPrepare.{prepare-kept}
 use Rattle.layout.proofs.KeptStep.{step-kept}

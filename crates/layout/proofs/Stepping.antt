@@ -1,78 +1,43 @@
--- What a step of a fine store makes of the cache and of the snapshot.
--- Ready: no cause of a refusal holds. cache-..: the cache after it. snapshot-..: the snapshot.
+-- What a step of a fine store that is not refused makes of the cache and of the snapshot.
+-- plan, valid, site: the run and its job. cache-..: the cache after it. snapshot-..: the snapshot.
 -- Assumes nothing.
-use mathlib.Core.Path.{_≡_, refl, ap}
+use mathlib.Core.Path.{_≡_, ap}
 use mathlib.Core.Bool.{false, So}
-use mathlib.Core.Logic.{inl, inr}
-use Prim.Native.Nat.{ℕ, zero, suc, _≤_, _<_}
-use native.Mathlib.Omega.{arith}
+use Prim.Native.Nat.{ℕ, _<_}
 use Rattle.words.specs.Tests.{Items, Within}
-use Rattle.words.proofs.Bools.{test, clash, _∙˙_, leb-gt, ne-eqb}
+use Rattle.words.proofs.Bools.{test, _∙˙_}
 use Rattle.words.proofs.Tests.{any-intro}
 use Rattle.masks.specs.Mask.{testBit}
 use Rattle.model.specs.Algebra.{Place, lacking}
 use Rattle.model.specs.Version.{Version, held, merge, versions}
-use Rattle.model.specs.Sets.{unfetchable, pullSet, pulled}
+use Rattle.model.specs.Sets.{pullSet, pulled}
 use Rattle.model.specs.Store.{Store, planned}
-use Rattle.model.specs.Outcome.{allowed, stepRow}
-use Rattle.model.specs.Step.{readStart, stepSite, stepReads, stepStart, stepCache, stepPlan, stepPull, stepSnapshot, jobLimit, stepCause}
+use Rattle.model.specs.Step.{stepSite, stepReads, stepStart, stepCache, stepPlan, stepPull, stepSnapshot}
+use Rattle.model.proofs.Steps.{Accepted, accepted-used, step-cached}
 use Rattle.layout.proofs.Parts.{FitPlace, FitRun}
 use Rattle.layout.proofs.Fit.{fit-choice, fit-merged}
 use Rattle.layout.proofs.Formed.{PlaceFormed, formed-choice, version-merge, merge-held-left, merge-held-right, Formed, well-out}
 use Rattle.layout.proofs.Plans.{Valid, valid-out, Plan, plan-out}
-use Rattle.layout.proofs.Draws.{lacking-in, lacking-set, draw-start, draw-scope, fetched-held}
+use Rattle.layout.proofs.Draws.{lacking-in, lacking-set, draw-start, draw-scope}
 use Rattle.layout.proofs.Follow.{Fine}
-use Rattle.layout.proofs.Kept.{no-cause, no-lack, fetched-fits, fetched-formed}
+use Rattle.layout.proofs.Kept.{fetched-fits, fetched-formed}
 
--- ---- step of job j of run r, where no cause holds
-
-pub record Ready (s : Store) (r j : ℕ) : Type 0 where
-  pub run : r < s .counts .runs
-  pub state : 1 ≤ s .run r .state
-  pub job : j < s .run r .jobs
-  pub fetch : unfetchable (versions (s .counts .writers)) (s .counts .keys) (s .master)
-      (stepStart s r j) ≡ false
-
--- Only an open run may step.
-pub open-state : (n : ℕ) → So (allowed stepRow n) → 1 ≤ n
-unfolding allowed
-open-state zero p = clash p refl
-open-state (suc n) p = omega arith
-
-pub ready : (s : Store) (r j : ℕ) → stepCause s r j ≡ 0 → Ready s r j
-unfolding stepCause jobLimit
-ready s r j e =
-    let a = no-cause _ 3 _ (omega arith) e in
-    let b = no-cause _ 3 _ (omega arith) (a .1) in
-    let c = no-lack _ 4 _ (omega arith) (b .1) in
-    let d = no-cause _ 6 _ (omega arith) (c .1) in
-    let f = no-cause _ 7 _ (omega arith) (d .1) in
-    let state = open-state (s .run r .state) (c .0) in
-    let closed = ne-eqb (s .run r .state) 0 (λ q. omega arith) in
-    let job = b .0 in
-    record {
-      run = leb-gt _ _ (a .0);
-      state = state;
-      job = leb-gt _ _ (rw closed at job);
-      fetch = f .0;
-    }
-
-module _ (s : Store) (r j : ℕ) (F : Fine s) (R : Ready s r j) where
+module _ (s : Store) (r j : ℕ) (F : Fine s) (A : Accepted s r j) where
   formed : Formed s
   formed = well-out s (F .formed)
 
   pub plan : Plan (s .counts) (s .run r)
-  plan = plan-out (s .counts) (s .run r) (R .state) (formed .run r (R .run))
+  plan = plan-out (s .counts) (s .run r) (accepted-used A) (formed .run r (A .run-in))
 
   pub valid : Valid (s .counts) j (s .run r .job j)
-  valid = valid-out (s .counts) j (s .run r .job j) (plan .jobs .valid j (R .job))
+  valid = valid-out (s .counts) j (s .run r .job j) (plan .jobs .valid j (A .job-in))
 
   pub site : stepSite s r j < s .counts .sites
   unfolding stepSite
   site = valid .site
 
   fitting : FitRun (s .counts) (s .run r)
-  fitting = F .fits .run .each r (R .run)
+  fitting = F .fits .run .each r (A .run-in)
 
   -- ---- the cache
 
@@ -87,20 +52,6 @@ module _ (s : Store) (r j : ℕ) (F : Fine s) (R : Ready s r j) where
   cache-formed =
       fetched-formed (s .counts) (s .master) (s .site (stepSite s r j) .cache) (stepStart s r j)
       (formed .master) (formed .cache (stepSite s r j) site)
-
-  -- It holds the reads that the snapshot lacks.
-  cache-held : (k : ℕ) → k < s .counts .keys → So (stepReads s r j k)
-      → held (s .run r .snapshot k) ≡ false → So (held (stepCache s r j k))
-  unfolding stepCache stepStart readStart
-  cache-held k l p n =
-      let alg = versions (s .counts .writers) in
-      let K = s .counts .keys in
-      let cache = s .site (stepSite s r j) .cache in
-      let asked = lacking alg K (s .run r .snapshot) (stepReads s r j) in
-      fetched-held alg K (s .master) cache (stepStart s r j) (R .fetch) k l
-      (test (held (cache k)) (λ h. inr h)
-      (λ h. inl (lacking-in alg K cache asked k
-      (lacking-in alg K (s .run r .snapshot) (stepReads s r j) k p n) h)))
 
   -- ---- the snapshot
 
@@ -148,7 +99,7 @@ module _ (s : Store) (r j : ℕ) (F : Fine s) (R : Ready s r j) where
       let reads : Items = testBit (a .job j .reads) in
       draw-scope alg K (planned (a .jobs) (a .job)) (a .snapshot) (stepCache s r j)
       (lacking alg K (a .snapshot) reads)
-      (λ k _ p. any-intro (a .jobs) (λ i. testBit (a .job i .reads) k) j (R .job)
+      (λ k _ p. any-intro (a .jobs) (λ i. testBit (a .job i .reads) k) j (A .job-in)
       (lacking-set alg K (a .snapshot) reads k p))
 
   pull-lacking : (k : ℕ) → So (stepReads s r j k) → held (s .run r .snapshot k) ≡ false
@@ -174,7 +125,7 @@ module _ (s : Store) (r j : ℕ) (F : Fine s) (R : Ready s r j) where
       let old = s .run r .snapshot k in
       test (held old) (still-held k)
       (λ n. rw (pulled-in k (pull-lacking k p n))
-      (merge-held-right old (stepCache s r j k) (cache-held k l p n)))
+      (merge-held-right old (stepCache s r j k) (step-cached s r j k A l p n)))
 
   pub carried : (k : ℕ) → k < s .counts .keys → So (held (stepSnapshot s r j k))
       → So (planned (s .run r .jobs) (s .run r .job) k)

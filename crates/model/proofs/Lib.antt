@@ -1,3 +1,4 @@
+pub mod Outcomes
 pub mod Scripts
 pub mod Readings
 pub mod Computed

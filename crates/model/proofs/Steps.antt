@@ -1,34 +1,23 @@
 -- A step that is not refused.
--- no-cause, no-lack: a row of the refusal table that is passed. Accepted: what a step has passed.
+-- Accepted: what it has passed. accepted-used: its run isn't free.
 -- step-planned, step-cached: where the reads of such a step are.
 -- Assumes nothing.
-use mathlib.Core.Path.{_≡_, refl, ap}
-use mathlib.Core.Bool.{Bool, true, false, not, So}
+use mathlib.Core.Path.{_≡_, refl}
+use mathlib.Core.Bool.{false, So}
 use mathlib.Core.Logic.{inl, inr}
-use Prim.Native.Nat.{ℕ, _<_}
+use Prim.Native.Nat.{ℕ, _≤_, _<_}
 use native.Mathlib.Omega.{arith}
-use lib.Dec.{eqb, leb}
-use Rattle.words.proofs.Bools.{test, clash, leb-gt, eqb-eq}
+use lib.Dec.{leb}
+use Rattle.words.proofs.Bools.{test, leb-gt, ne-eqb}
 use Rattle.words.proofs.Tests.{any-intro}
 use Rattle.model.specs.Algebra.{lacking}
 use Rattle.model.specs.Version.{held, versions}
 use Rattle.model.specs.Sets.{unfetchable}
 use Rattle.model.specs.Store.{Store, planned}
-use Rattle.model.specs.Outcome.{refuse, allowed, stepRow, freeState}
+use Rattle.model.specs.Outcome.{allowed, stepRow, freeState}
 use Rattle.model.specs.Step.{readStart, stepSite, stepReads, stepStart, stepCache, stepPlan, jobLimit, notReady, stepCause}
+use Rattle.model.proofs.Outcomes.{no-cause, no-lack, allowed-used}
 use Rattle.model.proofs.Cuts.{lacking-iff, fetched-held}
-
--- A row of the refusal table that is passed: its cause doesn't hold, and the rows below are left.
-pub no-cause : (b : Bool) (n rest : ℕ) → 0 < n → refuse b n rest ≡ 0 → (b ≡ false) × (rest ≡ 0)
-unfolding refuse
-no-cause true n rest l e = absurd (omega arith)
-no-cause false n rest l e = (refl, e)
-
--- The same where the cause is that something fails.
-pub no-lack : (b : Bool) (n rest : ℕ) → 0 < n → refuse (not b) n rest ≡ 0 → So b × (rest ≡ 0)
-unfolding refuse
-no-lack true n rest l e = (refl, e)
-no-lack false n rest l e = absurd (omega arith)
 
 -- Every row of step is passed.
 pub record Accepted (s : Store) (r j : ℕ) : Type 0 where
@@ -39,16 +28,20 @@ pub record Accepted (s : Store) (r j : ℕ) : Type 0 where
   pub fetchable : unfetchable (versions (s .counts .writers)) (s .counts .keys) (s .master)
       (stepStart s r j) ≡ false
 
--- A run that isn't free: its jobs are the limit.
-pub step-used : (n : ℕ) → So (allowed stepRow n) → eqb n freeState ≡ false
+step-used : (n : ℕ) → So (allowed stepRow n) → 1 ≤ n
 unfolding allowed
-step-used n p =
-    test (eqb n freeState) (λ y. clash p (ap (allowed stepRow) (eqb-eq n freeState y))) (λ f. f)
+step-used n p = allowed-used stepRow n refl p
 
+pub accepted-used : {s : Store} {r j : ℕ} → Accepted s r j → 1 ≤ s .run r .state
+accepted-used {s} {r} a = step-used (s .run r .state) (a .open-run)
+
+-- In a run that isn't free its jobs are the limit.
 job-limit : (s : Store) (r j : ℕ) → So (allowed stepRow (s .run r .state))
     → jobLimit s r j ≡ s .run r .jobs
 unfolding jobLimit
-job-limit s r j p = rw (step-used (s .run r .state) p)
+job-limit s r j p =
+    let l = step-used (s .run r .state) p in
+    rw (ne-eqb (s .run r .state) freeState (λ e. absurd (omega arith)))
 
 pub accepted : (s : Store) (r j : ℕ) → stepCause s r j ≡ 0 → Accepted s r j
 unfolding stepCause
