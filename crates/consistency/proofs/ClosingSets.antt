@@ -12,12 +12,11 @@ use Rattle.words.proofs.Bools.{test, clash, and-intro, or-left, or-right, or-ca
 use Rattle.reach.proofs.Closures.{closure-closed}
 use Rattle.model.specs.Algebra.{Place, everything, lacking}
 use Rattle.model.specs.Sets.{drawSet, fetchSet, fetched, evictSet, evicted, pullSet, pulled}
-use Rattle.model.proofs.Cuts.{drawSet-closed, fetched-in, fetched-out}
+use Rattle.model.proofs.Draws.{drawSet-closed, fetched-in, fetched-out, evicted-in, evicted-out, pullSet-plan, pulled-in, pulled-out}
 use Rattle.history.specs.History.{History, saved, inPast}
 use Rattle.history.specs.Copies.{Copy, copies, heldCopy, needsCopy, union}
 use Rattle.history.proofs.Notions.{ClosedIn, ClosedAll}
 use Rattle.history.proofs.Reached.{reaches-intro, copy-held, copy-needs, copy-meets}
-use Rattle.consistency.proofs.Members.{evicted-in, evicted-out, pulled-in, pulled-out, pullSet-plan}
 use Rattle.consistency.proofs.Closing.{PartOf}
 
 -- ---- T and C: what a member of the set needs

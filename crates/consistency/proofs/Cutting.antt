@@ -10,7 +10,7 @@ use Rattle.model.specs.Version.{versions}
 use Rattle.model.specs.Store.{Store, planned}
 use Rattle.model.specs.Step.{stepPlan, stepCache}
 use Rattle.model.proofs.Steps.{Accepted}
-use Rattle.layout.proofs.Stepping.{plan}
+use Rattle.layout.proofs.KeptStep.{was}
 use Rattle.layout.proofs.Follow.{Fine}
 use Rattle.history.specs.Book.{Book}
 use Rattle.consistency.specs.Claim.{BreakExact}
@@ -45,7 +45,7 @@ module _ {s : Store} {b : Book} (F : Follows s b) where
     cut = causalCut-same (now-simulates F) (stepCache s r j) (copyCache s b r j)
         (stepCache-related fine F a)
         ∙ closed-causal (stepCache-closed fine F a);
-    on-snapshot = plan s r j fine a .snapshot .has;
+    on-snapshot = was s r j fine a .snapshot .has;
   }
 
   pub breaks : Fine s → (r j : ℕ) → BreakExact s r j

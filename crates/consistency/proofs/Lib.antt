@@ -1,6 +1,5 @@
 pub mod Simulation
 pub mod SimulationPrepare
-pub mod Members
 pub mod Closing
 pub mod ClosingSets
 pub mod ClosingPrepare

@@ -8,18 +8,17 @@ use Prim.Native.Nat.{ℕ, _<_}
 use Rattle.words.specs.Tests.{Items}
 use Rattle.words.specs.Lists.{putAt}
 use Rattle.model.specs.Algebra.{Place}
-use Rattle.model.specs.Version.{versions}
 use Rattle.model.specs.Sets.{fetched, pullSet, pulled}
 use Rattle.model.specs.Store.{Store}
 use Rattle.model.specs.Step.{readStart, stepSite, stepReads, stepStart, stepCache, stepPlan, stepPull, stepSnapshot}
+use Rattle.model.proofs.Draws.{pulled-out}
 use Rattle.model.proofs.Steps.{Accepted, step-planned}
-use Rattle.layout.proofs.Stepping.{site}
+use Rattle.layout.proofs.KeptStep.{site}
 use Rattle.layout.proofs.Follow.{Fine}
 use Rattle.history.specs.Copies.{Copy, copies}
 use Rattle.history.specs.Book.{Book, BookRun, bookStepJob, withBookRun, withBookCaches}
 use Rattle.history.proofs.Notions.{ClosedIn, ClosedAll}
 use Rattle.consistency.proofs.Simulation.{Agree, Related, readStart-same, fetched-rel, pullSet-same, pulled-rel}
-use Rattle.consistency.proofs.Members.{pulled-out}
 use Rattle.consistency.proofs.ClosingSets.{fetched-closed, pulled-closed}
 use Rattle.consistency.proofs.Counting.{CountedAs}
 use Rattle.consistency.proofs.Invariant.{Follows}
@@ -121,14 +120,7 @@ module _ {s : Store} {b : Book} {r j : ℕ} (fine : Fine s) (F : Follows s b)
       (copyCache s b r j) (stepReads s r j) (snapshot-closed F r (a .run-in)) stepCache-closed
       (λ k _. step-planned s r j k (a .job-in))
 
-  -- Outside of C both snapshots are as they were.
-  pub stepSnapshot-out : (k : ℕ) → stepPull s r j k ≡ false
-      → stepSnapshot s r j k ≡ s .run r .snapshot k
-  unfolding stepSnapshot stepPull
-  stepSnapshot-out =
-      pulled-out (versions (s .counts .writers)) (s .counts .keys) (stepPlan s r j)
-      (s .run r .snapshot) (stepCache s r j) (stepReads s r j)
-
+  -- Outside of C the book's too is as it was.
   pub copySnapshot-out : (k : ℕ) → k < s .counts .keys → stepPull s r j k ≡ false
       → copySnapshot s b r j k ≡ b .run r .snapshot k
   unfolding copySnapshot copyPull

@@ -2,13 +2,13 @@
 -- Valid: a valid job. Plan: the form of a run that isn't free, as a record; plan-out, plan-in.
 -- Assumes nothing.
 use mathlib.Core.Path.{_≡_, refl}
-use mathlib.Core.Bool.{Bool, true, false, cond, not, So, _&&_}
+use mathlib.Core.Bool.{Bool, cond, not, So, _&&_}
 use mathlib.Core.Logic.{⊎-elim}
 use Prim.Native.Nat.{ℕ, _≤_, _<_, _^_}
 use native.Mathlib.Omega.{arith}
 use lib.Dec.{eqb, leb, ltb}
 use Rattle.words.specs.Tests.{allBelow}
-use Rattle.words.proofs.Bools.{clash, and-intro, and-left, and-right, leb-le, le-leb, ltb-lt, lt-ltb, ge-ltb, eqb-eq, eq-eqb, ne-eqb}
+use Rattle.words.proofs.Bools.{and-intro, and-left, and-right, leb-le, le-leb, ltb-lt, lt-ltb, ge-ltb, eqb-eq, eq-eqb, ne-eqb}
 use Rattle.words.proofs.Tests.{below-or-not, all-intro, all-at}
 use Rattle.masks.specs.Mask.{testBit, maskBelow}
 use Rattle.sizes.specs.declared.Counts.{Counts}
@@ -18,17 +18,8 @@ use Rattle.model.specs.Algebra.{Place, implies}
 use Rattle.model.specs.Version.{Version, unheld, held}
 use Rattle.model.specs.Store.{Job, Run, freeRun, noJob, planned, doneReads}
 use Rattle.model.specs.Form.{validJob, zeroJob, zeroRows, placeFormed, freeFormed, jobsFormed, masksFormed, snapshotFormed, runFormed}
+use Rattle.model.proofs.Cuts.{implies-in, implies-out}
 use Rattle.layout.proofs.Formed.{PlaceFormed, place-out, place-in, zero-rows}
-
--- ---- a test that asks for another
-
-implies-out : (a b : Bool) → So (implies a b) → So a → So b
-implies-out true b p q = p
-implies-out false b p q = clash q refl
-
-implies-in : (a b : Bool) → (So a → So b) → So (implies a b)
-implies-in true b f = f refl
-implies-in false b f = refl
 
 -- ---- jobs
 

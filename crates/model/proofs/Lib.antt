@@ -5,5 +5,6 @@ pub mod Computed
 pub mod Merges
 pub mod Needs
 pub mod Cuts
+pub mod Draws
 pub mod Pulls
 pub mod Steps

@@ -7,7 +7,7 @@ use mathlib.Core.Bool.{Bool, true, false, _||_, So}
 use mathlib.Core.Logic.{_⊎_, inl, inr, _↔_}
 use Prim.Native.Nat.{ℕ, _≤_, max}
 use native.Mathlib.Omega.{arith}
-use Rattle.words.proofs.Bools.{test, clash, leb-le, le-leb, leb-gt}
+use Rattle.words.proofs.Bools.{test, clash, or-left, or-right, leb-le, le-leb, leb-gt}
 use Rattle.clock.specs.Clock.{Clock, Dominates, present, join}
 use Rattle.clock.proofs.Order.{dominates-refl, join-left, join-right, join-least, join-comm, join-assoc, join-idem, join-present}
 use Rattle.model.specs.Version.{Version, unheld, held, larger, merge}
@@ -78,6 +78,12 @@ held-merge a b =
     (λ p q. rw (larger-left a b p, p))
     (λ p n. rw p)
     (λ n. rw n)
+
+pub merge-held-left : (a b : Version) → So (held a) → So (held (merge a b))
+merge-held-left a b p = held-merge a b ∙ or-left (held b) p
+
+pub merge-held-right : (a b : Version) → So (held b) → So (held (merge a b))
+merge-held-right a b p = held-merge a b ∙ or-right (held a) p
 
 pub merge-issue : (a b : Version) → merge a b .issue ≡ max (a .issue) (b .issue)
 unfolding larger

@@ -1,23 +1,28 @@
 -- A step that is not refused.
 -- Accepted: what it has passed. accepted-used: its run isn't free.
--- step-planned, step-cached: where the reads of such a step are.
+-- step-planned, step-cached: where the reads of such a step are. stepSnapshot-..: the snapshot
+-- after it. steppedRun: its run.
 -- Assumes nothing.
 use mathlib.Core.Path.{_≡_, refl}
 use mathlib.Core.Bool.{false, So}
 use mathlib.Core.Logic.{inl, inr}
 use Prim.Native.Nat.{ℕ, _≤_, _<_}
 use native.Mathlib.Omega.{arith}
+use lib.Bits.{bitOr}
 use lib.Dec.{leb}
+use Rattle.words.specs.Tests.{Within}
 use Rattle.words.proofs.Bools.{test, leb-gt, ne-eqb}
 use Rattle.words.proofs.Tests.{any-intro}
-use Rattle.model.specs.Algebra.{lacking}
+use Rattle.masks.specs.Mask.{withBit}
+use Rattle.model.specs.Algebra.{causalCut, overlappingCut, lacking}
 use Rattle.model.specs.Version.{held, versions}
 use Rattle.model.specs.Sets.{unfetchable}
-use Rattle.model.specs.Store.{Store, planned}
+use Rattle.model.specs.Store.{Run, Store, planned, withJobDone}
 use Rattle.model.specs.Outcome.{allowed, stepRow, freeState}
-use Rattle.model.specs.Step.{readStart, stepSite, stepReads, stepStart, stepCache, stepPlan, jobLimit, notReady, stepCause}
+use Rattle.model.specs.Step.{readStart, stepSite, stepReads, stepStart, stepCache, stepPlan, stepPull, stepSnapshot, jobLimit, notReady, stepCause}
 use Rattle.model.proofs.Outcomes.{no-cause, no-lack, allowed-used}
-use Rattle.model.proofs.Cuts.{lacking-iff, fetched-held}
+use Rattle.model.proofs.Draws.{lacking-iff, fetched-held, pulled-out}
+use Rattle.model.proofs.Pulls.{pulled-held, pulled-keeps, pulled-planned, pulled-overlap}
 
 -- Every row of step is passed.
 pub record Accepted (s : Store) (r j : ℕ) : Type 0 where
@@ -78,3 +83,59 @@ step-cached s r j k a l p n =
     fetched-held alg K (s .master) cache (stepStart s r j) (a .fetchable) k l
     (test (held (cache k)) (λ y. inr y)
     (λ m. inl (lacking-iff alg K cache (lacking alg K snapshot (stepReads s r j)) k .1 (gone, m))))
+
+-- ---- the snapshot after it
+
+module _ (s : Store) (r j : ℕ) where
+  -- Outside of C it is as it was.
+  pub stepSnapshot-out : (k : ℕ) → stepPull s r j k ≡ false
+      → stepSnapshot s r j k ≡ s .run r .snapshot k
+  unfolding stepSnapshot stepPull
+  stepSnapshot-out =
+      pulled-out (versions (s .counts .writers)) (s .counts .keys) (stepPlan s r j)
+      (s .run r .snapshot) (stepCache s r j) (stepReads s r j)
+
+  -- It holds what it held, and all that the job reads,
+  pub stepSnapshot-keeps : (k : ℕ) → So (held (s .run r .snapshot k))
+      → So (held (stepSnapshot s r j k))
+  unfolding stepSnapshot
+  stepSnapshot-keeps =
+      pulled-keeps (s .counts .writers) (s .counts .keys) (stepPlan s r j) (s .run r .snapshot)
+      (stepCache s r j) (stepReads s r j)
+
+  module _ (a : Accepted s r j) where
+    pub stepSnapshot-held : (k : ℕ) → k < s .counts .keys → So (stepReads s r j k)
+        → So (held (stepSnapshot s r j k))
+    unfolding stepSnapshot
+    stepSnapshot-held k l p =
+        pulled-held (s .counts .writers) (s .counts .keys) (stepPlan s r j) (s .run r .snapshot)
+        (stepCache s r j) (stepReads s r j) k p (step-cached s r j k a l p)
+
+    -- only keys of the plan, if that was so,
+    pub stepSnapshot-planned :
+        Within (s .counts .keys) (λ k. held (s .run r .snapshot k)) (stepPlan s r j)
+        → Within (s .counts .keys) (λ k. held (stepSnapshot s r j k)) (stepPlan s r j)
+    unfolding stepSnapshot
+    stepSnapshot-planned =
+        pulled-planned (s .counts .writers) (s .counts .keys) (stepPlan s r j)
+        (s .run r .snapshot) (stepCache s r j) (stepReads s r j)
+        (λ k _. step-planned s r j k (a .job-in))
+
+    -- and is still a cut for the plan.
+    pub stepSnapshot-overlaps :
+        So (overlappingCut (versions (s .counts .writers)) (s .counts .keys) (stepPlan s r j)
+        (s .run r .snapshot))
+        → So (causalCut (versions (s .counts .writers)) (s .counts .keys) (stepCache s r j))
+        → So (overlappingCut (versions (s .counts .writers)) (s .counts .keys) (stepPlan s r j)
+        (stepSnapshot s r j))
+    unfolding stepSnapshot
+    stepSnapshot-overlaps o c =
+        pulled-overlap (s .counts .writers) (s .counts .keys) (stepPlan s r j)
+        (s .run r .snapshot) (stepCache s r j) (stepReads s r j) o c
+        (λ k _. step-planned s r j k (a .job-in))
+
+-- The run after it.
+abbrev pub steppedRun : Store → ℕ → ℕ → Run
+steppedRun s r j =
+    withJobDone (s .run r) (withBit (s .run r .done) j)
+    (bitOr (s .run r .read) (s .run r .job j .reads)) (stepSnapshot s r j)
