@@ -16,8 +16,8 @@ use Rattle.sizes.specs.Bounds.{maxJobs}
 use Rattle.sizes.specs.declared.Counts.{Counts}
 use Rattle.model.specs.Store.{Run, Store, planned}
 use Rattle.model.specs.Version.{held}
-use Rattle.model.specs.Form.{zeroRows, zeroJob, freeFormed, runFormed, wellFormed}
-use Rattle.history.specs.History.{History, HappensBefore}
+use Rattle.model.specs.Form.{zeroRows, zeroJob, freeFormed, runFormed}
+use Rattle.history.specs.History.{History}
 use Rattle.history.specs.Book.{Book, BookRun}
 use Rattle.history.proofs.Notions.{Sound}
 use Rattle.history.proofs.Behind.{before-past}
@@ -26,7 +26,7 @@ use Rattle.layout.proofs.Formed.{well-out}
 use Rattle.layout.proofs.Plans.{plan-out}
 use Rattle.consistency.specs.Trace.{ReadSet}
 use Rattle.consistency.specs.Claim.{Snapshot, Among}
-use Rattle.consistency.proofs.Invariant.{RunFollows, Follows, ReadAs, Inv}
+use Rattle.consistency.proofs.Invariant.{RunFollows, ReadAs, Inv}
 
 -- A free run has read nothing.
 free-read : (z : Counts) (a : Run) → So (freeFormed z a) → a .read ≡ 0

@@ -2,23 +2,19 @@
 -- At: such a point. start-at, advance-at, follow-at. The calls' own part comes in as CallsMove.
 -- Assumes nothing.
 use mathlib.Core.Path.{_≡_, refl, sym, ap, _∙_}
-use mathlib.Core.Bool.{So, true, false, cond, false≢true}
+use mathlib.Core.Bool.{So, false≢true}
 use mathlib.Core.Logic.{_≢_}
 use mathlib.Core.List.{List, [], _∷_}
-use Prim.Native.Nat.{ℕ, _<_}
+use Prim.Native.Nat.{ℕ}
 use native.Mathlib.Decide.{ℕ-discrete}
-use lib.Dec.{eqb}
-use lib.ListN.{length}
 use Rattle.words.specs.Tests.{anyBelow}
 use Rattle.words.specs.Numbers.{countBelow}
-use Rattle.words.proofs.Bools.{eqb-eq, ne-eqb}
-use Rattle.masks.specs.Mask.{testBit}
 use Rattle.masks.proofs.Bits.{test-none}
 use Rattle.sizes.specs.Bounds.{countsOf, totalOf}
 use Rattle.sizes.specs.declared.Counts.{Counts}
 use Rattle.model.specs.Version.{Version, zeroPast}
-use Rattle.model.specs.Store.{Store, fresh, freeRun, noJobs}
-use Rattle.model.specs.Outcome.{Outcome, refused, broken, done, unless}
+use Rattle.model.specs.Store.{Store, fresh, freeRun}
+use Rattle.model.specs.Outcome.{Outcome, refused, broken, done}
 use Rattle.model.specs.Calls.{StoreCall, ruleOf}
 use Rattle.model.proofs.Outcomes.{nextStore, unless-done, unless-refused}
 use Rattle.layout.specs.Reading.{storeOf}
@@ -26,17 +22,16 @@ use Rattle.layout.specs.Buffer.{written}
 use Rattle.layout.specs.Calls.{Call, new, on, newCause, newOn, callOn, leaves, isOk}
 use Rattle.layout.proofs.Whole.{store-back}
 use Rattle.layout.proofs.Follow.{Fine, fine-rule, fine-leaves}
-use Rattle.layout.proofs.Kept.{Kept}
 use Rattle.layout.proofs.Rules.{rule-kept, new-fine}
 use Rattle.history.specs.History.{saved}
 use Rattle.history.specs.Copies.{heldCopy, byWriter, counted}
-use Rattle.history.specs.Book.{Book, freshBook, noRun, bookRule, bookOk, bookStep}
+use Rattle.history.specs.Book.{Book, freshBook, noRun, bookOk, bookStep}
 use Rattle.history.proofs.Behind.{sound-empty}
 use Rattle.history.proofs.Counted.{counted-none, counted-unheld}
 use Rattle.consistency.specs.Trace.{ReadSet, Trace, start, finish, advance, follow}
 use Rattle.consistency.specs.Claim.{Among}
 use Rattle.consistency.proofs.Closing.{empty-closed}
-use Rattle.consistency.proofs.Invariant.{RunFollows, Follows, Inv, Moves}
+use Rattle.consistency.proofs.Invariant.{RunFollows, Inv, Moves}
 
 -- What each call's own proof gives.
 abbrev pub CallsMove : Type 0
