@@ -18,7 +18,7 @@ use Rattle.consistency.proofs.Simulation.{causalCut-same, overlappingCu
 use Rattle.consistency.proofs.Closing.{closed-causal, closed-overlapping}
 use Rattle.consistency.proofs.Breaks.{Ready, breaks-exact}
 use Rattle.consistency.proofs.Invariant.{Follows}
-use Rattle.consistency.proofs.Shared.{now-simulates, cache-related, snapshot-related, snapshot-closed}
+use Rattle.consistency.proofs.Following.{now-simulates, cache-related, snapshot-related, snapshot-closed}
 use Rattle.consistency.proofs.Stepped.{copyCache, stepCache-related, stepCache-closed}
 
 module _ {s : Store} {b : Book} (F : Follows s b) where

@@ -6,7 +6,8 @@ pub mod ClosingPrepare
 pub mod Counting
 pub mod Breaks
 pub mod Invariant
-pub mod Shared
+pub mod Following
+pub mod Changing
 pub mod MovesCaches
 pub mod MovesRuns
 pub mod Issuing

@@ -29,7 +29,8 @@ use Rattle.history.proofs.Entered.{writer-past, other-past}
 use Rattle.consistency.specs.Trace.{ReadSet, finish}
 use Rattle.consistency.proofs.Closing.{closed-grow}
 use Rattle.consistency.proofs.Invariant.{WriterFollows, Follows, Inv, Moves}
-use Rattle.consistency.proofs.Shared.{unless-moves, free-follows, follows-run, nothing-read, inv-next, inv-anew}
+use Rattle.consistency.proofs.Following.{free-follows, follows-run}
+use Rattle.consistency.proofs.Changing.{unless-moves, nothing-read, inv-next, inv-anew}
 use Rattle.consistency.proofs.Issuing.{place-grow, run-grow, issuedCopies, issued-every, issued-writes, newPast-entered, issuedMaster-counted}
 
 -- ---- store and book with the new issue, the run not yet freed

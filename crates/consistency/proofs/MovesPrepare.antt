@@ -23,7 +23,8 @@ use Rattle.consistency.proofs.SimulationPrepare.{SitesBelow, RelatedSit
 use Rattle.consistency.proofs.ClosingPrepare.{CutsWithin, sitesMerged-closed, preparedCaches-cuts}
 use Rattle.consistency.proofs.Counting.{CountedAs}
 use Rattle.consistency.proofs.Invariant.{RunFollows, Follows, Inv, Moves}
-use Rattle.consistency.proofs.Shared.{unless-moves, now-simulates, master-closed, master-related, cache-related, cache-part, HasRead, inv-caches, inv-run}
+use Rattle.consistency.proofs.Following.{now-simulates, master-closed, master-related, cache-related, cache-part}
+use Rattle.consistency.proofs.Changing.{unless-moves, HasRead, inv-caches, inv-run}
 
 -- ---- the book's caches and run r after prepare, with the store's counts and jobs
 

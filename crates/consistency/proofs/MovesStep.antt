@@ -1,17 +1,16 @@
 -- A step keeps the invariant of store, book and reads: step-moves.
 -- inv-state: where it breaks its run. done-moves: where it is done.
 -- Assumes nothing.
-use mathlib.Core.Path.{_≡_, refl, sym, ap, _∙_, fun-ext}
+use mathlib.Core.Path.{_≡_, refl, sym, ap, _∙_}
 use mathlib.Core.Bool.{Bool, false, So, _||_}
 use mathlib.Core.Logic.{inl, inr}
 use mathlib.Core.List.{List, _∷_}
 use Prim.Native.Nat.{ℕ, _<_}
-use native.Mathlib.Decide.{ℕ-discrete}
 use Rattle.words.specs.Tests.{anyBelow}
 use Rattle.words.specs.Lists.{putAt}
 use Rattle.words.proofs.Bools.{test, clash, and-cases, or-left, or-right, or-cases}
 use Rattle.words.proofs.Tests.{any-none}
-use Rattle.words.proofs.Lists.{putAt-same, putAt-other}
+use Rattle.words.proofs.Lists.{putAt-same, putAt-other, putAt-itself}
 use Rattle.masks.specs.Mask.{testBit}
 use Rattle.masks.proofs.Bits.{test-or, test-low}
 use Rattle.model.specs.Store.{Store, withSites, withCache, withRun, withState, withJobDone}
@@ -25,7 +24,7 @@ use Rattle.history.specs.Book.{Book, BookRun, bookRule, withBookRun, withBookCa
 use Rattle.consistency.specs.Trace.{ReadSet, readNow, finish}
 use Rattle.consistency.specs.Claim.{first, later}
 use Rattle.consistency.proofs.Invariant.{RunFollows, ReadAs, Inv, Moves}
-use Rattle.consistency.proofs.Shared.{unless-moves, HasRead, inv-cache, inv-run}
+use Rattle.consistency.proofs.Changing.{unless-moves, HasRead, inv-cache, inv-run}
 use Rattle.consistency.proofs.Stepped.{copyCache, copyRun, book-step, stepCache-related, stepCache-closed, stepSnapshot-related, stepSnapshot-closed, copySnapshot-out}
 
 -- ---- a step that breaks its run
@@ -40,10 +39,7 @@ same-book b r =
       master = b .master;
       cache = b .cache;
       run = f;
-    }) (fun-ext (λ q. elim (ℕ-discrete q r) [
-      | yes e ↦ rw (e, putAt-same (b .run) r (b .run r))
-      | no e ↦ putAt-other (b .run) r (b .run r) q e
-    ]))
+    }) (putAt-itself (b .run) r)
 
 -- Only the state of a run is changed.
 inv-state : {s : Store} {b : Book} {f : ℕ → List ReadSet} → Inv s b f → (r n : ℕ)

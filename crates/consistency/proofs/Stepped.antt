@@ -22,7 +22,7 @@ use Rattle.consistency.proofs.Simulation.{Agree, Related, readStart-sam
 use Rattle.consistency.proofs.ClosingSets.{fetched-closed, pulled-closed}
 use Rattle.consistency.proofs.Counting.{CountedAs}
 use Rattle.consistency.proofs.Invariant.{Follows}
-use Rattle.consistency.proofs.Shared.{now-simulates, master-closed, master-related, cache-related, cache-part, snapshot-related, snapshot-closed}
+use Rattle.consistency.proofs.Following.{now-simulates, master-closed, master-related, cache-related, cache-part, snapshot-related, snapshot-closed}
 
 -- ---- the book's run r and its cache after job j, with the store's counts and jobs
 

@@ -6,10 +6,9 @@ use mathlib.Core.Bool.{Bool, true, false, cond}
 use mathlib.Core.Logic.{_⊎_, inl, inr, ⊎-elim}
 use Prim.Native.Nat.{ℕ, _≤_, _<_}
 use native.Mathlib.Omega.{arith}
-use native.Mathlib.Decide.{ℕ-discrete}
 use Rattle.words.specs.Lists.{putAt}
 use Rattle.words.proofs.Tests.{below-or-not}
-use Rattle.words.proofs.Lists.{putAt-same, putAt-other}
+use Rattle.words.proofs.Lists.{putAt-other, putAt-cases}
 use Rattle.clock.specs.Clock.{Clock, join}
 use Rattle.sizes.specs.declared.Counts.{Counts}
 use Rattle.model.specs.Algebra.{Place}
@@ -56,10 +55,7 @@ fresh-fits z = record {
 pub fit-put : {A : Type 0} {n : ℕ} {x : A} {Fit : A → Type 0} (f : ℕ → A) (i : ℕ) (a : A)
     → FitMany n x Fit f → i < n → Fit a → FitMany n x Fit (putAt f i a)
 fit-put {A} {n} {x} {Fit} f i a F h G = record {
-  each = λ j k. elim (ℕ-discrete j i) [
-    | yes e ↦ rw (e, putAt-same f i a) G
-    | no e ↦ rw (putAt-other f i a j e) (F .each j k)
-  ];
+  each = λ j k. putAt-cases Fit f i a j (λ _. G) (λ _. F .each j k);
   rest = λ j k. putAt-other f i a j (λ e. omega arith) ∙ F .rest j k;
 }
 

@@ -5,13 +5,12 @@
 use mathlib.Core.Path.{_≡_, refl}
 use mathlib.Core.Bool.{Bool, false, cond, not, So, _&&_}
 use Prim.Native.Nat.{ℕ, _<_}
-use native.Mathlib.Decide.{ℕ-discrete}
 use lib.Dec.{leb}
 use Rattle.words.specs.Tests.{allBelow}
 use Rattle.words.specs.Lists.{putAt}
 use Rattle.words.proofs.Bools.{test, and-intro, and-left, and-right, not-intro}
 use Rattle.words.proofs.Tests.{all-intro, all-at, any-no}
-use Rattle.words.proofs.Lists.{putAt-same, putAt-other}
+use Rattle.words.proofs.Lists.{putAt-cases}
 use Rattle.clock.specs.Clock.{present}
 use Rattle.clock.proofs.Order.{present-mono}
 use Rattle.sizes.specs.declared.Counts.{Counts}
@@ -116,15 +115,6 @@ well-in s F =
     (λ o h. place-in z (s .site o .cache) (F .cache o h)))
     (all-intro (z .runs) (λ r. runFormed z (s .run r)) (F .run)))
 
--- A changed function, where what stood there and what is put there is as asked.
-pub at-put : {A : Type 0} (P : A → Type 0) (n : ℕ) (f : ℕ → A) (i : ℕ) (a : A)
-    → ((j : ℕ) → j < n → P (f j)) → P a → (j : ℕ) → j < n → P (putAt f i a j)
-at-put P n f i a F G j h =
-    elim (ℕ-discrete j i) [
-      | yes e ↦ rw (e, putAt-same f i a) G
-      | no e ↦ rw (putAt-other f i a j e) (F j h)
-    ]
-
 module _ (s : Store) (F : Formed s) where
   pub formed-last : (n : ℕ) → Formed (withLast s n)
   unfolding withLast
@@ -146,8 +136,9 @@ module _ (s : Store) (F : Formed s) where
   formed-cache o p G =
       let z = s .counts in
       let x : Site = record { cache = p } in
-      formed-sites (putAt (s .site) o x)
-      (at-put (λ (x : Site). PlaceFormed z (x .cache)) (z .sites) (s .site) o x (F .cache) G)
+      formed-sites (putAt (s .site) o x) (λ i h.
+      putAt-cases (λ (x : Site). PlaceFormed z (x .cache)) (s .site) o x i (λ _. G)
+      (λ _. F .cache i h))
 
   pub formed-writer : (w : ℕ) (x : Writer) → Formed (withWriter s w x)
   unfolding withWriter
@@ -160,5 +151,7 @@ module _ (s : Store) (F : Formed s) where
       record {
         master = F .master;
         cache = F .cache;
-        run = at-put (λ (x : Run). So (runFormed z x)) (z .runs) (s .run) r x (F .run) G;
+        run = λ i h.
+            putAt-cases (λ (x : Run). So (runFormed z x)) (s .run) r x i (λ _. G)
+            (λ _. F .run i h);
       }
