@@ -21,11 +21,11 @@ use Rattle.model.specs.Store.{Store, noJob, withRun}
 use Rattle.model.specs.Form.{validJob, runFormed}
 use Rattle.model.specs.Runs.{listedJob, listedCount, listedJobs, listValid, openCause, openedRun, openDone, openRule}
 use Rattle.model.proofs.Outcomes.{no-cause, no-lack}
+use Rattle.model.proofs.DoneReads.{none-read}
 use Rattle.layout.proofs.Parts.{FitRun}
 use Rattle.layout.proofs.Fit.{fit-empty, fit-run}
 use Rattle.layout.proofs.Formed.{formed-empty, well-out, formed-run}
 use Rattle.layout.proofs.Plans.{zero-job, plan-in}
-use Rattle.layout.proofs.DoneReads.{none-read}
 use Rattle.layout.proofs.Follow.{Fine}
 use Rattle.layout.proofs.Kept.{Kept, kept-done, kept-unless}
 

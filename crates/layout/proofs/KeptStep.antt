@@ -21,11 +21,11 @@ use Rattle.model.specs.Outcome.{brokenState}
 use Rattle.model.specs.Step.{stepSite, stepReads, stepStart, stepCache, stepPlan, stepSnapshot, stepMoved, stepCause, stepBroken, stepDone, stepRule}
 use Rattle.model.proofs.Draws.{pulled-cases}
 use Rattle.model.proofs.Steps.{Accepted, accepted, accepted-used, stepSnapshot-keeps, stepSnapshot-held, stepSnapshot-planned, steppedRun}
+use Rattle.model.proofs.DoneReads.{read-mask}
 use Rattle.layout.proofs.Parts.{FitPlace, FitRun}
 use Rattle.layout.proofs.Fit.{fit-choice, fit-merged, fit-cache, fit-run}
 use Rattle.layout.proofs.Formed.{VersionFormed, version-merge, PlaceFormed, Formed, well-out, formed-cache, formed-run}
 use Rattle.layout.proofs.Plans.{Valid, valid-out, Plan, plan-out, plan-in}
-use Rattle.layout.proofs.DoneReads.{read-mask}
 use Rattle.layout.proofs.Follow.{Fine}
 use Rattle.layout.proofs.Kept.{Kept, kept-done, kept-broken, kept-unless, fetched-fits, fetched-formed}
 

@@ -10,7 +10,6 @@ pub mod Merges
 pub mod Readings
 pub mod Formed
 pub mod Plans
-pub mod DoneReads
 pub mod Follow
 pub mod Kept
 pub mod KeptOpen

@@ -8,3 +8,4 @@ pub mod Cuts
 pub mod Draws
 pub mod Pulls
 pub mod Steps
+pub mod DoneReads
