@@ -23,7 +23,7 @@ use Rattle.history.specs.History.{saved}
 use Rattle.history.specs.Copies.{Copy, heldCopy, byWriter, counted}
 use Rattle.history.specs.Book.{BookRun, Book, freshBook, withBookCaches, withBookRun}
 use Rattle.history.proofs.Notions.{ClosedAll}
-use Rattle.history.proofs.Behind.{sound-empty}
+use Rattle.history.proofs.Sounds.{sound-empty}
 use Rattle.history.proofs.Counted.{counted-none, counted-unheld}
 use Rattle.consistency.specs.Trace.{ReadSet}
 use Rattle.consistency.specs.Claim.{Counted, Among}

@@ -23,7 +23,7 @@ use Rattle.layout.proofs.Follow.{Fine}
 use Rattle.history.specs.Book.{Book, noRun, withBookRun, entry, bookIssue, bookIssued, bookRule}
 use Rattle.history.proofs.Notions.{Sound}
 use Rattle.history.proofs.Past.{past-laws}
-use Rattle.history.proofs.Behind.{sound-issue}
+use Rattle.history.proofs.Sounds.{sound-issue}
 use Rattle.history.proofs.Grown.{writer-count, other-count}
 use Rattle.history.proofs.Entered.{writer-past, other-past}
 use Rattle.consistency.specs.Trace.{ReadSet, finish}

@@ -22,7 +22,7 @@ use Rattle.model.specs.Outcome.{allowed, prepareRow}
 use Rattle.model.specs.Prepare.{jobStart, fetchReads, preparedCaches, usesSite, sitesMerged, siteCaches, prepareCause, prepareCaches, prepareSnapshot, prepareDone, prepareRule}
 use Rattle.model.proofs.Merges.{merge-idem}
 use Rattle.model.proofs.Outcomes.{no-cause, no-lack, allowed-used}
-use Rattle.model.proofs.DoneReads.{none-read}
+use Rattle.model.proofs.DoneReads.{doneReads-none}
 use Rattle.layout.proofs.Codec.{FitMany}
 use Rattle.layout.proofs.Parts.{FitVersion, FitPlace, FitSites, FitRun}
 use Rattle.layout.proofs.Fit.{fit-unheld, fit-put, fit-merge, fit-sites, fit-run}
@@ -163,7 +163,7 @@ module _ (s : Store) (r : ℕ) (F : Fine s) (A : Accepted s r) where
       let a = s .run r in
       let K = s .counts .keys in
       let e : a .read ≡ 0 =
-      was .masks .reads ∙ rw (A .done) (none-read K (a .jobs) (a .job)) in
+      was .masks .reads ∙ rw (A .done) (doneReads-none K (a .jobs) (a .job)) in
       rw e (test-none k)
 
   after : Run

@@ -21,7 +21,7 @@ use Rattle.model.specs.Outcome.{brokenState}
 use Rattle.model.specs.Step.{stepSite, stepReads, stepStart, stepCache, stepPlan, stepSnapshot, stepMoved, stepCause, stepBroken, stepDone, stepRule}
 use Rattle.model.proofs.Draws.{pulled-cases}
 use Rattle.model.proofs.Steps.{Accepted, accepted, accepted-used, stepSnapshot-keeps, stepSnapshot-held, stepSnapshot-planned, steppedRun}
-use Rattle.model.proofs.DoneReads.{read-mask}
+use Rattle.model.proofs.DoneReads.{doneReads-mask}
 use Rattle.layout.proofs.Parts.{FitPlace, FitRun}
 use Rattle.layout.proofs.Fit.{fit-choice, fit-merged, fit-cache, fit-run}
 use Rattle.layout.proofs.Formed.{VersionFormed, version-merge, PlaceFormed, Formed, well-out, formed-cache, formed-run}
@@ -113,7 +113,7 @@ module _ (s : Store) (r j : ℕ) (F : Fine s) (A : Accepted s r j) where
         masks = record {
           low = with-lt (a .done) j (a .jobs) (was .masks .low) (A .job-in);
           reads = ap (λ (m : ℕ). bitOr m (a .job j .reads)) (was .masks .reads)
-              ∙ read-mask (z .keys) (a .jobs) (a .job) (a .done) j (A .job-in) (valid .reads);
+              ∙ doneReads-mask (z .keys) (a .jobs) (a .job) (a .done) j (A .job-in) (valid .reads);
         };
         snapshot = record {
           place = snapshot-formed;

@@ -1,5 +1,6 @@
 -- The merge of two versions, word by word.
--- put-table: the stores of a loop as one store. unheld-is, merge-larger: where merge is `larger`.
+-- put-table: the stores of a loop as one store. unheld-is, formed-blank, merge-larger: where merge
+-- is `larger`.
 -- larger-version: the larger words are the larger version.
 -- Assumes nothing.
 use mathlib.Core.Path.{_≡_, refl, sym, ap, ap₂, _∙_, fun-ext}
@@ -154,7 +155,8 @@ unheld-is z v F h r =
         (λ k. past-out z (v .past) (F .past) d w (inr k)) (below-or-not w (z .writers)))
         (λ l. past-out z (v .past) (F .past) d w (inl l)) (below-or-not d (z .keys))
 
-formed-blank : (z : Counts) (k : ℕ) (v : Version) → FitVersion z v → VersionFormed z k v → Blank v
+pub formed-blank : (z : Counts) (k : ℕ) (v : Version) → FitVersion z v → VersionFormed z k v
+    → Blank v
 unfolding versionFormed
 formed-blank z k v F f h = unheld-is z v F h (rw h at f)
 
