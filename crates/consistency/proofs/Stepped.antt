@@ -66,9 +66,6 @@ module _ (s : Store) (b : Book) (r j : ℕ) where
 
 module _ {s : Store} {b : Book} {r j : ℕ} (fine : Fine s) (F : Follows s b)
     (a : Accepted s r j) where
-  at-site : stepSite s r j < s .counts .sites
-  at-site = site s r j fine a
-
   -- ---- the cache
 
   pub stepCache-related : Related (s .counts .keys) (CountedAs (s .counts .keys) (b .history))
@@ -78,7 +75,7 @@ module _ {s : Store} {b : Book} {r j : ℕ} (fine : Fine s) (F : Follows s b)
       let L = now-simulates F in
       let o = stepSite s r j in
       let reads = stepReads s r j in
-      let rc = cache-related F o at-site in
+      let rc = cache-related F o (site s r j fine a) in
       fetched-rel L (s .master) (s .site o .cache) (b .master) (b .cache o) _ _ (master-related F)
       rc
       (readStart-same L (s .run r .snapshot) (s .site o .cache) (b .run r .snapshot) (b .cache o)
@@ -88,8 +85,9 @@ module _ {s : Store} {b : Book} {r j : ℕ} (fine : Fine s) (F : Follows s b)
   unfolding copyCache
   stepCache-closed =
       let o = stepSite s r j in
+      let l = site s r j fine a in
       fetched-closed (s .counts .keys) (b .history) (b .master) (b .cache o) _
-      (cache-part F o at-site) (master-closed F) (F .closed o at-site)
+      (cache-part F o l) (master-closed F) (F .closed o l)
 
   -- ---- C
 
