@@ -153,11 +153,6 @@ module _ (K : ℕ) (h : History) (plan : Items) (snapshot cache : Place Copy) (r
   pulled-has d i y p =
       rw (pulled-in (copies K h) K plan snapshot cache reads d y) (or-right (snapshot d i) p)
 
-  pub pulled-part : (m : Place Copy) → PartOf K snapshot m → PartOf K cache m
-      → PartOf K (pulled (copies K h) K plan snapshot cache reads) m
-  pulled-part m f g d i l p =
-      elim (pulled-from d i p) [ inl c ↦ f d i l c | inr c ↦ g d i l (c .1) ]
-
   pub pulled-closed : ClosedIn K h plan snapshot → ClosedAll K h cache → Within K reads plan
       → ClosedIn K h plan (pulled (copies K h) K plan snapshot cache reads)
   unfolding pullSet

@@ -60,9 +60,6 @@ module _ {s : Store} {b : Book} (F : Follows s b) where
         (b .run r .snapshot)
     snapshot-related = counted-related (F .run r l .snapshot) (F .run r l .closed)
 
-    pub snapshot-part : PartOf (s .counts .keys) (b .run r .snapshot) (b .master)
-    snapshot-part = every-part (F .every) (F .run r l .closed)
-
 -- The plan of a run is that of the book's.
 pub plan-same : {K : ℕ} {h : History} {a : Run} {c : BookRun} → RunFollows K h a c
     → planned (a .jobs) (a .job) ≡ planned (c .jobs) (c .job)
