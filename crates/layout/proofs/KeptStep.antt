@@ -48,13 +48,13 @@ module _ (s : Store) (r j : ℕ) (F : Fine s) (A : Accepted s r j) where
 
   -- ---- the cache
 
-  cache-fits : FitPlace (s .counts) (stepCache s r j)
+  pub cache-fits : FitPlace (s .counts) (stepCache s r j)
   unfolding stepCache
   cache-fits =
       fetched-fits (s .counts) (s .master) (s .site (stepSite s r j) .cache) (stepStart s r j)
       (F .fits .master) (F .fits .site .each (stepSite s r j) site .cache)
 
-  cache-formed : PlaceFormed (s .counts) (stepCache s r j)
+  pub cache-formed : PlaceFormed (s .counts) (stepCache s r j)
   unfolding stepCache
   cache-formed =
       fetched-formed (s .counts) (s .master) (s .site (stepSite s r j) .cache) (stepStart s r j)
@@ -62,7 +62,7 @@ module _ (s : Store) (r j : ℕ) (F : Fine s) (A : Accepted s r j) where
 
   -- ---- the snapshot
 
-  snapshot-fits : FitPlace (s .counts) (stepSnapshot s r j)
+  pub snapshot-fits : FitPlace (s .counts) (stepSnapshot s r j)
   unfolding stepSnapshot pulled
   snapshot-fits =
       let z = s .counts in
@@ -73,7 +73,7 @@ module _ (s : Store) (r j : ℕ) (F : Fine s) (A : Accepted s r j) where
       fit-choice z C both old (fit-merged z old (stepCache s r j) (fitting .snapshot) cache-fits)
       (fitting .snapshot)
 
-  snapshot-formed : PlaceFormed (s .counts) (stepSnapshot s r j)
+  pub snapshot-formed : PlaceFormed (s .counts) (stepSnapshot s r j)
   unfolding stepSnapshot
   snapshot-formed k h =
       let z = s .counts in
