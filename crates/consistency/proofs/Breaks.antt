@@ -6,9 +6,8 @@ use mathlib.Core.Path.{_≡_, refl, ap, _∙_}
 use mathlib.Core.Bool.{false, cond, So, true≢false}
 use mathlib.Core.Logic.{inl, inr, _≢_}
 use Prim.Native.Nat.{ℕ, _<_}
-use lib.Dec.{eqb}
 use Rattle.words.specs.Tests.{Items, anyBelow}
-use Rattle.words.proofs.Bools.{test, clash, _∙˙_, and-left, and-right, and-cases, eqb-eq}
+use Rattle.words.proofs.Bools.{test, clash, _∙˙_, and-left, and-right, and-cases}
 use Rattle.words.proofs.Tests.{any-some, any-none}
 use Rattle.masks.specs.Mask.{testBit}
 use Rattle.reach.specs.Closure.{Reach, Reach.here, Reach.next}
@@ -21,11 +20,12 @@ use Rattle.model.specs.Sets.{draws, pulled}
 use Rattle.model.specs.Store.{Store}
 use Rattle.model.specs.Outcome.{unless}
 use Rattle.model.specs.Step.{stepRule, stepReads, stepCache, stepPlan, stepPull, stepSnapshot, stepMoved, stepCause, stepBroken, stepDone}
+use Rattle.model.proofs.Outcomes.{unless-cases}
 use Rattle.model.proofs.Merges.{merge-right}
 use Rattle.model.proofs.Needs.{dependency-mono, supersedes-iff, supersedes-trans}
-use Rattle.model.proofs.Cuts.{needsMet-at, needsMet-intro, overlappingCut-within, overlappingCut-at, lacking-iff, draws-iff}
-use Rattle.model.proofs.Pulls.{pullSet-reached, pulled-out, pulled-held, pulled-overlap}
-use Rattle.model.proofs.Steps.{Accepted, accepted, step-planned, step-cached}
+use Rattle.model.proofs.Cuts.{needsMet-at, needsMet-intro, overlappingCut-within, overlappingCut-at}
+use Rattle.model.proofs.Draws.{lacking-iff, draws-iff, pullSet-reached}
+use Rattle.model.proofs.Steps.{Accepted, accepted, step-planned, step-cached, stepSnapshot-out, stepSnapshot-held, stepSnapshot-overlaps}
 use Rattle.consistency.specs.Claim.{Pick, Pick.ofSnapshot, Pick.ofCache, Pick.merged, Pick.neither, pickOf, chosen, Works, isRefused, isBroken, BreakExact}
 
 -- At a step of run r's job j: the snapshot is an overlapping cut for the plan, the cache after the
@@ -128,7 +128,8 @@ module _ (s : Store) (r j : ℕ) where
         → testBit (s .run r .read) k ≡ false
     unfolding stepPull
     works-unmoved a w k l p =
-        let x = taken a w (pullSet-reached W K plan snapshot cache (stepReads s r j) k l p) in
+        let reads = stepReads s r j in
+        let x = taken a w (pullSet-reached (versions W) K plan snapshot cache reads k l p) in
         test (testBit (s .run r .read) k) (λ y. absurd (x .other (w .keeps k l y))) (λ n. n)
 
   -- ---- where C has no read key, what the step leaves is a choice that works
@@ -143,18 +144,16 @@ module _ (s : Store) (r j : ℕ) where
 
   unmoved-works : Accepted s r j → Ready s r j → anyBelow K (stepMoved s r j) ≡ false
       → Works s r j merging
-  unfolding stepSnapshot stepPull stepMoved
+  unfolding stepMoved
   unmoved-works a x n = record { holds = holds; keeps = keeps; meets = meets }
     where
       left : So (overlappingCut (versions W) K plan (stepSnapshot s r j))
-      left =
-          pulled-overlap W K plan snapshot cache (stepReads s r j) (x .overlaps) (x .cut)
-          (λ k l. step-planned s r j k (a .job-in))
+      left = stepSnapshot-overlaps s r j a (x .overlaps) (x .cut)
 
       holds : (k : ℕ) → k < K → So (stepReads s r j k) → So (held (chosen s r j merging k))
       holds k l p =
           rw (chosen-merging k (step-planned s r j k (a .job-in) p))
-          (pulled-held W K plan snapshot cache (stepReads s r j) k p (step-cached s r j k a l p))
+          (stepSnapshot-held s r j a k l p)
 
       keeps : (k : ℕ) → k < K → So (testBit (s .run r .read) k)
           → chosen s r j merging k ≡ snapshot k
@@ -163,7 +162,7 @@ module _ (s : Store) (r j : ℕ) where
           let q = overlappingCut-within (versions W) K plan snapshot (x .overlaps) k l h in
           elim (and-cases (stepPull s r j k) (testBit (s .run r .read) k)
           (any-none K (stepMoved s r j) n k l)) [
-            | inl e ↦ chosen-merging k q ∙ pulled-out W K plan snapshot cache (stepReads s r j) k e
+            | inl e ↦ chosen-merging k q ∙ stepSnapshot-out s r j k e
             | inr e ↦ clash p e
           ]
 
@@ -177,10 +176,10 @@ module _ (s : Store) (r j : ℕ) where
   -- ---- the outcome
 
   not-refused : isRefused (stepRule r j s) ≡ false → stepCause s r j ≡ 0
-  unfolding stepRule unless isRefused
-  not-refused e =
-      test (eqb (stepCause s r j) 0) (λ y. eqb-eq (stepCause s r j) 0 y)
-      (λ n. absurd (true≢false (rw n at e)))
+  unfolding stepRule isRefused
+  not-refused =
+      unless-cases (λ x. isRefused x ≡ false → stepCause s r j ≡ 0) (stepCause s r j) _ (λ e _. e)
+      (λ _ y. absurd (true≢false y))
 
   broken-moved : stepCause s r j ≡ 0 → isBroken (stepRule r j s) ≡ anyBelow K (stepMoved s r j)
   unfolding stepRule unless isBroken stepBroken stepDone

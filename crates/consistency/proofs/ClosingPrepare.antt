@@ -68,10 +68,6 @@ module _ (K : ℕ) (h : History) (sites plan : Items) (cache : ℕ → Place Cop
         (c (r .0) (r .1) .closed k i d j lk ld refl (r .4) q);
   }
 
-  pub sitesMerged-part : (N : ℕ) (m : Place Copy) → ((o : ℕ) → o < N → PartOf K (cache o) m)
-      → PartOf K (sitesMerged (copies K h) N sites plan cache) m
-  sitesMerged-part N m f d i l p = let r = merged-from N d i p in f (r .0) (r .1) d i l (r .4)
-
 -- ---- the caches after the fetches of jobs
 
 -- Of every site below N the cache is a cut, within the master.

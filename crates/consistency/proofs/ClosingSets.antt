@@ -12,12 +12,11 @@ use Rattle.words.proofs.Bools.{test, clash, and-intro, or-left, or-right, or-ca
 use Rattle.reach.proofs.Closures.{closure-closed}
 use Rattle.model.specs.Algebra.{Place, everything, lacking}
 use Rattle.model.specs.Sets.{drawSet, fetchSet, fetched, evictSet, evicted, pullSet, pulled}
-use Rattle.model.proofs.Cuts.{drawSet-closed, fetched-in, fetched-out}
+use Rattle.model.proofs.Draws.{drawSet-closed, fetched-in, fetched-out, evicted-in, evicted-out, pullSet-plan, pulled-in, pulled-out}
 use Rattle.history.specs.History.{History, saved, inPast}
 use Rattle.history.specs.Copies.{Copy, copies, heldCopy, needsCopy, union}
 use Rattle.history.proofs.Notions.{ClosedIn, ClosedAll}
 use Rattle.history.proofs.Reached.{reaches-intro, copy-held, copy-needs, copy-meets}
-use Rattle.consistency.proofs.Members.{evicted-in, evicted-out, pulled-in, pulled-out, pullSet-plan}
 use Rattle.consistency.proofs.Closing.{PartOf}
 
 -- ---- T and C: what a member of the set needs
@@ -153,11 +152,6 @@ module _ (K : ℕ) (h : History) (plan : Items) (snapshot cache : Place Copy) (r
   unfolding union
   pulled-has d i y p =
       rw (pulled-in (copies K h) K plan snapshot cache reads d y) (or-right (snapshot d i) p)
-
-  pub pulled-part : (m : Place Copy) → PartOf K snapshot m → PartOf K cache m
-      → PartOf K (pulled (copies K h) K plan snapshot cache reads) m
-  pulled-part m f g d i l p =
-      elim (pulled-from d i p) [ inl c ↦ f d i l c | inr c ↦ g d i l (c .1) ]
 
   pub pulled-closed : ClosedIn K h plan snapshot → ClosedAll K h cache → Within K reads plan
       → ClosedIn K h plan (pulled (copies K h) K plan snapshot cache reads)

@@ -10,7 +10,7 @@ use Rattle.model.specs.Version.{versions}
 use Rattle.model.specs.Store.{Store, planned}
 use Rattle.model.specs.Step.{stepPlan, stepCache}
 use Rattle.model.proofs.Steps.{Accepted}
-use Rattle.layout.proofs.Stepping.{plan}
+use Rattle.layout.proofs.KeptStep.{was}
 use Rattle.layout.proofs.Follow.{Fine}
 use Rattle.history.specs.Book.{Book}
 use Rattle.consistency.specs.Claim.{BreakExact}
@@ -18,8 +18,8 @@ use Rattle.consistency.proofs.Simulation.{causalCut-same, overlappingCu
 use Rattle.consistency.proofs.Closing.{closed-causal, closed-overlapping}
 use Rattle.consistency.proofs.Breaks.{Ready, breaks-exact}
 use Rattle.consistency.proofs.Invariant.{Follows}
-use Rattle.consistency.proofs.Shared.{now-simulates, cache-related, snapshot-related, snapshot-closed}
-use Rattle.consistency.proofs.Stepped.{accepted-ready, copyCache, stepCache-related, stepCache-closed}
+use Rattle.consistency.proofs.Following.{now-simulates, cache-related, snapshot-related, snapshot-closed}
+use Rattle.consistency.proofs.Stepped.{copyCache, stepCache-related, stepCache-closed}
 
 module _ {s : Store} {b : Book} (F : Follows s b) where
   pub cuts : (o : ℕ) → o < s .counts .sites
@@ -45,7 +45,7 @@ module _ {s : Store} {b : Book} (F : Follows s b) where
     cut = causalCut-same (now-simulates F) (stepCache s r j) (copyCache s b r j)
         (stepCache-related fine F a)
         ∙ closed-causal (stepCache-closed fine F a);
-    on-snapshot = plan s r j fine (accepted-ready a) .snapshot .has;
+    on-snapshot = was s r j fine a .snapshot .has;
   }
 
   pub breaks : Fine s → (r j : ℕ) → BreakExact s r j

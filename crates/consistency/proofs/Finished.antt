@@ -1,57 +1,24 @@
 -- Part (c) of demand 3: two finished jobs of one run share one causal snapshot.
 -- Assumes nothing.
-use mathlib.Core.Path.{_≡_, sym, ap, _∙_}
-use mathlib.Core.Bool.{Bool, not, So, _&&_}
+use mathlib.Core.Path.{sym, ap, _∙_}
+use mathlib.Core.Bool.{Bool, So}
 use mathlib.Core.List.{List}
 use mathlib.Core.Logic.{⊎-elim}
-use Prim.Native.Nat.{ℕ, _≤_, _<_}
-use native.Mathlib.Omega.{arith}
-use lib.Dec.{eqb}
-use Rattle.words.specs.Tests.{allBelow}
-use Rattle.words.proofs.Bools.{test, clash, and-left, and-right, eqb-eq, eqb-ne, _∙˙_}
+use Prim.Native.Nat.{ℕ, _<_}
+use Rattle.words.proofs.Bools.{_∙˙_}
 use Rattle.words.proofs.Tests.{below-or-not}
 use Rattle.masks.specs.Mask.{testBit}
-use Rattle.masks.proofs.Bits.{test-none}
-use Rattle.sizes.specs.Bounds.{maxJobs}
-use Rattle.sizes.specs.declared.Counts.{Counts}
 use Rattle.model.specs.Store.{Run, Store, planned}
-use Rattle.model.specs.Version.{held}
-use Rattle.model.specs.Form.{zeroRows, zeroJob, freeFormed, runFormed, wellFormed}
-use Rattle.history.specs.History.{History, HappensBefore}
+use Rattle.history.specs.History.{History}
 use Rattle.history.specs.Book.{Book, BookRun}
 use Rattle.history.proofs.Notions.{Sound}
 use Rattle.history.proofs.Behind.{before-past}
 use Rattle.layout.proofs.Follow.{Fine}
 use Rattle.layout.proofs.Formed.{well-out}
-use Rattle.layout.proofs.Plans.{plan-out}
+use Rattle.layout.proofs.Plans.{read-planned}
 use Rattle.consistency.specs.Trace.{ReadSet}
 use Rattle.consistency.specs.Claim.{Snapshot, Among}
-use Rattle.consistency.proofs.Invariant.{RunFollows, Follows, ReadAs, Inv}
-
--- A free run has read nothing.
-free-read : (z : Counts) (a : Run) → So (freeFormed z a) → a .read ≡ 0
-unfolding freeFormed
-free-read z a p =
-    let jobs = allBelow maxJobs (λ i. zeroJob (a .job i)) in
-    let place = allBelow (z .keys) (λ k.
-    not (held (a .snapshot k)) && zeroRows z (a .snapshot k)) in
-    let read = eqb (a .read) 0 in
-    let done = eqb (a .done) 0 in
-    eqb-eq (a .read) 0
-    (and-left read (jobs && place)
-    (and-right done (read && (jobs && place))
-    (and-right (eqb (a .jobs) 0) (done && (read && (jobs && place))) p)))
-
--- What a run has read is among the keys of its plan.
-pub read-planned : (z : Counts) (a : Run) → So (runFormed z a) → (k : ℕ) → k < z .keys
-    → So (testBit (a .read) k) → So (planned (a .jobs) (a .job) k)
-unfolding runFormed
-read-planned z a F k l p =
-    test (eqb (a .state) 0)
-    (λ y. clash (ap (λ (m : ℕ). testBit m k) (free-read z a (rw y at F)) ∙˙ p) (test-none k))
-    (λ n. let open′ : 1 ≤ a .state = omega (arith, eqb-ne (a .state) 0 n) in
-    let P = plan-out z a open′ F in
-    P .snapshot .carried k l (P .snapshot .has k l p))
+use Rattle.consistency.proofs.Invariant.{RunFollows, ReadAs, Inv}
 
 module _ (K W : ℕ) (h : History) (a : Run) (c : BookRun) (sound : Sound K W h)
     (F : RunFollows K h a c)

@@ -3,15 +3,14 @@
 -- Inv: all of it. Moves: after an outcome.
 -- Assumes nothing.
 use mathlib.Core.Path.{_≡_}
-use mathlib.Core.Bool.{So, cond}
+use mathlib.Core.Bool.{So}
 use mathlib.Core.List.{List}
 use Prim.Native.Nat.{ℕ, _≤_, _<_}
-use lib.Dec.{eqb}
 use lib.ListN.{length}
 use Rattle.words.specs.Numbers.{countBelow}
 use Rattle.masks.specs.Mask.{testBit}
 use Rattle.model.specs.Store.{Run, Store, planned}
-use Rattle.model.specs.Outcome.{Outcome, refused, broken, done, unless}
+use Rattle.model.specs.Outcome.{Outcome, refused, broken, done}
 use Rattle.model.specs.Calls.{StoreCall}
 use Rattle.layout.specs.Calls.{on}
 use Rattle.history.specs.History.{History, saved}

@@ -1,13 +1,13 @@
 pub mod Simulation
 pub mod SimulationPrepare
-pub mod Members
 pub mod Closing
 pub mod ClosingSets
 pub mod ClosingPrepare
 pub mod Counting
 pub mod Breaks
 pub mod Invariant
-pub mod Shared
+pub mod Following
+pub mod Changing
 pub mod MovesCaches
 pub mod MovesRuns
 pub mod Issuing

@@ -14,8 +14,8 @@ use Rattle.model.specs.Sets.{fetched, evicted}
 use Rattle.model.specs.Store.{Store, withCache}
 use Rattle.model.specs.Calls.{fetch, evict}
 use Rattle.model.specs.Caches.{fetchCause, fetchDone, fetchRule, evictCause, evictDone, evictRule}
+use Rattle.model.proofs.Outcomes.{no-cause}
 use Rattle.layout.proofs.Follow.{Fine}
-use Rattle.layout.proofs.Kept.{no-cause}
 use Rattle.history.specs.Copies.{Copy, copies}
 use Rattle.history.specs.Book.{Book, bookFetch, bookEvict, bookRule, withBookCaches}
 use Rattle.history.proofs.Notions.{ClosedAll}
@@ -24,7 +24,8 @@ use Rattle.consistency.proofs.Simulation.{Related, fetched-rel, evicted
 use Rattle.consistency.proofs.ClosingSets.{fetched-closed, evicted-closed}
 use Rattle.consistency.proofs.Counting.{CountedAs}
 use Rattle.consistency.proofs.Invariant.{Inv, Moves}
-use Rattle.consistency.proofs.Shared.{unless-moves, by-counts, now-simulates, master-closed, master-related, cache-related, cache-part, inv-cache}
+use Rattle.consistency.proofs.Following.{by-counts, now-simulates, master-closed, master-related, cache-related, cache-part}
+use Rattle.consistency.proofs.Changing.{unless-moves, inv-cache}
 
 -- Cache o changed, in the book by a rule that takes the counts.
 cache-next : {s : Store} {b : Book} {f : ℕ → List ReadSet} (o : ℕ) (p : Place Version)

@@ -18,18 +18,19 @@ use Rattle.masks.proofs.Sets.{mask-some}
 use Rattle.model.specs.Store.{Store, freeRun, withLast, withMaster, withRun, withWriter}
 use Rattle.model.specs.Issue.{issueCause, issuedMaster, issuedWriter, issueSaved, issueDone, issueRule}
 use Rattle.model.specs.Calls.{issue}
-use Rattle.model.proofs.Steps.{no-cause}
+use Rattle.model.proofs.Outcomes.{no-cause}
 use Rattle.layout.proofs.Follow.{Fine}
 use Rattle.history.specs.Book.{Book, noRun, withBookRun, entry, bookIssue, bookIssued, bookRule}
 use Rattle.history.proofs.Notions.{Sound}
 use Rattle.history.proofs.Past.{past-laws}
-use Rattle.history.proofs.Behind.{sound-issue}
+use Rattle.history.proofs.Sounds.{sound-issue}
 use Rattle.history.proofs.Grown.{writer-count, other-count}
 use Rattle.history.proofs.Entered.{writer-past, other-past}
 use Rattle.consistency.specs.Trace.{ReadSet, finish}
 use Rattle.consistency.proofs.Closing.{closed-grow}
 use Rattle.consistency.proofs.Invariant.{WriterFollows, Follows, Inv, Moves}
-use Rattle.consistency.proofs.Shared.{unless-moves, free-follows, follows-run, nothing-read, inv-next, inv-anew}
+use Rattle.consistency.proofs.Following.{free-follows, follows-run}
+use Rattle.consistency.proofs.Changing.{unless-moves, nothing-read, inv-next, inv-anew}
 use Rattle.consistency.proofs.Issuing.{place-grow, run-grow, issuedCopies, issued-every, issued-writes, newPast-entered, issuedMaster-counted}
 
 -- ---- store and book with the new issue, the run not yet freed

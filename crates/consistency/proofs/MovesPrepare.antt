@@ -12,7 +12,7 @@ use Rattle.model.specs.Store.{Run, Site, Store, planned, withSites, withSnapsho
 use Rattle.model.specs.Prepare.{preparedCaches, usesSite, sitesMerged, siteCaches, prepareCause, prepareCaches, prepareSnapshot, prepareDone, prepareRule}
 use Rattle.model.specs.Calls.{prepare}
 use Rattle.layout.proofs.Plans.{valid-out}
-use Rattle.layout.proofs.KeptPrepare.{Ready, ready, was, unread}
+use Rattle.layout.proofs.KeptPrepare.{Accepted, accepted, was, unread}
 use Rattle.layout.proofs.Follow.{Fine}
 use Rattle.history.specs.Copies.{Copy, copies}
 use Rattle.history.specs.Book.{Book, BookRun, bookPrepare, bookRule, withBookRun, withBookCaches}
@@ -23,7 +23,8 @@ use Rattle.consistency.proofs.SimulationPrepare.{SitesBelow, RelatedSit
 use Rattle.consistency.proofs.ClosingPrepare.{CutsWithin, sitesMerged-closed, preparedCaches-cuts}
 use Rattle.consistency.proofs.Counting.{CountedAs}
 use Rattle.consistency.proofs.Invariant.{RunFollows, Follows, Inv, Moves}
-use Rattle.consistency.proofs.Shared.{unless-moves, now-simulates, master-closed, master-related, cache-related, cache-part, HasRead, inv-caches, inv-run}
+use Rattle.consistency.proofs.Following.{now-simulates, master-closed, master-related, cache-related, cache-part}
+use Rattle.consistency.proofs.Changing.{unless-moves, HasRead, inv-caches, inv-run}
 
 -- ---- the book's caches and run r after prepare, with the store's counts and jobs
 
@@ -55,10 +56,10 @@ module _ (s : Store) (b : Book) (r : ℕ) where
 
 -- ---- a prepare that is not refused
 
-module _ {s : Store} {b : Book} {r : ℕ} (fine : Fine s) (F : Follows s b) (R : Ready s r) where
+module _ {s : Store} {b : Book} {r : ℕ} (fine : Fine s) (F : Follows s b) (A : Accepted s r) where
   at-sites : SitesBelow (s .counts .sites) (s .run r .jobs) (s .run r .job)
   at-sites j l =
-      let jobs = was s r fine R .jobs in
+      let jobs = was s r fine A .jobs in
       valid-out (s .counts) j (s .run r .job j) (jobs .valid j l) .site
 
   caches-related : RelatedSites (s .counts .sites) (s .counts .keys)
@@ -103,20 +104,20 @@ module _ {s : Store} {b : Book} {r : ℕ} (fine : Fine s) (F : Follows s b) (R :
   run-follows = record {
     jobs = refl;
     job = refl;
-    read = F .run r (R .run) .read;
-    low = F .run r (R .run) .low;
+    read = F .run r (A .run) .read;
+    low = F .run r (A .run) .low;
     snapshot = λ k l. snapshot-related k l .0;
     closed = snapshot-closed;
   }
 
 -- No job is done, so nothing is read.
 none-read : {s : Store} {b : Book} {f : ℕ → List ReadSet} {r : ℕ} → Fine s → Inv s b f
-    → Ready s r → (a : Run) → HasRead (s .counts .keys) a (copyRun s b r) (f r)
+    → Accepted s r → (a : Run) → HasRead (s .counts .keys) a (copyRun s b r) (f r)
 unfolding copyRun
-none-read {s} {b} {f} {r} fine v R a x i =
-    let was-read = v .reads r (R .run) x i .keys in
+none-read {s} {b} {f} {r} fine v A a x i =
+    let was-read = v .reads r (A .run) x i .keys in
     let nothing : (k : ℕ) → k < s .counts .keys → b .run r .read k ≡ false =
-    λ k l. sym (v .follows .run r (R .run) .read k l) ∙ unread s r fine R k in
+    λ k l. sym (v .follows .run r (A .run) .read k l) ∙ unread s r fine A k in
     record {
       keys = was-read;
       version = λ k l p. clash (was-read k l p) (nothing k l);
@@ -124,21 +125,21 @@ none-read {s} {b} {f} {r} fine v R a x i =
     }
 
 done-moves : {s : Store} {b : Book} {f : ℕ → List ReadSet} {r : ℕ} → Fine s → Inv s b f
-    → Ready s r → Moves (prepare r) s b f (prepareDone s r)
+    → Accepted s r → Moves (prepare r) s b f (prepareDone s r)
 unfolding prepareDone bookRule finish withSites withBookCaches
-done-moves {s} {b} {f} {r} fine v R =
+done-moves {s} {b} {f} {r} fine v A =
     let F = v .follows in
     let after = withSnapshot (s .run r) (prepareSnapshot s r) in
     let sites : ℕ → Site = λ o. record { cache = prepareCaches s r o } in
     let w = inv-caches v sites (copyCaches s b r)
-    (λ o l. (λ k h. caches-related fine F R o l k h .0, caches-cuts fine F R o l .0)) in
-    rw (book-prepare s b r F (R .run))
-    (inv-run w f r after (copyRun s b r) (run-follows fine F R) (R .run) (λ _ _. refl)
-    (none-read fine v R after))
+    (λ o l. (λ k h. caches-related fine F A o l k h .0, caches-cuts fine F A o l .0)) in
+    rw (book-prepare s b r F (A .run))
+    (inv-run w f r after (copyRun s b r) (run-follows fine F A) (A .run) (λ _ _. refl)
+    (none-read fine v A after))
 
 pub prepare-moves : (r : ℕ) (s : Store) (b : Book) (f : ℕ → List ReadSet) → Fine s → Inv s b f
     → Moves (prepare r) s b f (prepareRule r s)
 unfolding prepareRule
 prepare-moves r s b f fine v =
     unless-moves (prepare r) s b f (prepareCause s r) (prepareDone s r) v
-    (λ e. done-moves fine v (ready s r e))
+    (λ e. done-moves fine v (accepted s r e))

@@ -9,12 +9,13 @@ use Rattle.model.specs.Outcome.{openState}
 use Rattle.model.specs.Calls.{openRun, dropRun, look}
 use Rattle.model.specs.Runs.{listedCount, listedJobs, openCause, openedRun, openDone, openRule, dropCause, dropDone, dropRule}
 use Rattle.model.specs.Look.{lookCause, lookDone, lookRule}
+use Rattle.model.proofs.Outcomes.{no-cause}
 use Rattle.layout.proofs.Follow.{Fine}
-use Rattle.layout.proofs.Kept.{no-cause}
 use Rattle.history.specs.Book.{Book, noRun, bookOpen, bookRule}
 use Rattle.consistency.specs.Trace.{ReadSet, finish}
 use Rattle.consistency.proofs.Invariant.{Inv, Moves}
-use Rattle.consistency.proofs.Shared.{unless-moves, empty-follows, free-follows, inv-anew}
+use Rattle.consistency.proofs.Following.{empty-follows, free-follows}
+use Rattle.consistency.proofs.Changing.{unless-moves, inv-anew}
 
 pub open-moves : (r : ℕ) (l : List ℕ) (s : Store) (b : Book) (f : ℕ → List ReadSet) → Fine s
     → Inv s b f → Moves (openRun r l) s b f (openRule r l s)

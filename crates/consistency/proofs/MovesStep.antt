@@ -1,33 +1,31 @@
 -- A step keeps the invariant of store, book and reads: step-moves.
 -- inv-state: where it breaks its run. done-moves: where it is done.
 -- Assumes nothing.
-use mathlib.Core.Path.{_≡_, refl, sym, ap, _∙_, fun-ext}
+use mathlib.Core.Path.{_≡_, refl, sym, ap, _∙_}
 use mathlib.Core.Bool.{Bool, false, So, _||_}
 use mathlib.Core.Logic.{inl, inr}
 use mathlib.Core.List.{List, _∷_}
 use Prim.Native.Nat.{ℕ, _<_}
-use native.Mathlib.Decide.{ℕ-discrete}
-use lib.Bits.{bitOr}
 use Rattle.words.specs.Tests.{anyBelow}
 use Rattle.words.specs.Lists.{putAt}
 use Rattle.words.proofs.Bools.{test, clash, and-cases, or-left, or-right, or-cases}
 use Rattle.words.proofs.Tests.{any-none}
-use Rattle.words.proofs.Lists.{putAt-same, putAt-other}
-use Rattle.masks.specs.Mask.{testBit, withBit}
+use Rattle.words.proofs.Lists.{putAt-same, putAt-other, putAt-itself}
+use Rattle.masks.specs.Mask.{testBit}
 use Rattle.masks.proofs.Bits.{test-or, test-low}
-use Rattle.model.specs.Store.{Run, Store, withSites, withCache, withRun, withState, withJobDone}
+use Rattle.model.specs.Store.{Store, withSites, withCache, withRun, withState, withJobDone}
 use Rattle.model.specs.Outcome.{brokenState}
 use Rattle.model.specs.Calls.{step}
-use Rattle.model.specs.Step.{stepSite, stepReads, stepCache, stepPlan, stepPull, stepSnapshot, stepMoved, stepCause, stepBroken, stepDone, stepRule}
-use Rattle.model.proofs.Steps.{Accepted, accepted}
-use Rattle.layout.proofs.Stepping.{valid}
+use Rattle.model.specs.Step.{stepSite, stepReads, stepCache, stepPlan, stepPull, stepMoved, stepCause, stepBroken, stepDone, stepRule}
+use Rattle.model.proofs.Steps.{Accepted, accepted, stepSnapshot-out, steppedRun}
+use Rattle.layout.proofs.KeptStep.{valid}
 use Rattle.layout.proofs.Follow.{Fine}
 use Rattle.history.specs.Book.{Book, BookRun, bookRule, withBookRun, withBookCaches}
 use Rattle.consistency.specs.Trace.{ReadSet, readNow, finish}
 use Rattle.consistency.specs.Claim.{first, later}
 use Rattle.consistency.proofs.Invariant.{RunFollows, ReadAs, Inv, Moves}
-use Rattle.consistency.proofs.Shared.{unless-moves, HasRead, inv-cache, inv-run}
-use Rattle.consistency.proofs.Stepped.{accepted-ready, copyCache, copyRun, book-step, stepCache-related, stepCache-closed, stepSnapshot-related, stepSnapshot-closed, stepSnapshot-out, copySnapshot-out}
+use Rattle.consistency.proofs.Changing.{unless-moves, HasRead, inv-cache, inv-run}
+use Rattle.consistency.proofs.Stepped.{copyCache, copyRun, book-step, stepCache-related, stepCache-closed, stepSnapshot-related, stepSnapshot-closed, copySnapshot-out}
 
 -- ---- a step that breaks its run
 
@@ -41,10 +39,7 @@ same-book b r =
       master = b .master;
       cache = b .cache;
       run = f;
-    }) (fun-ext (λ q. elim (ℕ-discrete q r) [
-      | yes e ↦ rw (e, putAt-same (b .run) r (b .run r))
-      | no e ↦ putAt-other (b .run) r (b .run r) q e
-    ]))
+    }) (putAt-itself (b .run) r)
 
 -- Only the state of a run is changed.
 inv-state : {s : Store} {b : Book} {f : ℕ → List ReadSet} → Inv s b f → (r n : ℕ)
@@ -75,15 +70,9 @@ inv-state {s} {b} {f} v r n l =
 
 module _ {s : Store} {b : Book} {f : ℕ → List ReadSet} {r j : ℕ} (fine : Fine s) (v : Inv s b f)
     (a : Accepted s r j) (n : anyBelow (s .counts .keys) (stepMoved s r j) ≡ false) where
-  -- The run after the job,
-  abbrev stepped : Run
-  stepped =
-      withJobDone (s .run r) (withBit (s .run r .done) j)
-      (bitOr (s .run r .read) (s .run r .job j .reads)) (stepSnapshot s r j)
-
-  -- the store,
+  -- The store after the job,
   abbrev next : Store
-  next = withRun (withCache s (stepSite s r j) (stepCache s r j)) r stepped
+  next = withRun (withCache s (stepSite s r j) (stepCache s r j)) r (steppedRun s r j)
 
   -- and the book.
   abbrev nextBook : Book
@@ -91,13 +80,13 @@ module _ {s : Store} {b : Book} {f : ℕ → List ReadSet} {r j : ℕ} (fine : F
       withBookRun (withBookCaches b (putAt (b .cache) (stepSite s r j) (copyCache s b r j))) r
       (copyRun s b r j)
 
-  stepped-follows : RunFollows (s .counts .keys) (b .history) stepped (copyRun s b r j)
+  stepped-follows : RunFollows (s .counts .keys) (b .history) (steppedRun s r j) (copyRun s b r j)
   unfolding withJobDone copyRun stepReads stepPlan
   stepped-follows =
       let F = v .follows in
       let G = F .run r (a .run-in) in
       let reads = s .run r .job j .reads in
-      let job-reads = valid s r j fine (accepted-ready a) .reads in
+      let job-reads = valid s r j fine a .reads in
       record {
         jobs = refl;
         job = refl;
@@ -123,7 +112,7 @@ module _ {s : Store} {b : Book} {f : ℕ → List ReadSet} {r j : ℕ} (fine : F
       ]
 
   -- so what earlier jobs have read is still so,
-  still : HasRead (s .counts .keys) stepped (copyRun s b r j) (f r)
+  still : HasRead (s .counts .keys) (steppedRun s r j) (copyRun s b r j) (f r)
   unfolding withJobDone copyRun
   still x i =
       let F = v .follows in
@@ -131,21 +120,21 @@ module _ {s : Store} {b : Book} {f : ℕ → List ReadSet} {r j : ℕ} (fine : F
       record {
         keys = λ k h p. or-left (stepReads s r j k) (R .keys k h p);
         version = λ k h p. R .version k h p
-            ∙ sym (stepSnapshot-out fine F a k (unmoved k h (R .keys k h p)));
+            ∙ sym (stepSnapshot-out s r j k (unmoved k h (R .keys k h p)));
         copy = λ k h p. R .copy k h p
             ∙ sym (copySnapshot-out fine F a k h (unmoved k h (R .keys k h p)));
       }
 
   -- and this one has read what is on the snapshot now.
-  next-run : next .run r ≡ stepped
+  next-run : next .run r ≡ steppedRun s r j
   unfolding withRun withCache withSites
-  next-run = putAt-same (s .run) r stepped
+  next-run = putAt-same (s .run) r (steppedRun s r j)
 
   next-book-run : nextBook .run r ≡ copyRun s b r j
   unfolding withBookRun withBookCaches
   next-book-run = putAt-same (b .run) r (copyRun s b r j)
 
-  now : ReadAs (s .counts .keys) stepped (copyRun s b r j) (readNow r j next nextBook)
+  now : ReadAs (s .counts .keys) (steppedRun s r j) (copyRun s b r j) (readNow r j next nextBook)
   unfolding readNow withJobDone copyRun stepReads
   now =
       rw (next-run, next-book-run) (record {
@@ -161,10 +150,10 @@ module _ {s : Store} {b : Book} {f : ℕ → List ReadSet} {r j : ℕ} (fine : F
       let xs = readNow r j next nextBook ∷ f r in
       let w = inv-cache v (stepSite s r j) (stepCache s r j) (copyCache s b r j)
       (λ k h. stepCache-related fine F a k h .0) (stepCache-closed fine F a) in
-      inv-run w (putAt f r xs) r stepped (copyRun s b r j) stepped-follows (a .run-in)
+      inv-run w (putAt f r xs) r (steppedRun s r j) (copyRun s b r j) stepped-follows (a .run-in)
       (putAt-other f r xs) (λ x i. read x (rw (putAt-same f r xs) at i))
     where
-      read : HasRead (s .counts .keys) stepped (copyRun s b r j)
+      read : HasRead (s .counts .keys) (steppedRun s r j) (copyRun s b r j)
           (readNow r j next nextBook ∷ f r)
       read x first = now
       read x (later i) = still x i

@@ -8,10 +8,10 @@ use mathlib.Core.Bool.{Bool, _&&_, cond, So}
 use Prim.Native.Nat.{ℕ, _<_}
 use Rattle.words.specs.Tests.{Items}
 use Rattle.words.proofs.Bools.{test, and-false-right}
-use Rattle.words.proofs.Tests.{any-same, all-same}
+use Rattle.words.proofs.Tests.{all-same}
 use Rattle.reach.proofs.Closures.{closure-same}
 use Rattle.model.specs.Algebra.{Algebra, Place, everything, implies, lacking, needsMet, causalCut, overlappingCut}
-use Rattle.model.specs.Sets.{draws, drawSet, fetchSet, fetched, unfetchable, evictSet, evicted, pullSet, pulled}
+use Rattle.model.specs.Sets.{draws, drawSet, fetchSet, fetched, evictSet, evicted, pullSet, pulled}
 use Rattle.model.specs.Step.{readStart}
 
 -- Rel k a b: a, a version of key k, stands for b.
@@ -80,12 +80,6 @@ module _ {A B : Type 0} {X : Algebra A} {Y : Algebra B} {K : ℕ} {Rel : ℕ →
     fetched-rel k l =
         cond-rel (Rel k) (fetchSet X K m c s k) (fetchSet Y K m′ c′ s′ k) (m k) (c k) (m′ k) (c′ k)
         (fetchSet-same k l) (rm k l) (rc k l)
-
-  pub unfetchable-same : (m : Place A) (m′ : Place B) (s s′ : Items) → Related K Rel m m′
-      → Agree K s s′ → unfetchable X K m s ≡ unfetchable Y K m′ s′
-  unfolding unfetchable
-  unfetchable-same m m′ s s′ r e =
-      any-same K (lacking X K m s) (lacking Y K m′ s′) (lacking-same m m′ s s′ r e)
 
   module _ (c : Place A) (c′ : Place B) (s s′ : Items) (r : Related K Rel c c′)
       (e : Agree K s s′) where

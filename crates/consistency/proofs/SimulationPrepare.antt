@@ -3,20 +3,19 @@
 -- RelatedSites: the caches of sites that stand for each other.
 -- Assumes nothing.
 use mathlib.Core.Path.{_≡_, refl}
-use mathlib.Core.Bool.{_&&_, cond, So}
+use mathlib.Core.Bool.{_&&_, cond}
 use Prim.Native.Nat.{ℕ, zero, suc, _<_}
 use native.Mathlib.Omega.{arith}
 use lib.Dec.{eqb}
 use Rattle.words.specs.Tests.{Items}
 use Rattle.words.specs.Numbers.{foldBelow}
 use Rattle.words.specs.Lists.{putAt}
-use Rattle.words.proofs.Tests.{any-intro, any-same}
 use Rattle.masks.specs.Mask.{testBit}
 use Rattle.model.specs.Algebra.{Algebra, Place}
-use Rattle.model.specs.Sets.{fetched, unfetchable}
-use Rattle.model.specs.Store.{Job, planned}
-use Rattle.model.specs.Prepare.{jobStart, fetchReads, preparedCaches, unpreparable, usesSite, sitesMerged}
-use Rattle.consistency.proofs.Simulation.{Simulates, Agree, Related, cond-rel, lacking-same, fetched-rel, unfetchable-same}
+use Rattle.model.specs.Sets.{fetched}
+use Rattle.model.specs.Store.{Job}
+use Rattle.model.specs.Prepare.{jobStart, fetchReads, preparedCaches, sitesMerged}
+use Rattle.consistency.proofs.Simulation.{Simulates, Agree, Related, cond-rel, lacking-same, fetched-rel}
 
 abbrev pub SameJobs : ℕ → (ℕ → Job) → (ℕ → Job) → Type 0
 SameJobs n job job′ = (j : ℕ) → j < n → job j ≡ job′ j
@@ -28,27 +27,6 @@ SitesBelow N n job = (j : ℕ) → j < n → job j .site < N
 abbrev pub RelatedSites : {A B : Type 0} → ℕ → ℕ → (ℕ → A → B → Type 0) → (ℕ → Place A)
     → (ℕ → Place B) → Type 0
 RelatedSites N K Rel f g = (o : ℕ) → o < N → Related K Rel (f o) (g o)
-
--- ---- what only the jobs say
-
-pub planned-same : (n : ℕ) (job job′ : ℕ → Job) → SameJobs n job job′ → (k : ℕ)
-    → planned n job k ≡ planned n job′ k
-unfolding planned
-planned-same n job job′ e k =
-    any-same n (λ j. testBit (job j .reads) k) (λ j. testBit (job′ j .reads) k)
-    (λ j l. rw (e j l))
-
--- What one of the jobs reads is the plan's.
-pub planned-has : (n : ℕ) (job : ℕ → Job) (j k : ℕ) → j < n → So (testBit (job j .reads) k)
-    → So (planned n job k)
-unfolding planned
-planned-has n job j k l p = any-intro n (λ j. testBit (job j .reads) k) j l p
-
-pub usesSite-same : (n : ℕ) (job job′ : ℕ → Job) → SameJobs n job job′ → (o : ℕ)
-    → usesSite n job o ≡ usesSite n job′ o
-unfolding usesSite
-usesSite-same n job job′ e o =
-    any-same n (λ j. eqb (job j .site) o) (λ j. eqb (job′ j .site) o) (λ j l. rw (e j l))
 
 -- ---- related values after related steps
 
@@ -108,13 +86,3 @@ module _ {A B : Type 0} {X : Algebra A} {Y : Algebra B} {K : ℕ} {Rel : ℕ →
     preparedCaches-rel n f g e s r =
         fold-rel (RelatedSites N K Rel) n (fetchReads X K m job) (fetchReads Y K m′ job′) f g
         (λ j x y l h. fetchReads-rel j x y (e j l) (s j l) h) r
-
-    pub unpreparable-same : (n : ℕ) (f : ℕ → Place A) (g : ℕ → Place B) → SameJobs n job job′
-        → SitesBelow N n job → RelatedSites N K Rel f g
-        → unpreparable X K m job n f ≡ unpreparable Y K m′ job′ n g
-    unfolding unpreparable
-    unpreparable-same n f g e s r =
-        any-same n (λ j. unfetchable X K m (jobStart X K m job j (preparedCaches X K m job j f)))
-        (λ j. unfetchable Y K m′ (jobStart Y K m′ job′ j (preparedCaches Y K m′ job′ j g)))
-        (λ j l. unfetchable-same L m m′ _ _ rm (jobStart-same j _ _ (e j l) (s j l)
-        (preparedCaches-rel j f g (λ i h. e i (omega arith)) (λ i h. s i (omega arith)) r)))

@@ -8,31 +8,21 @@ use Prim.Native.Nat.{ℕ, _<_}
 use Rattle.words.specs.Tests.{Items}
 use Rattle.words.specs.Lists.{putAt}
 use Rattle.model.specs.Algebra.{Place}
-use Rattle.model.specs.Version.{versions}
 use Rattle.model.specs.Sets.{fetched, pullSet, pulled}
 use Rattle.model.specs.Store.{Store}
 use Rattle.model.specs.Step.{readStart, stepSite, stepReads, stepStart, stepCache, stepPlan, stepPull, stepSnapshot}
+use Rattle.model.proofs.Draws.{pulled-out}
 use Rattle.model.proofs.Steps.{Accepted, step-planned}
-use Rattle.layout.proofs.Stepping.{Ready, open-state, site}
+use Rattle.layout.proofs.KeptStep.{site}
 use Rattle.layout.proofs.Follow.{Fine}
 use Rattle.history.specs.Copies.{Copy, copies}
 use Rattle.history.specs.Book.{Book, BookRun, bookStepJob, withBookRun, withBookCaches}
 use Rattle.history.proofs.Notions.{ClosedIn, ClosedAll}
 use Rattle.consistency.proofs.Simulation.{Agree, Related, readStart-same, fetched-rel, pullSet-same, pulled-rel}
-use Rattle.consistency.proofs.Members.{pulled-out}
 use Rattle.consistency.proofs.ClosingSets.{fetched-closed, pulled-closed}
 use Rattle.consistency.proofs.Counting.{CountedAs}
 use Rattle.consistency.proofs.Invariant.{Follows}
-use Rattle.consistency.proofs.Shared.{now-simulates, master-closed, master-related, cache-related, cache-part, snapshot-related, snapshot-closed}
-
--- What the laws about a fine store's step ask.
-pub accepted-ready : {s : Store} {r j : ℕ} → Accepted s r j → Ready s r j
-accepted-ready {s} {r} {j} a = record {
-  run = a .run-in;
-  state = open-state (s .run r .state) (a .open-run);
-  job = a .job-in;
-  fetch = a .fetchable;
-}
+use Rattle.consistency.proofs.Following.{now-simulates, master-closed, master-related, cache-related, cache-part, snapshot-related, snapshot-closed}
 
 -- ---- the book's run r and its cache after job j, with the store's counts and jobs
 
@@ -76,9 +66,6 @@ module _ (s : Store) (b : Book) (r j : ℕ) where
 
 module _ {s : Store} {b : Book} {r j : ℕ} (fine : Fine s) (F : Follows s b)
     (a : Accepted s r j) where
-  at-site : stepSite s r j < s .counts .sites
-  at-site = site s r j fine (accepted-ready a)
-
   -- ---- the cache
 
   pub stepCache-related : Related (s .counts .keys) (CountedAs (s .counts .keys) (b .history))
@@ -88,7 +75,7 @@ module _ {s : Store} {b : Book} {r j : ℕ} (fine : Fine s) (F : Follows s b)
       let L = now-simulates F in
       let o = stepSite s r j in
       let reads = stepReads s r j in
-      let rc = cache-related F o at-site in
+      let rc = cache-related F o (site s r j fine a) in
       fetched-rel L (s .master) (s .site o .cache) (b .master) (b .cache o) _ _ (master-related F)
       rc
       (readStart-same L (s .run r .snapshot) (s .site o .cache) (b .run r .snapshot) (b .cache o)
@@ -98,8 +85,9 @@ module _ {s : Store} {b : Book} {r j : ℕ} (fine : Fine s) (F : Follows s b)
   unfolding copyCache
   stepCache-closed =
       let o = stepSite s r j in
+      let l = site s r j fine a in
       fetched-closed (s .counts .keys) (b .history) (b .master) (b .cache o) _
-      (cache-part F o at-site) (master-closed F) (F .closed o at-site)
+      (cache-part F o l) (master-closed F) (F .closed o l)
 
   -- ---- C
 
@@ -130,14 +118,7 @@ module _ {s : Store} {b : Book} {r j : ℕ} (fine : Fine s) (F : Follows s b)
       (copyCache s b r j) (stepReads s r j) (snapshot-closed F r (a .run-in)) stepCache-closed
       (λ k _. step-planned s r j k (a .job-in))
 
-  -- Outside of C both snapshots are as they were.
-  pub stepSnapshot-out : (k : ℕ) → stepPull s r j k ≡ false
-      → stepSnapshot s r j k ≡ s .run r .snapshot k
-  unfolding stepSnapshot stepPull
-  stepSnapshot-out =
-      pulled-out (versions (s .counts .writers)) (s .counts .keys) (stepPlan s r j)
-      (s .run r .snapshot) (stepCache s r j) (stepReads s r j)
-
+  -- Outside of C the book's too is as it was.
   pub copySnapshot-out : (k : ℕ) → k < s .counts .keys → stepPull s r j k ≡ false
       → copySnapshot s b r j k ≡ b .run r .snapshot k
   unfolding copySnapshot copyPull

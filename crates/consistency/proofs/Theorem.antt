@@ -1,11 +1,11 @@
 -- Demand 3, proved: the claim of specs/Claim for every list of calls after an accepted new.
 -- Assumes nothing.
-use mathlib.Core.Path.{_≡_, ap, _∙_, sym}
+use mathlib.Core.Path.{ap, _∙_, sym}
 use mathlib.Core.List.{List}
 use Prim.Native.Nat.{ℕ}
 use Rattle.words.proofs.Bools.{_∙˙_}
 use Rattle.model.specs.Store.{Store}
-use Rattle.model.specs.Calls.{StoreCall, openRun, fetch, evict, prepare, step, issue, dropRun, look, ruleOf}
+use Rattle.model.specs.Calls.{openRun, fetch, evict, prepare, step, issue, dropRun, look, ruleOf}
 use Rattle.layout.specs.Reading.{storeOf}
 use Rattle.layout.specs.Buffer.{inForm}
 use Rattle.layout.proofs.Whole.{store-back}

@@ -1,6 +1,6 @@
 -- An issue entered: the new version, the merged master and the writers' pasts are copies counted.
 -- readAny: what the issue's run read. enteredPast, entered: the new version, as a store makes it.
--- newVersion-counted, new-good: the new version's copy. merged-..: the master's with it.
+-- newVersion-counted: the new version's copy. merged-counted: the master's with it.
 -- writer-past, other-past: the writers.
 -- Assumes nothing.
 use mathlib.Core.Path.{_≡_, refl, sym, ap, ap₂, _∙_, fun-ext}
@@ -21,12 +21,12 @@ use Rattle.model.specs.Version.{Version, merge}
 use Rattle.model.proofs.Merges.{version-path}
 use Rattle.history.specs.History.{Issue, History, writerOf, leads, inPast}
 use Rattle.history.specs.Copies.{Copy, reaches, union, lastIn, byWriter, counted}
-use Rattle.history.proofs.Notions.{PastLaws, Good}
+use Rattle.history.proofs.Notions.{PastLaws}
 use Rattle.history.proofs.Past.{writerOf-top, writerOf-low, saved-top, leads-writer, topPast, past-top, past-low, topPast-via}
 use Rattle.history.proofs.Tally.{by-writer, writer-is, last-at, last-le, tally, tally-at, tally-some, tally-union, tally-total}
-use Rattle.history.proofs.Reached.{reaches-intro, reaches-some, reaches-union, good-union}
+use Rattle.history.proofs.Reached.{reaches-intro, reaches-some, reaches-union}
 use Rattle.history.proofs.Counted.{counted-issue, counted-row, counted-union}
-use Rattle.history.proofs.Grown.{Below, good-grow, counted-grow, row-grow, writer-count}
+use Rattle.history.proofs.Grown.{Below, counted-grow, row-grow, writer-count}
 
 module _ (K : ℕ) (e : Issue) (h : History) where
   -- The issues by the writer up to now.
@@ -141,15 +141,6 @@ module _ (K : ℕ) (e : Issue) (h : History) where
           let least = last-at K (e ∷ h) (top k) (length h) (omega arith) w in
           omega (arith, least, last-le K (e ∷ h) (top k))
 
-  pub new-good : PastLaws K (e ∷ h) → (k : ℕ)
-      → Good K (e ∷ h) k (inPast K (e ∷ h) (length h) k)
-  new-good laws k = record {
-    writes = λ i p.
-        let b = laws .bound (length h) k i (omega arith) p in
-        (omega arith, b .1);
-    behind = λ i j p q. laws .trans (length h) k i k j (omega arith) p q;
-  }
-
   -- For a key issued the merge is the union counted.
   pub merged-counted : PastLaws K h → PastLaws K (e ∷ h) → (k : ℕ) (c : Copy) → So (e .keys k)
       → Below h c → merge (counted K h c) entered
@@ -158,12 +149,6 @@ module _ (K : ℕ) (e : Issue) (h : History) where
   merged-counted low laws k c s b =
       sym (counted-union K (e ∷ h) c (top k)
       ∙ ap₂ merge (counted-grow K e h low c b) (newVersion-counted low laws k s))
-
-  pub merged-good : PastLaws K (e ∷ h) → (k : ℕ) (c : Copy) → Good K h k c
-      → Good K (e ∷ h) k (λ i. c i || inPast K (e ∷ h) (length h) k i)
-  unfolding union
-  merged-good laws k c g =
-      good-union K (e ∷ h) k c (top k) (good-grow K e h k c g) (new-good laws k)
 
   -- ---- the writers' pasts
 

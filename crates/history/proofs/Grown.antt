@@ -16,19 +16,16 @@ use Rattle.words.proofs.Bools.{test, same-test, _∙˙_, ne-eqb}
 use Rattle.words.proofs.Numbers.{when-no, count-one, count-same}
 use Rattle.model.proofs.Merges.{version-path}
 use Rattle.history.specs.History.{Issue, History}
-use Rattle.history.specs.Copies.{Copy, reaches, heldCopy, needsCopy, meetsCopy, lastIn, byWriter, counted}
-use Rattle.history.proofs.Notions.{PastLaws, Good}
-use Rattle.history.proofs.Past.{writerOf-top, writerOf-low, saved-low, past-low}
+use Rattle.history.specs.Copies.{Copy, reaches, lastIn, byWriter, counted}
+use Rattle.history.proofs.Notions.{PastLaws}
+use Rattle.history.proofs.Past.{writerOf-top, writerOf-low, past-low}
 use Rattle.history.proofs.Tally.{by-writer, last-same, last-le, tally}
-use Rattle.history.proofs.Reached.{reaches-intro, reaches-some, reaches-saved, copy-held, copy-needs, copy-meets}
+use Rattle.history.proofs.Reached.{reaches-intro, reaches-some, reaches-saved}
 use Rattle.history.proofs.Counted.{counted-issue, counted-row}
 
 -- A set that has no issue beyond the history.
 abbrev pub Below : History → Items → Type 0
 Below h s = (i : ℕ) → So (s i) → i < length h
-
-pub good-below : (K : ℕ) (h : History) (k : ℕ) (c : Copy) → Good K h k c → Below h c
-good-below K h k c g i p = g .writes i p .0
 
 pub not-on-top : (h : History) (s : Items) → Below h s → s (length h) ≡ false
 not-on-top h s b = test (s (length h)) (λ y. absurd (never (b (length h) y))) (λ n. n)
@@ -37,8 +34,6 @@ not-on-top h s b = test (s (length h)) (λ y. absurd (never (b (length h) y))) (
     never l = omega arith
 
 module _ (K : ℕ) (e : Issue) (h : History) where
-  -- ---- tests of copies
-
   pub reaches-grow : (c : Copy) → Below h c
       → (d j : ℕ) → reaches K (e ∷ h) c d j ≡ reaches K h c d j
   reaches-grow c b d j =
@@ -51,48 +46,6 @@ module _ (K : ℕ) (e : Issue) (h : History) where
       let r = reaches-some K h c d j p in
       let q = past-low K e h (r .0) d j (r .1) ∙ r .3 in
       reaches-intro K (e ∷ h) c d j (r .0) (omega arith) (r .2) q)
-
-  pub held-grow : (c : Copy) → Below h c → heldCopy K (e ∷ h) c ≡ heldCopy K h c
-  held-grow c b =
-      same-test
-      (λ p.
-      let r = copy-held K (e ∷ h) c .0 p in
-      copy-held K h c .1 (r .0, b (r .0) (r .2), r .2))
-      (λ p.
-      let r = copy-held K h c .0 p in
-      copy-held K (e ∷ h) c .1 (r .0, omega arith, r .2))
-
-  pub needs-grow : PastLaws K h → (k : ℕ) (c : Copy) (d : ℕ) → Below h c
-      → needsCopy K (e ∷ h) k c d ≡ needsCopy K h k c d
-  needs-grow laws k c d b =
-      same-test
-      (λ p.
-      let r = copy-needs K (e ∷ h) k c d .0 p in
-      let q = reaches-grow c b d (r .1) ∙˙ r .3 in
-      copy-needs K h k c d .1 (r .0, r .1, reaches-saved K h laws c d (r .1) q .0, q))
-      (λ p.
-      let r = copy-needs K h k c d .0 p in
-      copy-needs K (e ∷ h) k c d .1 (r .0, r .1, omega arith, reaches-grow c b d (r .1) ∙ r .3))
-
-  pub meets-grow : PastLaws K h → (d : ℕ) (b c : Copy) → Below h c
-      → meetsCopy K (e ∷ h) d b c ≡ meetsCopy K h d b c
-  meets-grow laws d b c low =
-      same-test
-      (λ p. copy-meets K h d b c .1 (λ j l y.
-      copy-meets K (e ∷ h) d b c .0 p j (omega arith) (reaches-grow c low d j ∙ y)))
-      (λ p. copy-meets K (e ∷ h) d b c .1 (λ j l y.
-      let q = reaches-grow c low d j ∙˙ y in
-      copy-meets K h d b c .0 p j (reaches-saved K h laws c d j q .0) q))
-
-  pub good-grow : (k : ℕ) (c : Copy) → Good K h k c → Good K (e ∷ h) k c
-  good-grow k c g = record {
-    writes = λ i p.
-        let w = g .writes i p in
-        (omega arith, saved-low e h k i (w .0) ∙ w .1);
-    behind = λ i j p q. g .behind i j p (past-low K e h i k j (g .writes i p .0) ∙˙ q);
-  }
-
-  -- ---- counts
 
   by-grow : (w i : ℕ) → i < length h → byWriter K (e ∷ h) w i ≡ byWriter K h w i
   unfolding byWriter

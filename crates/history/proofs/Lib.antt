@@ -1,5 +1,6 @@
 pub mod Notions
 pub mod Past
+pub mod Sounds
 pub mod Behind
 pub mod Tally
 pub mod Reached

@@ -2,7 +2,7 @@
 -- last-..: the last issue of a set. rank: an issue's count at its writer. tally: a set's counts.
 -- tally-covers: the counts of one set dominate those of another where it has all of them.
 -- Assumes nothing.
-use mathlib.Core.Path.{_≡_, refl, sym, ap, _∙_, fun-ext}
+use mathlib.Core.Path.{_≡_, refl, sym, _∙_, fun-ext}
 use mathlib.Core.Bool.{Bool, true, false, _&&_, _||_, So, and-or-distrib-right}
 use mathlib.Core.Logic.{_↔_}
 use Prim.Native.Nat.{ℕ, zero, suc, _≤_, _<_, max}
@@ -196,15 +196,6 @@ module _ (K : ℕ) (h : History) where
       split w i =
           let by = byWriter K h w i in
           rw and-or-distrib-right (when-or (s i && by) (t i && by) (rank w i))
-
-  -- Only issues of the history count.
-  pub tally-same : (s t : Items) → ((i : ℕ) → i < length h → s i ≡ t i) → tally s ≡ tally t
-  unfolding tally
-  tally-same s t f =
-      fun-ext (λ w.
-      let by = byWriter K h w in
-      ap (λ n. countBelow n by)
-      (last-same (λ j. s j && by j) (λ j. t j && by j) (λ j l. rw (f j l))))
 
   -- No count is larger than the number of issues by that writer.
   pub tally-total : (s : Items) (w : ℕ) → tally s w ≤ countBelow (length h) (byWriter K h w)

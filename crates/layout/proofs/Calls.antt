@@ -9,10 +9,10 @@ use native.Mathlib.Omega.{arith}
 use lib.Dec.{eqb}
 use Rattle.model.specs.Store.{Store}
 use Rattle.model.specs.Outcome.{Outcome, refused, refuse, unless}
+use Rattle.model.proofs.Outcomes.{no-lack}
 use Rattle.layout.specs.Reading.{storeOf}
 use Rattle.layout.specs.Buffer.{inForm}
 use Rattle.layout.specs.Calls.{onStore}
-use Rattle.layout.proofs.Kept.{no-lack}
 
 abbrev pub causeOn : List ℕ → (Store → ℕ) → ℕ
 causeOn l cause = refuse (not (inForm l)) 1 (cause (storeOf l))

@@ -2,19 +2,20 @@
 -- fit-..: of a part, and of a store with one part changed.
 -- Assumes nothing.
 use mathlib.Core.Path.{_≡_, refl, ap, _∙_, fun-ext}
-use mathlib.Core.Bool.{Bool, true, false, cond}
+use mathlib.Core.Bool.{Bool, cond}
 use mathlib.Core.Logic.{_⊎_, inl, inr, ⊎-elim}
 use Prim.Native.Nat.{ℕ, _≤_, _<_}
 use native.Mathlib.Omega.{arith}
-use native.Mathlib.Decide.{ℕ-discrete}
 use Rattle.words.specs.Lists.{putAt}
+use Rattle.words.proofs.Bools.{test}
 use Rattle.words.proofs.Tests.{below-or-not}
-use Rattle.words.proofs.Lists.{putAt-same, putAt-other}
+use Rattle.words.proofs.Lists.{putAt-other, putAt-cases}
 use Rattle.clock.specs.Clock.{Clock, join}
 use Rattle.sizes.specs.declared.Counts.{Counts}
 use Rattle.model.specs.Algebra.{Place}
-use Rattle.model.specs.Version.{Version, unheld, held, larger, merge}
+use Rattle.model.specs.Version.{Version, unheld, larger, merge}
 use Rattle.model.specs.Store.{Writer, Run, Site, Store, emptyPlace, freeRun, fresh, withLast, withMaster, withSites, withCache, withWriter, withRun}
+use Rattle.model.proofs.Merges.{merge-cases, merge-idem}
 use Rattle.layout.proofs.Codec.{FitMany}
 use Rattle.layout.proofs.Parts.{FitPast, FitVersion, FitPlace, FitSites, FitWriter, FitRun}
 use Rattle.layout.proofs.Whole.{FitStore}
@@ -56,10 +57,7 @@ fresh-fits z = record {
 pub fit-put : {A : Type 0} {n : ℕ} {x : A} {Fit : A → Type 0} (f : ℕ → A) (i : ℕ) (a : A)
     → FitMany n x Fit f → i < n → Fit a → FitMany n x Fit (putAt f i a)
 fit-put {A} {n} {x} {Fit} f i a F h G = record {
-  each = λ j k. elim (ℕ-discrete j i) [
-    | yes e ↦ rw (e, putAt-same f i a) G
-    | no e ↦ rw (putAt-other f i a j e) (F .each j k)
-  ];
+  each = λ j k. putAt-cases Fit f i a j (λ _. G) (λ _. F .each j k);
   rest = λ j k. putAt-other f i a j (λ e. omega arith) ∙ F .rest j k;
 }
 
@@ -67,18 +65,9 @@ fit-put {A} {n} {x} {Fit} f i a F h G = record {
 pub fit-choice : (z : Counts) (b : ℕ → Bool) (p q : Place Version) → FitPlace z p → FitPlace z q
     → FitPlace z (λ k. cond (b k) (p k) (q k))
 fit-choice z b p q F G = record {
-  each = λ k h. each (b k) (F .each k h) (G .each k h);
-  rest = λ k h. rest (b k) (F .rest k h) (G .rest k h);
+  each = λ k h. test (b k) (λ t. rw t (F .each k h)) (λ t. rw t (G .each k h));
+  rest = λ k h. test (b k) (λ t. rw t (F .rest k h)) (λ t. rw t (G .rest k h));
 }
-  where
-    each : {x y : Version} (c : Bool) → FitVersion z x → FitVersion z y
-        → FitVersion z (cond c x y)
-    each true f g = f
-    each false f g = g
-
-    rest : {x y w : Version} (c : Bool) → x ≡ w → y ≡ w → cond c x y ≡ w
-    rest true f g = f
-    rest false f g = g
 
 fit-larger : (z : Counts) (a b : Version) → FitVersion z a → FitVersion z b
     → FitVersion z (larger a b)
@@ -95,21 +84,15 @@ fit-larger z a b F G = record {
 
 pub fit-merge : (z : Counts) (a b : Version) → FitVersion z a → FitVersion z b
     → FitVersion z (merge a b)
-unfolding merge
-fit-merge z a b F G = go (held a) (held b)
-  where
-    go : (x y : Bool) → FitVersion z (cond x (cond y (larger a b) a) b)
-    go true true = fit-larger z a b F G
-    go true false = F
-    go false y = G
+fit-merge z a b F G =
+    merge-cases (FitVersion z) a b (λ _ _. fit-larger z a b F G) (λ _ _. F) (λ _. G)
 
 -- Two places merged.
 pub fit-merged : (z : Counts) (p q : Place Version) → FitPlace z p → FitPlace z q
     → FitPlace z (λ k. merge (p k) (q k))
-unfolding merge held
 fit-merged z p q F G = record {
   each = λ k h. fit-merge z (p k) (q k) (F .each k h) (G .each k h);
-  rest = λ k h. rw (F .rest k h, G .rest k h) refl;
+  rest = λ k h. rw (F .rest k h, G .rest k h) (merge-idem unheld);
 }
 
 -- A past is zero outside of the counts, and fits if it is.

@@ -1,5 +1,5 @@
 -- A buffer follows a machine on stores.
--- nextStore: the store after an outcome. Fine: a store that a buffer in form can hold.
+-- Fine: a store that a buffer in form can hold.
 -- fine-..: what a call does to a buffer with a fine store in it.
 -- Assumes nothing.
 use mathlib.Core.Path.{_≡_, refl}
@@ -12,17 +12,12 @@ use Rattle.model.specs.Store.{Store}
 use Rattle.model.specs.Form.{wellFormed}
 use Rattle.model.specs.Outcome.{Outcome, refused, broken, done}
 use Rattle.model.specs.Calls.{StoreCall, ruleOf}
+use Rattle.model.proofs.Outcomes.{nextStore}
 use Rattle.layout.specs.Reading.{storeOf}
 use Rattle.layout.specs.Buffer.{written, shaped, inForm}
 use Rattle.layout.specs.Calls.{on, onStore, callOn, leaves}
 use Rattle.layout.proofs.Shapes.{shaped-out}
 use Rattle.layout.proofs.Whole.{FitStore, store-fits, store-back, written-shaped, written-twice}
-
--- The store after a call.
-unfoldable pub nextStore : Outcome → Store → Store
-nextStore (refused n) s = s
-nextStore (broken m t) s = t
-nextStore (done a t) s = t
 
 -- Nothing outside of the counts, which are in range, and well formed.
 pub record Fine (s : Store) : Type 0 where
@@ -44,7 +39,7 @@ fine-rule c s l F = rw (fine-form s l F, store-back s l (F .fits))
 
 left : (x : Outcome) (s : Store) (l : List ℕ) → nextStore x s .counts ≡ s .counts
     → leaves x (written s l) ≡ written (nextStore x s) l
-unfolding leaves nextStore
+unfolding leaves
 left (refused n) s l e = refl
 left (broken m t) s l e = written-twice s t l e
 left (done a t) s l e = written-twice s t l e

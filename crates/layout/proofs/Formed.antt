@@ -4,22 +4,21 @@
 -- Assumes nothing.
 use mathlib.Core.Path.{_≡_, refl}
 use mathlib.Core.Bool.{Bool, false, cond, not, So, _&&_}
-use Prim.Native.Nat.{ℕ, _<_, max}
-use native.Mathlib.Omega.{arith}
-use native.Mathlib.Decide.{ℕ-discrete}
+use Prim.Native.Nat.{ℕ, _<_}
 use lib.Dec.{leb}
 use Rattle.words.specs.Tests.{allBelow}
 use Rattle.words.specs.Lists.{putAt}
-use Rattle.words.proofs.Bools.{test, and-intro, and-left, and-right, not-intro, leb-le, le-leb}
+use Rattle.words.proofs.Bools.{test, and-intro, and-left, and-right, not-intro}
 use Rattle.words.proofs.Tests.{all-intro, all-at, any-no}
-use Rattle.words.proofs.Lists.{putAt-same, putAt-other}
-use Rattle.clock.specs.Clock.{Clock, present, join}
-use Rattle.clock.proofs.Order.{present-some, present-intro}
+use Rattle.words.proofs.Lists.{putAt-cases}
+use Rattle.clock.specs.Clock.{present}
+use Rattle.clock.proofs.Order.{present-mono}
 use Rattle.sizes.specs.declared.Counts.{Counts}
 use Rattle.model.specs.Algebra.{Place}
-use Rattle.model.specs.Version.{Version, unheld, zeroPast, held, larger, merge}
+use Rattle.model.specs.Version.{Version, unheld, zeroPast, held, merge}
 use Rattle.model.specs.Store.{Writer, Run, Site, Store, emptyPlace, withLast, withMaster, withSites, withCache, withWriter, withRun}
 use Rattle.model.specs.Form.{zeroRows, versionFormed, placeFormed, runFormed, wellFormed}
+use Rattle.model.proofs.Merges.{merge-unheld-left, merge-held-left, merge-left}
 
 -- ---- versions
 
@@ -52,41 +51,16 @@ pub version-row : (z : Counts) (k : ℕ) (v : Version) → VersionFormed z k v �
 unfolding versionFormed
 version-row z k v F h = rw h at F
 
--- The larger of two is held, and present, if one of them is.
-larger-held : (a b : Version) → So (held a) → So (held (larger a b))
-unfolding held larger
-larger-held a b h = le-leb 1 (max (a .issue) (b .issue)) (omega (arith, leb-le 1 (a .issue) h))
-
-join-present-left : (W : ℕ) (p q : Clock) → So (present W p) → So (present W (join p q))
-unfolding join
-join-present-left W p q s =
-    let r = present-some W p s in
-    present-intro W (join p q) (r .0) (r .1) (omega (arith, r .2))
-
-version-larger : (z : Counts) (k : ℕ) (a b : Version) → VersionFormed z k a → So (held a)
-    → VersionFormed z k (larger a b)
-unfolding larger
-version-larger z k a b F h =
-    version-held z k (larger a b) (larger-held a b h)
-    (join-present-left (z .writers) (a .past k) (b .past k) (version-row z k a F h))
-
 pub version-merge : (z : Counts) (k : ℕ) (a b : Version)
     → VersionFormed z k a → VersionFormed z k b → VersionFormed z k (merge a b)
-unfolding merge
 version-merge z k a b F G =
+    let W = z .writers in
     test (held a)
-    (λ h. test (held b) (λ i. rw (h, i) (version-larger z k a b F h)) (λ i. rw (h, i) F))
-    (λ h. rw h G)
-
-pub merge-held-left : (a b : Version) → So (held a) → So (held (merge a b))
-unfolding merge
-merge-held-left a b h =
-    test (held b) (λ i. rw (h, i) (larger-held a b h)) (λ i. rw (h, i) h)
-
-pub merge-held-right : (a b : Version) → So (held b) → So (held (merge a b))
-unfolding merge
-merge-held-right a b h =
-    test (held a) (λ i. rw (i, h) (larger-held a b i)) (λ i. rw i h)
+    (λ h.
+    let row = version-row z k a F h in
+    version-held z k (merge a b) (merge-held-left a b h)
+    (present-mono W (merge a b .past k) (a .past k) (merge-left W k a b h) row))
+    (λ n. rw (merge-unheld-left a b n) G)
 
 -- ---- places
 
@@ -141,15 +115,6 @@ well-in s F =
     (λ o h. place-in z (s .site o .cache) (F .cache o h)))
     (all-intro (z .runs) (λ r. runFormed z (s .run r)) (F .run)))
 
--- A changed function, where what stood there and what is put there is as asked.
-pub at-put : {A : Type 0} (P : A → Type 0) (n : ℕ) (f : ℕ → A) (i : ℕ) (a : A)
-    → ((j : ℕ) → j < n → P (f j)) → P a → (j : ℕ) → j < n → P (putAt f i a j)
-at-put P n f i a F G j h =
-    elim (ℕ-discrete j i) [
-      | yes e ↦ rw (e, putAt-same f i a) G
-      | no e ↦ rw (putAt-other f i a j e) (F j h)
-    ]
-
 module _ (s : Store) (F : Formed s) where
   pub formed-last : (n : ℕ) → Formed (withLast s n)
   unfolding withLast
@@ -171,8 +136,9 @@ module _ (s : Store) (F : Formed s) where
   formed-cache o p G =
       let z = s .counts in
       let x : Site = record { cache = p } in
-      formed-sites (putAt (s .site) o x)
-      (at-put (λ (x : Site). PlaceFormed z (x .cache)) (z .sites) (s .site) o x (F .cache) G)
+      formed-sites (putAt (s .site) o x) (λ i h.
+      putAt-cases (λ (x : Site). PlaceFormed z (x .cache)) (s .site) o x i (λ _. G)
+      (λ _. F .cache i h))
 
   pub formed-writer : (w : ℕ) (x : Writer) → Formed (withWriter s w x)
   unfolding withWriter
@@ -185,5 +151,7 @@ module _ (s : Store) (F : Formed s) where
       record {
         master = F .master;
         cache = F .cache;
-        run = at-put (λ (x : Run). So (runFormed z x)) (z .runs) (s .run) r x (F .run) G;
+        run = λ i h.
+            putAt-cases (λ (x : Run). So (runFormed z x)) (s .run) r x i (λ _. G)
+            (λ _. F .run i h);
       }

@@ -1,31 +1,30 @@
 -- What every rule keeps: a fine store stays fine, with the same counts.
--- Kept: of an outcome. no-cause, no-lack: what a cause of 0 says.
+-- Kept: of an outcome. kept-..: by how a rule ends.
 -- look-kept, drop-kept, fetch-kept, evict-kept: of these rules.
 -- Assumes nothing.
 use mathlib.Core.Path.{_≡_, refl}
-use mathlib.Core.Bool.{Bool, true, false, not, So}
 use mathlib.Core.List.{List}
 use Prim.Native.Nat.{ℕ, _<_}
 use native.Mathlib.Omega.{arith}
-use lib.Dec.{eqb}
 use Rattle.words.specs.Tests.{Items, only}
-use Rattle.words.proofs.Bools.{test, leb-gt, eqb-eq}
+use Rattle.words.proofs.Bools.{leb-gt}
 use Rattle.sizes.specs.declared.Counts.{Counts}
 use Rattle.sizes.specs.Bounds.{Ranged}
 use Rattle.model.specs.Algebra.{Place}
 use Rattle.model.specs.Version.{Version, versions}
 use Rattle.model.specs.Sets.{fetchSet, fetched, evictSet, evicted}
 use Rattle.model.specs.Store.{Store, emptyPlace, freeRun, fresh, withSites, withCache, withRun}
-use Rattle.model.specs.Outcome.{Outcome, refused, broken, done, refuse, unless}
+use Rattle.model.specs.Outcome.{Outcome, refused, broken, done, unless}
 use Rattle.model.specs.Caches.{fetchCause, fetchDone, fetchRule, evictCause, evictDone, evictRule}
 use Rattle.model.specs.Runs.{dropCause, dropDone, dropRule}
 use Rattle.model.specs.Look.{lookCause, lookDone, lookRule}
+use Rattle.model.proofs.Outcomes.{no-cause, unless-cases, nextStore}
 use Rattle.layout.proofs.Parts.{FitPlace}
 use Rattle.layout.proofs.Whole.{FitStore}
 use Rattle.layout.proofs.Fit.{fit-empty, fit-free, fit-choice, fit-cache, fit-run, fresh-fits}
 use Rattle.layout.proofs.Formed.{PlaceFormed, formed-empty, formed-choice, Formed, well-out, well-in, formed-cache, formed-run}
 use Rattle.layout.proofs.Plans.{free-formed}
-use Rattle.layout.proofs.Follow.{nextStore, Fine}
+use Rattle.layout.proofs.Follow.{Fine}
 
 pub record Kept (s : Store) (x : Outcome) : Type 0 where
   pub fine : Fine (nextStore x s)
@@ -34,7 +33,6 @@ pub record Kept (s : Store) (x : Outcome) : Type 0 where
 -- ---- outcomes
 
 pub kept-refused : (s : Store) (n : ℕ) → Fine s → Kept s (refused n)
-unfolding nextStore
 kept-refused s n F = record { fine = F; counts = refl }
 
 -- A next store with the counts of a fine one.
@@ -43,31 +41,15 @@ fine-next s t F G H e = record { fits = G; counts = rw e (F .counts); formed = w
 
 pub kept-done : (s t : Store) (a : List ℕ) → Fine s → FitStore t → Formed t
     → t .counts ≡ s .counts → Kept s (done a t)
-unfolding nextStore
 kept-done s t a F G H e = record { fine = fine-next s t F G H e; counts = e }
 
 pub kept-broken : (s t : Store) (m : ℕ) → Fine s → FitStore t → Formed t
     → t .counts ≡ s .counts → Kept s (broken m t)
-unfolding nextStore
 kept-broken s t m F G H e = record { fine = fine-next s t F G H e; counts = e }
 
 pub kept-unless : (s : Store) (n : ℕ) (x : Outcome) → Fine s → (n ≡ 0 → Kept s x)
     → Kept s (unless n x)
-unfolding unless
-kept-unless s n x F f =
-    test (eqb n 0) (λ t. rw t (f (eqb-eq n 0 t))) (λ t. rw t (kept-refused s n F))
-
--- The first of a row of causes does not hold, and the others are left.
-pub no-cause : (b : Bool) (n m : ℕ) → 0 < n → refuse b n m ≡ 0 → (b ≡ false) × (m ≡ 0)
-unfolding refuse
-no-cause true n m h e = absurd (omega arith)
-no-cause false n m h e = (refl, e)
-
--- The same for a cause that something is lacking.
-pub no-lack : (b : Bool) (n m : ℕ) → 0 < n → refuse (not b) n m ≡ 0 → So b × (m ≡ 0)
-unfolding refuse
-no-lack true n m h e = (refl, e)
-no-lack false n m h e = absurd (omega arith)
+kept-unless s n x F f = unless-cases (Kept s) n x f (λ _. kept-refused s n F)
 
 -- ---- a fresh store
 

@@ -16,13 +16,14 @@ use Rattle.clock.proofs.Order.{present-intro}
 use Rattle.model.specs.Version.{held}
 use Rattle.model.specs.Store.{Run, Writer, Store, freeRun, withLast, withMaster, withWriter, withRun}
 use Rattle.model.specs.Issue.{issueCause, takenIn, newPast, newVersion, issuedMaster, issuedWriter, issueSaved, issueDone, issueRule}
+use Rattle.model.proofs.Outcomes.{no-cause}
 use Rattle.layout.proofs.Parts.{FitPast, FitVersion, FitPlace}
 use Rattle.layout.proofs.Whole.{FitStore}
 use Rattle.layout.proofs.Fit.{fit-free, fit-merge, past-out, past-in, place-fit, fit-last, fit-master, fit-writer, fit-run}
 use Rattle.layout.proofs.Formed.{PlaceFormed, VersionFormed, version-held, version-merge, Formed, well-out, formed-last, formed-master, formed-writer, formed-run}
 use Rattle.layout.proofs.Plans.{free-formed}
 use Rattle.layout.proofs.Follow.{Fine}
-use Rattle.layout.proofs.Kept.{Kept, kept-done, kept-unless, no-cause}
+use Rattle.layout.proofs.Kept.{Kept, kept-done, kept-unless}
 
 -- Where all pasts are zero, so is what is taken in.
 taken-zero : (K : ℕ) (past : ℕ → Clock) (a : Run) (d u : ℕ) → past d u ≡ 0

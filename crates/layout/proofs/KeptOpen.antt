@@ -20,13 +20,14 @@ use Rattle.model.specs.Version.{held}
 use Rattle.model.specs.Store.{Store, noJob, withRun}
 use Rattle.model.specs.Form.{validJob, runFormed}
 use Rattle.model.specs.Runs.{listedJob, listedCount, listedJobs, listValid, openCause, openedRun, openDone, openRule}
+use Rattle.model.proofs.Outcomes.{no-cause, no-lack}
+use Rattle.model.proofs.DoneReads.{doneReads-none}
 use Rattle.layout.proofs.Parts.{FitRun}
 use Rattle.layout.proofs.Fit.{fit-empty, fit-run}
 use Rattle.layout.proofs.Formed.{formed-empty, well-out, formed-run}
 use Rattle.layout.proofs.Plans.{zero-job, plan-in}
-use Rattle.layout.proofs.DoneReads.{none-read}
 use Rattle.layout.proofs.Follow.{Fine}
-use Rattle.layout.proofs.Kept.{Kept, kept-done, kept-unless, no-cause, no-lack}
+use Rattle.layout.proofs.Kept.{Kept, kept-done, kept-unless}
 
 -- A list of jobs that is accepted.
 record Listed (z : Counts) (l : List ℕ) : Type 0 where
@@ -77,7 +78,7 @@ opened-formed z l L = plan-in z (openedRun l) (omega arith) (record {
   };
   masks = record {
     low = pow-pos (listedCount l);
-    reads = sym (none-read (z .keys) (listedCount l) (listedJobs l));
+    reads = sym (doneReads-none (z .keys) (listedCount l) (listedJobs l));
   };
   snapshot = record {
     place = formed-empty z;

@@ -1,10 +1,11 @@
 -- Prepare keeps a store fine.
 -- Caches: caches that fit and are formed. merged-..: the snapshot that they are merged into.
--- Ready: no cause of a refusal holds. was, unread: the run before it, with no key read.
+-- Accepted: what a prepare that is not refused has passed. was, unread: the run before it, with no
+-- key read.
 -- Assumes nothing.
 use mathlib.Core.Path.{_≡_, refl, ap, _∙_}
 use mathlib.Core.Bool.{Bool, true, false, cond, So, _&&_}
-use Prim.Native.Nat.{ℕ, zero, suc, _≤_, _<_}
+use Prim.Native.Nat.{ℕ, _≤_, _<_}
 use native.Mathlib.Omega.{arith}
 use Rattle.words.specs.Tests.{Items}
 use Rattle.words.proofs.Bools.{test, clash, leb-gt, eqb-eq}
@@ -19,14 +20,16 @@ use Rattle.model.specs.Store.{Job, Run, Site, Store, emptyPlace, planned, withS
 use Rattle.model.specs.Form.{runFormed}
 use Rattle.model.specs.Outcome.{allowed, prepareRow}
 use Rattle.model.specs.Prepare.{jobStart, fetchReads, preparedCaches, usesSite, sitesMerged, siteCaches, prepareCause, prepareCaches, prepareSnapshot, prepareDone, prepareRule}
+use Rattle.model.proofs.Merges.{merge-idem}
+use Rattle.model.proofs.Outcomes.{no-cause, no-lack, allowed-used}
+use Rattle.model.proofs.DoneReads.{doneReads-none}
 use Rattle.layout.proofs.Codec.{FitMany}
 use Rattle.layout.proofs.Parts.{FitVersion, FitPlace, FitSites, FitRun}
 use Rattle.layout.proofs.Fit.{fit-unheld, fit-put, fit-merge, fit-sites, fit-run}
 use Rattle.layout.proofs.Formed.{VersionFormed, version-unheld, version-merge, PlaceFormed, well-out, formed-sites, formed-run}
 use Rattle.layout.proofs.Plans.{valid-out, Jobs, Plan, plan-out, plan-in}
-use Rattle.layout.proofs.DoneReads.{none-read}
 use Rattle.layout.proofs.Follow.{Fine}
-use Rattle.layout.proofs.Kept.{Kept, kept-done, kept-unless, no-cause, no-lack, fetched-fits, fetched-formed}
+use Rattle.layout.proofs.Kept.{Kept, kept-done, kept-unless, fetched-fits, fetched-formed}
 
 -- ---- the caches
 
@@ -74,13 +77,9 @@ prepared z master job n cache M J C =
 
 -- ---- the snapshot
 
-unheld-merge : (a b : Version) → a ≡ unheld → b ≡ unheld → merge a b ≡ unheld
-unfolding merge held
-unheld-merge a b e f = rw (e, f)
-
-unheld-not : held unheld ≡ false
+held-unheld : held unheld ≡ false
 unfolding held
-unheld-not = refl
+held-unheld = refl
 
 module _ (z : Counts) (sites plan : Items) (cache : ℕ → Place Version) (C : Caches z cache) where
   merged : Place Version
@@ -106,7 +105,7 @@ module _ (z : Counts) (sites plan : Items) (cache : ℕ → Place Version) (C : 
     each = λ k h. merged-all (FitVersion z) k (fit-unheld z)
         (λ o v l _ F. fit-merge z v (cache o k) F (C .each o l .fits .each k h));
     rest = λ k h. merged-all (λ (v : Version). v ≡ unheld) k refl
-        (λ o v l _ e. unheld-merge v (cache o k) e (C .each o l .fits .rest k h));
+        (λ o v l _ e. rw (e, C .each o l .fits .rest k h) (merge-idem unheld));
   }
 
   merged-formed : PlaceFormed z merged
@@ -117,37 +116,31 @@ module _ (z : Counts) (sites plan : Items) (cache : ℕ → Place Version) (C : 
   merged-planned : (k : ℕ) → So (held (merged k)) → So (plan k)
   merged-planned k p =
       test (plan k) (λ t. t)
-      (λ t. clash p (merged-all (λ (v : Version). held v ≡ false) k unheld-not
+      (λ t. clash p (merged-all (λ (v : Version). held v ≡ false) k held-unheld
       (λ o v _ q _. clash q t)))
 
 -- ---- prepare of run r, with no job done
 
-pub record Ready (s : Store) (r : ℕ) : Type 0 where
+pub record Accepted (s : Store) (r : ℕ) : Type 0 where
   pub run : r < s .counts .runs
   pub state : 1 ≤ s .run r .state
   pub done : s .run r .done ≡ 0
 
--- Only an open run may be prepared.
-open-state : (n : ℕ) → So (allowed prepareRow n) → 1 ≤ n
-unfolding allowed
-open-state zero p = clash p refl
-open-state (suc n) p = omega arith
-
-pub ready : (s : Store) (r : ℕ) → prepareCause s r ≡ 0 → Ready s r
-unfolding prepareCause
-ready s r e =
+pub accepted : (s : Store) (r : ℕ) → prepareCause s r ≡ 0 → Accepted s r
+unfolding prepareCause allowed
+accepted s r e =
     let a = no-cause _ 3 _ (omega arith) e in
     let b = no-lack _ 4 _ (omega arith) (a .1) in
     let c = no-lack _ 6 _ (omega arith) (b .1) in
     record {
       run = leb-gt _ _ (a .0);
-      state = open-state (s .run r .state) (b .0);
+      state = allowed-used prepareRow (s .run r .state) refl (b .0);
       done = eqb-eq (s .run r .done) 0 (c .0);
     }
 
-module _ (s : Store) (r : ℕ) (F : Fine s) (R : Ready s r) where
+module _ (s : Store) (r : ℕ) (F : Fine s) (A : Accepted s r) where
   pub was : Plan (s .counts) (s .run r)
-  was = plan-out (s .counts) (s .run r) (R .state) (well-out s (F .formed) .run r (R .run))
+  was = plan-out (s .counts) (s .run r) (A .state) (well-out s (F .formed) .run r (A .run))
 
   caches : Caches (s .counts) (prepareCaches s r)
   unfolding prepareCaches
@@ -170,7 +163,7 @@ module _ (s : Store) (r : ℕ) (F : Fine s) (R : Ready s r) where
       let a = s .run r in
       let K = s .counts .keys in
       let e : a .read ≡ 0 =
-      was .masks .reads ∙ rw (R .done) (none-read K (a .jobs) (a .job)) in
+      was .masks .reads ∙ rw (A .done) (doneReads-none K (a .jobs) (a .job)) in
       rw e (test-none k)
 
   after : Run
@@ -182,7 +175,7 @@ module _ (s : Store) (r : ℕ) (F : Fine s) (R : Ready s r) where
       let z = s .counts in
       let a = s .run r in
       record {
-        job = F .fits .run .each r (R .run) .job;
+        job = F .fits .run .each r (A .run) .job;
         snapshot = merged-fits z (usesSite (a .jobs) (a .job)) (planned (a .jobs) (a .job))
             (prepareCaches s r) caches;
       }
@@ -194,7 +187,7 @@ module _ (s : Store) (r : ℕ) (F : Fine s) (R : Ready s r) where
       let a = s .run r in
       let sites = usesSite (a .jobs) (a .job) in
       let plan = planned (a .jobs) (a .job) in
-      plan-in z after (R .state) (record {
+      plan-in z after (A .state) (record {
         state = was .state;
         jobs = was .jobs;
         masks = was .masks;
@@ -212,10 +205,10 @@ module _ (s : Store) (r : ℕ) (F : Fine s) (R : Ready s r) where
       let s₁ = withSites s f in
       let f₁ = fit-sites s (F .fits) f sites-fit in
       let g₁ = formed-sites s (well-out s (F .formed)) f (λ o h. caches .each o h .formed) in
-      kept-done s (withRun s₁ r after) _ F (fit-run s₁ f₁ r after (R .run) after-fits)
+      kept-done s (withRun s₁ r after) _ F (fit-run s₁ f₁ r after (A .run) after-fits)
       (formed-run s₁ g₁ r after after-formed) refl
 
 pub prepare-kept : (r : ℕ) (s : Store) → Fine s → Kept s (prepareRule r s)
 unfolding prepareRule
 prepare-kept r s F =
-    kept-unless s (prepareCause s r) (prepareDone s r) F (λ e. done-kept s r F (ready s r e))
+    kept-unless s (prepareCause s r) (prepareDone s r) F (λ e. done-kept s r F (accepted s r e))

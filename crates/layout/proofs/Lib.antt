@@ -10,13 +10,10 @@ pub mod Merges
 pub mod Readings
 pub mod Formed
 pub mod Plans
-pub mod DoneReads
-pub mod Draws
 pub mod Follow
 pub mod Kept
 pub mod KeptOpen
 pub mod KeptPrepare
-pub mod Stepping
 pub mod KeptStep
 pub mod KeptIssue
 pub mod Rules

@@ -1,5 +1,6 @@
 -- The merge of two versions, word by word.
--- put-table: the stores of a loop as one store. unheld-is, merge-larger: where merge is `larger`.
+-- put-table: the stores of a loop as one store. unheld-is, formed-blank, merge-larger: where merge
+-- is `larger`.
 -- larger-version: the larger words are the larger version.
 -- Assumes nothing.
 use mathlib.Core.Path.{_≡_, refl, sym, ap, ap₂, _∙_, fun-ext}
@@ -16,7 +17,7 @@ use Rattle.words.specs.Tests.{Items}
 use Rattle.words.specs.Numbers.{foldBelow}
 use Rattle.words.specs.Words.{put}
 use Rattle.words.specs.Lists.{blocks, window}
-use Rattle.words.proofs.Bools.{test, not-elim, leb-gt}
+use Rattle.words.proofs.Bools.{not-elim}
 use Rattle.words.proofs.Tests.{below-or-not, all-at}
 use Rattle.words.proofs.Lists.{blocks-ext, window-add, length-window}
 use Rattle.clock.specs.Clock.{Clock, join, present}
@@ -25,6 +26,7 @@ use Rattle.sizes.specs.declared.Counts.{Counts}
 use Rattle.sizes.specs.Bounds.{versionSize, placeSize, keyAt}
 use Rattle.model.specs.Version.{Version, unheld, held, larger, merge}
 use Rattle.model.specs.Form.{zeroRows, versionFormed}
+use Rattle.model.proofs.Merges.{version-path, unheld-issue, Blank, merge-larger as blank-larger}
 use Rattle.layout.specs.Words.{clockWords, pastWords, versionWords}
 use Rattle.layout.specs.Reading.{readVersion, readPlace}
 use Rattle.layout.proofs.Parts.{FitVersion, clock-laws, version-laws}
@@ -140,11 +142,9 @@ larger-version z l a b =
 -- A version of zero words is unheld,
 pub unheld-is : (z : Counts) (v : Version) → FitVersion z v → held v ≡ false → So (zeroRows z v)
     → v ≡ unheld
-unfolding held zeroRows
+unfolding zeroRows
 unheld-is z v F h r =
-    let i : v .issue ≡ 0 = omega (arith, leb-gt 1 (v .issue) h) in
-    let p : v .past ≡ (λ d w. 0) = fun-ext (λ d. fun-ext (λ w. zero-at d w)) in
-    λ t. record { issue = i t; past = p t }
+    version-path (unheld-issue v h) (fun-ext (λ d. fun-ext (λ w. zero-at d w)))
   where
     row : (d : ℕ) → d < z .keys → present (z .writers) (v .past d) ≡ false
     row d l = not-elim (all-at (z .keys) (λ d. not (present (z .writers) (v .past d))) r d l)
@@ -155,36 +155,16 @@ unheld-is z v F h r =
         (λ k. past-out z (v .past) (F .past) d w (inr k)) (below-or-not w (z .writers)))
         (λ l. past-out z (v .past) (F .past) d w (inl l)) (below-or-not d (z .keys))
 
-larger-left : (b : Version) → larger unheld b ≡ b
-unfolding larger join
-larger-left b = same (omega arith) (fun-ext (λ d. fun-ext (λ w. omega arith)))
-  where
-    same : max 0 (b .issue) ≡ b .issue → (λ d w. max 0 (b .past d w)) ≡ b .past
-        → larger unheld b ≡ b
-    same p q = λ i. record { issue = p i; past = q i }
-
-larger-right : (a : Version) → larger a unheld ≡ a
-unfolding larger join
-larger-right a = same (omega arith) (fun-ext (λ d. fun-ext (λ w. omega arith)))
-  where
-    same : max (a .issue) 0 ≡ a .issue → (λ d w. max (a .past d w) 0) ≡ a .past
-        → larger a unheld ≡ a
-    same p q = λ i. record { issue = p i; past = q i }
+pub formed-blank : (z : Counts) (k : ℕ) (v : Version) → FitVersion z v → VersionFormed z k v
+    → Blank v
+unfolding versionFormed
+formed-blank z k v F f h = unheld-is z v F h (rw h at f)
 
 -- so with a side not held the larger version is the other one.
 pub merge-larger : (z : Counts) (k : ℕ) (a b : Version) → FitVersion z a → FitVersion z b
     → VersionFormed z k a → VersionFormed z k b → merge a b ≡ larger a b
-unfolding merge versionFormed
 merge-larger z k a b F G f g =
-    test (held a)
-    (λ h. test (held b) (λ i. rw (h, i)) (λ i. rw (h, i) (right i)))
-    (λ h. rw h (left h))
-  where
-    left : held a ≡ false → b ≡ larger a b
-    left h = let e = unheld-is z a F h (rw h at f) in rw e (sym (larger-left b))
-
-    right : held b ≡ false → a ≡ larger a b
-    right h = let e = unheld-is z b G h (rw h at g) in rw e (sym (larger-right a))
+    blank-larger a b (formed-blank z k a F f) (formed-blank z k b G g)
 
 -- ---- places
 

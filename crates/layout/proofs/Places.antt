@@ -1,13 +1,12 @@
 -- A place written at an index of a buffer, key by key.
 -- place-..: the whole place. key-..: one key of it. place-run: a loop over keys.
 -- Assumes nothing.
-use mathlib.Core.Path.{_≡_, refl, sym, ap, _∙_, fun-ext}
+use mathlib.Core.Path.{_≡_, refl, sym, ap, _∙_}
 use mathlib.Core.Bool.{Bool, true, false, cond}
 use mathlib.Core.Logic.{_⊎_, inl, inr, ⊎-elim}
 use mathlib.Core.List.{List}
 use Prim.Native.Nat.{ℕ, zero, suc, _+_, _*_, _≤_, _<_}
 use native.Mathlib.Nat.{not-suc-le-zero}
-use native.Mathlib.Decide.{ℕ-discrete}
 use native.Mathlib.Omega.{arith}
 use lib.ListN.{length}
 use lib.Seq.{sets, length-sets}
@@ -15,7 +14,7 @@ use Rattle.words.specs.Tests.{Items}
 use Rattle.words.specs.Numbers.{foldBelow}
 use Rattle.words.specs.Lists.{putAt}
 use Rattle.words.proofs.Tests.{below-cases}
-use Rattle.words.proofs.Lists.{upto-in, putAt-same, putAt-other, blocks-ext}
+use Rattle.words.proofs.Lists.{upto-in, putAt-same, putAt-other, putAt-itself, blocks-ext}
 use Rattle.words.proofs.Slots.{slot-end}
 use Rattle.sizes.specs.declared.Counts.{Counts}
 use Rattle.sizes.specs.Bounds.{versionSize, placeSize, keyAt}
@@ -82,12 +81,6 @@ place-key z l at p k v h i =
     part-twice (place-laws z) l at (k * versionSize z) (versionWords z v) p (putAt p k v) h
     (key-room z k v i) (key-stored z p k v i)
 
-put-itself : (p : Place Version) (k : ℕ) → putAt p k (p k) ≡ p
-put-itself p k = fun-ext (λ j. elim (ℕ-discrete j k) [
-  | yes e ↦ rw e (putAt-same p k (p k))
-  | no e ↦ putAt-other p k (p k) j e
-])
-
 -- A key of a place that was just written, and of a place beside it.
 pub key-back : (z : Counts) (l : List ℕ) (at : ℕ) (p : Place Version) (k : ℕ)
     → at + placeSize z ≤ length l → FitVersion z (p k) → k < z .keys
@@ -96,7 +89,7 @@ key-back z l at p k h F i =
     let m = putPlace z l at p in
     let long = place-long z l at p in
     let again : putVersion z m (keyAt z at k) (p k) ≡ m =
-    place-key z l at p k (p k) h i ∙ ap (putPlace z l at) (put-itself p k) in
+    place-key z l at p k (p k) h i ∙ ap (putPlace z l at) (putAt-itself p k) in
     ap (λ (m : List ℕ). readVersion z m (keyAt z at k)) (sym again)
     ∙ part-back (version-laws z) m (keyAt z at k) (p k) F
     (omega (arith, key-lies z at k i .ends, long))

@@ -1,16 +1,18 @@
 -- Laws of the form of a run.
 -- Valid: a valid job. Plan: the form of a run that isn't free, as a record; plan-out, plan-in.
+-- free-formed: a free run. read-planned: what is read is in the plan.
 -- Assumes nothing.
-use mathlib.Core.Path.{_≡_, refl}
-use mathlib.Core.Bool.{Bool, true, false, cond, not, So, _&&_}
+use mathlib.Core.Path.{_≡_, refl, ap}
+use mathlib.Core.Bool.{Bool, cond, not, So, _&&_}
 use mathlib.Core.Logic.{⊎-elim}
 use Prim.Native.Nat.{ℕ, _≤_, _<_, _^_}
 use native.Mathlib.Omega.{arith}
 use lib.Dec.{eqb, leb, ltb}
 use Rattle.words.specs.Tests.{allBelow}
-use Rattle.words.proofs.Bools.{clash, and-intro, and-left, and-right, leb-le, le-leb, ltb-lt, lt-ltb, ge-ltb, eqb-eq, eq-eqb, ne-eqb}
+use Rattle.words.proofs.Bools.{test, clash, _∙˙_, and-intro, and-left, and-right, leb-le, le-leb, ltb-lt, lt-ltb, ge-ltb, eqb-eq, eq-eqb, eqb-ne, ne-eqb}
 use Rattle.words.proofs.Tests.{below-or-not, all-intro, all-at}
 use Rattle.masks.specs.Mask.{testBit, maskBelow}
+use Rattle.masks.proofs.Bits.{test-none}
 use Rattle.sizes.specs.declared.Counts.{Counts}
 use Rattle.sizes.specs.Bounds.{maxJobs, between}
 use Rattle.sizes.proofs.Offsets.{between-out, between-in}
@@ -18,17 +20,8 @@ use Rattle.model.specs.Algebra.{Place, implies}
 use Rattle.model.specs.Version.{Version, unheld, held}
 use Rattle.model.specs.Store.{Job, Run, freeRun, noJob, planned, doneReads}
 use Rattle.model.specs.Form.{validJob, zeroJob, zeroRows, placeFormed, freeFormed, jobsFormed, masksFormed, snapshotFormed, runFormed}
+use Rattle.model.proofs.Cuts.{implies-in, implies-out}
 use Rattle.layout.proofs.Formed.{PlaceFormed, place-out, place-in, zero-rows}
-
--- ---- a test that asks for another
-
-implies-out : (a b : Bool) → So (implies a b) → So a → So b
-implies-out true b p q = p
-implies-out false b p q = clash q refl
-
-implies-in : (a b : Bool) → (So a → So b) → So (implies a b)
-implies-in true b f = f refl
-implies-in false b f = refl
 
 -- ---- jobs
 
@@ -188,3 +181,28 @@ unfolding runFormed freeFormed held
 free-formed z =
     and-intro (all-intro maxJobs (λ i. zeroJob noJob) (λ i h. zero-job))
     (all-intro (z .keys) (λ k. not (held unheld) && zeroRows z unheld) (λ k h. zero-rows z))
+
+-- A free run has read nothing.
+free-read : (z : Counts) (a : Run) → So (freeFormed z a) → a .read ≡ 0
+unfolding freeFormed
+free-read z a p =
+    let jobs = allBelow maxJobs (λ i. zeroJob (a .job i)) in
+    let place = allBelow (z .keys) (λ k.
+    not (held (a .snapshot k)) && zeroRows z (a .snapshot k)) in
+    let read = eqb (a .read) 0 in
+    let done = eqb (a .done) 0 in
+    eqb-eq (a .read) 0
+    (and-left read (jobs && place)
+    (and-right done (read && (jobs && place))
+    (and-right (eqb (a .jobs) 0) (done && (read && (jobs && place))) p)))
+
+-- What a run has read is among the keys of its plan.
+pub read-planned : (z : Counts) (a : Run) → So (runFormed z a) → (k : ℕ) → k < z .keys
+    → So (testBit (a .read) k) → So (planned (a .jobs) (a .job) k)
+unfolding runFormed
+read-planned z a F k l p =
+    test (eqb (a .state) 0)
+    (λ y. clash (ap (λ (m : ℕ). testBit m k) (free-read z a (rw y at F)) ∙˙ p) (test-none k))
+    (λ n. let used : 1 ≤ a .state = omega (arith, eqb-ne (a .state) 0 n) in
+    let P = plan-out z a used F in
+    P .snapshot .carried k l (P .snapshot .has k l p))

@@ -1,19 +1,22 @@
 -- Every rule keeps a store fine, and a buffer follows the store through any list of calls.
--- rule-kept: one call. new-fine, new-leaves: new. storeAfter, after-fine, follow: a list of calls.
+-- rule-kept: one call. new-..: new. storeAfter, after-fine, follow: a list of calls.
 -- Assumes nothing.
 use mathlib.Core.Path.{_≡_, refl, ap, _∙_}
+use mathlib.Core.Logic.{_≢_}
 use mathlib.Core.List.{List, [], _∷_}
 use Prim.Native.Nat.{ℕ}
 use native.Mathlib.Omega.{arith}
-use Rattle.sizes.specs.Bounds.{countsOf, ranged}
+use Rattle.sizes.specs.Bounds.{countsOf, ranged, totalOf}
+use Rattle.sizes.specs.declared.Counts.{Counts}
 use Rattle.sizes.proofs.Offsets.{ranged-out}
 use Rattle.model.specs.Store.{Store, fresh}
-use Rattle.model.specs.Outcome.{unless}
+use Rattle.model.specs.Outcome.{refused, done}
 use Rattle.model.specs.Calls.{StoreCall, openRun, fetch, evict, prepare, step, issue, dropRun, look, ruleOf}
+use Rattle.model.proofs.Outcomes.{no-lack, unless-done, unless-refused, nextStore}
 use Rattle.layout.specs.Buffer.{written}
 use Rattle.layout.specs.Calls.{Call, new, on, newCause, newOn, callOn, leaves, after}
-use Rattle.layout.proofs.Follow.{nextStore, Fine, fine-leaves}
-use Rattle.layout.proofs.Kept.{Kept, no-lack, fresh-fine, look-kept, drop-kept, fetch-kept, evict-kept}
+use Rattle.layout.proofs.Follow.{Fine, fine-leaves}
+use Rattle.layout.proofs.Kept.{Kept, fresh-fine, look-kept, drop-kept, fetch-kept, evict-kept}
 use Rattle.layout.proofs.KeptOpen.{open-kept}
 use Rattle.layout.proofs.KeptPrepare.{prepare-kept}
 use Rattle.layout.proofs.KeptStep.{step-kept}
@@ -38,10 +41,20 @@ new-fine l k w n p e =
     let z = countsOf k w n p in
     fresh-fine z (ranged-out z (no-lack (ranged z) 2 _ (omega arith) e .0))
 
+pub new-done : (l : List ℕ) (z : Counts) → newCause l z ≡ 0
+    → newOn l z ≡ done (totalOf z ∷ []) (fresh z)
+unfolding newOn
+new-done l z e = unless-done (newCause l z) _ e
+
 pub new-leaves : (l : List ℕ) (k w n p : ℕ) → newCause l (countsOf k w n p) ≡ 0
     → leaves (callOn (new k w n p) l) l ≡ written (fresh (countsOf k w n p)) l
-unfolding leaves callOn newOn unless
-new-leaves l k w n p e = rw e
+unfolding leaves callOn
+new-leaves l k w n p e = rw (new-done l (countsOf k w n p) e)
+
+pub new-refused : (l : List ℕ) (z : Counts) → newCause l z ≢ 0
+    → newOn l z ≡ refused (newCause l z)
+unfolding newOn
+new-refused l z n = unless-refused (newCause l z) _ n
 
 -- ---- lists of calls
 

@@ -1,8 +1,11 @@
+pub mod Outcomes
 pub mod Scripts
 pub mod Readings
 pub mod Computed
 pub mod Merges
 pub mod Needs
 pub mod Cuts
+pub mod Draws
 pub mod Pulls
 pub mod Steps
+pub mod DoneReads

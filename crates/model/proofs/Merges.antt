@@ -7,7 +7,7 @@ use mathlib.Core.Bool.{Bool, true, false, _||_, So}
 use mathlib.Core.Logic.{_⊎_, inl, inr, _↔_}
 use Prim.Native.Nat.{ℕ, _≤_, max}
 use native.Mathlib.Omega.{arith}
-use Rattle.words.proofs.Bools.{test, clash, leb-le, le-leb, leb-gt}
+use Rattle.words.proofs.Bools.{test, clash, or-left, or-right, leb-le, le-leb, leb-gt}
 use Rattle.clock.specs.Clock.{Clock, Dominates, present, join}
 use Rattle.clock.proofs.Order.{dominates-refl, join-left, join-right, join-least, join-comm, join-assoc, join-idem, join-present}
 use Rattle.model.specs.Version.{Version, unheld, held, larger, merge}
@@ -31,9 +31,9 @@ Blank v = held v ≡ false → v ≡ unheld
 
 -- ---- the larger of two versions
 
-larger-left : (a b : Version) → So (held a) → So (held (larger a b))
+larger-held : (a b : Version) → So (held a) → So (held (larger a b))
 unfolding larger
-larger-left a b p = held-iff (larger a b) .1 (omega (arith, held-iff a .0 p))
+larger-held a b p = held-iff (larger a b) .1 (omega (arith, held-iff a .0 p))
 
 larger-comm : (a b : Version) → larger a b ≡ larger b a
 unfolding larger
@@ -75,9 +75,15 @@ merge-cases P a b f g h =
 pub held-merge : (a b : Version) → held (merge a b) ≡ held a || held b
 held-merge a b =
     merge-cases (λ v. held v ≡ held a || held b) a b
-    (λ p q. rw (larger-left a b p, p))
+    (λ p q. rw (larger-held a b p, p))
     (λ p n. rw p)
     (λ n. rw n)
+
+pub merge-held-left : (a b : Version) → So (held a) → So (held (merge a b))
+merge-held-left a b p = held-merge a b ∙ or-left (held b) p
+
+pub merge-held-right : (a b : Version) → So (held b) → So (held (merge a b))
+merge-held-right a b p = held-merge a b ∙ or-right (held a) p
 
 pub merge-issue : (a b : Version) → merge a b .issue ≡ max (a .issue) (b .issue)
 unfolding larger
@@ -151,8 +157,8 @@ merge-assoc a b c =
     cases true true true p q r =
         let ab : merge a b ≡ larger a b = merge-both a b p q in
         let bc : merge b c ≡ larger b c = merge-both b c q r in
-        rw (ab, bc, merge-both (larger a b) c (larger-left a b p) r)
-        (larger-assoc a b c ∙ sym (merge-both a (larger b c) p (larger-left b c q)))
+        rw (ab, bc, merge-both (larger a b) c (larger-held a b p) r)
+        (larger-assoc a b c ∙ sym (merge-both a (larger b c) p (larger-held b c q)))
 
 pub merge-idem : (a : Version) → merge a a ≡ a
 merge-idem a = merge-cases (λ v. v ≡ a) a a (λ _ _. larger-idem a) (λ _ _. refl) (λ _. refl)
@@ -176,4 +182,4 @@ merge-comm a b f g = merge-larger a b f g ∙ (larger-comm a b ∙ sym (merge-la
 
 pub merge-blank : (a b : Version) → Blank a → Blank b → Blank (merge a b)
 merge-blank a b f g =
-    merge-cases Blank a b (λ p q n. clash (larger-left a b p) n) (λ _ _. f) (λ _. g)
+    merge-cases Blank a b (λ p q n. clash (larger-held a b p) n) (λ _ _. f) (λ _. g)

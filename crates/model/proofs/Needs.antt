@@ -2,17 +2,16 @@
 -- dependency-..: a row of another key that isn't all zero. supersedes-..: held, the row as large.
 -- merge-met: the needs of a merge.
 -- Assumes nothing.
-use mathlib.Core.Path.{_∙_}
 use mathlib.Core.Bool.{not, So}
 use mathlib.Core.Logic.{_⊎_, inl, inr, _↔_, _≢_}
 use Prim.Native.Nat.{ℕ}
 use native.Mathlib.Omega.{arith}
 use lib.Dec.{eqb}
-use Rattle.words.proofs.Bools.{test, and-intro, and-left, and-right, or-left, or-right, not-intro, not-elim, ne-eqb, eqb-ne}
+use Rattle.words.proofs.Bools.{test, and-intro, and-left, and-right, not-intro, not-elim, ne-eqb, eqb-ne}
 use Rattle.clock.specs.Clock.{Clock, dominates, Dominates, present}
 use Rattle.clock.proofs.Order.{dominates-iff, dominates-trans, present-mono, absent}
 use Rattle.model.specs.Version.{Version, held, dependency, supersedes, merge}
-use Rattle.model.proofs.Merges.{held-merge, merge-left, merge-right, merge-least, merge-present}
+use Rattle.model.proofs.Merges.{merge-held-left, merge-held-right, merge-left, merge-right, merge-least, merge-present}
 
 pub dependency-iff : (W k : ℕ) (v : Version) (d : ℕ)
     → So (dependency W k v d) ↔ (d ≢ k) × So (present W (v .past d))
@@ -69,14 +68,14 @@ pub supersedes-merge-left : (W d : ℕ) (a b : Version) (q : Clock) → So (supe
     → So (supersedes W d (merge a b) q)
 supersedes-merge-left W d a b q s =
     let p = supersedes-iff W d a q .0 s .0 in
-    supersedes-mono W d a (merge a b) q (held-merge a b ∙ or-left (held b) p)
+    supersedes-mono W d a (merge a b) q (merge-held-left a b p)
     (merge-left W d a b p) s
 
 pub supersedes-merge-right : (W d : ℕ) (a b : Version) (q : Clock) → So (supersedes W d b q)
     → So (supersedes W d (merge a b) q)
 supersedes-merge-right W d a b q s =
     let p = supersedes-iff W d b q .0 s .0 in
-    supersedes-mono W d b (merge a b) q (held-merge a b ∙ or-right (held a) p)
+    supersedes-mono W d b (merge a b) q (merge-held-right a b p)
     (merge-right W d a b p) s
 
 -- A version that meets the need of a key, if there is one, has the row of that key.

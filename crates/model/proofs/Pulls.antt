@@ -1,74 +1,63 @@
 -- What a step leaves on the snapshot ("card"): still a keyset-overlapping cut for the plan.
--- pullSet-..: what is in C, and why. pulled-in, -out: which keys change.
--- pulled-held: all reads are held. pulled-overlap: the cut.
+-- pulled-held, -keeps: what it holds. pulled-planned: only keys of the plan.
+-- pulled-overlap: the cut.
 -- Assumes nothing.
-use mathlib.Core.Path.{_≡_, _∙_}
+use mathlib.Core.Path.{_≡_}
 use mathlib.Core.Bool.{false, So}
 use mathlib.Core.Logic.{inl, inr}
 use Prim.Native.Nat.{ℕ, _<_}
 use Rattle.words.specs.Tests.{Items, Within}
-use Rattle.words.proofs.Bools.{test, clash, or-left, or-right}
-use Rattle.reach.specs.Closure.{Reach, Reach.here, Reach.next}
+use Rattle.words.proofs.Bools.{test, clash}
 use Rattle.clock.specs.Clock.{Clock}
 use Rattle.model.specs.Algebra.{Place, causalCut, overlappingCut, lacking}
 use Rattle.model.specs.Version.{Version, held, dependency, supersedes, merge, versions}
-use Rattle.model.specs.Sets.{draws, pullSet, pulled}
-use Rattle.model.proofs.Merges.{held-merge}
+use Rattle.model.specs.Sets.{pullSet, pulled}
+use Rattle.model.proofs.Merges.{merge-held-left, merge-held-right}
 use Rattle.model.proofs.Needs.{supersedes-iff, supersedes-merge-left, supersedes-merge-right, merge-met}
-use Rattle.model.proofs.Cuts.{causalCut-at, needsMet-intro, overlappingCut-within, overlappingCut-at, overlappingCut-intro, lacking-iff, draws-iff, drawSet-start, drawSet-reached, drawSet-closed}
+use Rattle.model.proofs.Cuts.{causalCut-at, needsMet-intro, overlappingCut-within, overlappingCut-at, overlappingCut-intro}
+use Rattle.model.proofs.Draws.{drawSet-closed, pullSet-start, pullSet-plan, pulled-in, pulled-cases}
 
 module _ (W K : ℕ) (plan : Items) (snapshot cache : Place Version) (reads : Items) where
   abbrev C : Items
   C = pullSet (versions W) K plan snapshot cache reads
 
-  abbrev lacks : Items
-  lacks = lacking (versions W) K snapshot reads
-
-  abbrev edge : ℕ → Items
-  edge = draws (versions W) K plan snapshot cache
-
   abbrev after : Place Version
   after = pulled (versions W) K plan snapshot cache reads
 
-  pub pulled-in : (k : ℕ) → So (C k) → after k ≡ merge (snapshot k) (cache k)
-  unfolding pulled
-  pulled-in k p = rw p
-
-  pub pulled-out : (k : ℕ) → C k ≡ false → after k ≡ snapshot k
-  unfolding pulled
-  pulled-out k n = rw n
-
-  pub pullSet-reached : (k : ℕ) → k < K → So (C k) → Reach K edge lacks k
-  unfolding pullSet
-  pullSet-reached = drawSet-reached (versions W) K plan snapshot cache lacks
-
-  pub pullSet-plan : Within K reads plan → Within K C plan
-  pullSet-plan f k l p = from (pullSet-reached k l p)
-    where
-      from : {d : ℕ} → Reach K edge lacks d → So (plan d)
-      from (here {d = d} l p) = f d l (lacking-iff (versions W) K snapshot reads d .0 p .0)
-      from (next {t = t} {d = d} r l e) = draws-iff (versions W) K plan snapshot cache t d .0 e .0
+  -- What holds of the merge for a key of C, and of the snapshot's version for another, holds.
+  cases : (P : Version → Type 0) (k : ℕ)
+      → (So (C k) → P (merge (snapshot k) (cache k))) → (C k ≡ false → P (snapshot k))
+      → P (after k)
+  cases = pulled-cases (versions W) K plan snapshot cache reads
 
   -- Reads are held: they are on the snapshot, or come from the cache.
   pub pulled-held : (k : ℕ) → So (reads k)
       → (held (snapshot k) ≡ false → So (held (cache k))) → So (held (after k))
-  unfolding pullSet
   pulled-held k p f =
-      test (C k)
-      (λ y. rw (pulled-in k y) (held-merge (snapshot k) (cache k) ∙ test (held (snapshot k))
-      (λ h. or-left (held (cache k)) h)
-      (λ n. or-right (held (snapshot k)) (f n))))
-      (λ n. rw (pulled-out k n) (test (held (snapshot k)) (λ h. h) (λ m. clash
-      (drawSet-start (versions W) K plan snapshot cache lacks k
-      (lacking-iff (versions W) K snapshot reads k .1 (p, m))) n)))
+      cases (λ v. So (held v)) k
+      (λ _. test (held (snapshot k)) (merge-held-left (snapshot k) (cache k))
+      (λ n. merge-held-right (snapshot k) (cache k) (f n)))
+      (λ n. test (held (snapshot k)) (λ h. h)
+      (λ m. clash (pullSet-start (versions W) K plan snapshot cache reads k p m) n))
 
-  -- What the snapshot met is still met.
+  -- What the snapshot held it still holds,
+  pub pulled-keeps : (k : ℕ) → So (held (snapshot k)) → So (held (after k))
+  pulled-keeps k h =
+      cases (λ v. So (held v)) k (λ _. merge-held-left (snapshot k) (cache k) h) (λ _. h)
+
+  -- and what it met is still met.
   pulled-meets : (d : ℕ) (q : Clock) → So (supersedes W d (snapshot d) q)
       → So (supersedes W d (after d) q)
   pulled-meets d q s =
-      test (C d)
-      (λ y. rw (pulled-in d y) (supersedes-merge-left W d (snapshot d) (cache d) q s))
-      (λ n. rw (pulled-out d n) s)
+      cases (λ v. So (supersedes W d v q)) d
+      (λ _. supersedes-merge-left W d (snapshot d) (cache d) q s) (λ _. s)
+
+  -- Only keys of the plan are held, if that was so.
+  pub pulled-planned : Within K reads plan → Within K (λ k. held (snapshot k)) plan
+      → Within K (λ k. held (after k)) plan
+  pulled-planned f g k l =
+      cases (λ v. So (held v) → So (plan k)) k
+      (λ y _. pullSet-plan (versions W) K plan snapshot cache reads f k l y) (λ _. g k l)
 
   module _ (o : So (overlappingCut (versions W) K plan snapshot))
       (c : So (causalCut (versions W) K cache)) where
@@ -86,25 +75,25 @@ module _ (W K : ℕ) (plan : Items) (snapshot cache : Place Version) (reads : It
     pulled-new k d lk ld p q h n =
         let need = cache k .past d in
         let m = causalCut-at (versions W) K cache c k d lk ld h n in
+        let lacks = lacking (versions W) K snapshot reads in
         elim (drawSet-closed (versions W) K plan snapshot cache lacks k d lk ld p q n
         (supersedes-iff W d (cache d) need .0 m .0)) [
           | inl y ↦ pulled-meets d need y
-          | inr y ↦ rw (pulled-in d y) (supersedes-merge-right W d (snapshot d) (cache d) need m)
+          | inr y ↦ rw (pulled-in (versions W) K plan snapshot cache reads d y)
+              (supersedes-merge-right W d (snapshot d) (cache d) need m)
         ]
 
     pulled-need : (k d : ℕ) → k < K → d < K → So (plan d) → So (held (after k))
         → So (dependency W k (after k) d) → So (supersedes W d (after d) (after k .past d))
-    pulled-need k d lk ld p h n =
-        test (C k)
-        (λ y. rw (pulled-in k y)
-        (merge-met W k d (snapshot k) (cache k) (after d) (rw (pulled-in k y) at h)
-        (rw (pulled-in k y) at n) (pulled-old k d lk ld p) (pulled-new k d lk ld y p)))
-        (λ y. rw (pulled-out k y)
-        (pulled-old k d lk ld p (rw (pulled-out k y) at h) (rw (pulled-out k y) at n)))
+    pulled-need k d lk ld p =
+        cases (λ (v : Version). So (held v) → So (dependency W k v d)
+        → So (supersedes W d (after d) (v .past d))) k
+        (λ y h n. merge-met W k d (snapshot k) (cache k) (after d) h n (pulled-old k d lk ld p)
+        (pulled-new k d lk ld y p))
+        (λ _. pulled-old k d lk ld p)
 
     pub pulled-overlap : Within K reads plan → So (overlappingCut (versions W) K plan after)
     pulled-overlap f =
         overlappingCut-intro (versions W) K plan after
-        (λ k l h. test (C k) (pullSet-plan f k l)
-        (λ n. overlappingCut-within (versions W) K plan snapshot o k l (rw (pulled-out k n) at h)))
+        (pulled-planned f (overlappingCut-within (versions W) K plan snapshot o))
         (needsMet-intro (versions W) K plan after (λ k d lk ld _. pulled-need k d lk ld))

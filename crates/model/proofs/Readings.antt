@@ -13,13 +13,13 @@ use Rattle.masks.specs.Mask.{testBit, maskBelow}
 use Rattle.clock.specs.Clock.{Clock, dominates, concurrent}
 use Rattle.sizes.specs.Bounds.{countsOf}
 use Rattle.model.specs.Algebra.{Place, causalCut, overlappingCut}
-use Rattle.model.specs.Version.{Version, zeroPast, unheld, dependency, supersedes, merge, versions}
+use Rattle.model.specs.Version.{Version, unheld, dependency, supersedes, merge, versions}
 use Rattle.model.specs.Sets.{evictSet}
 use Rattle.model.specs.Store.{Store, Job, noJob, fresh, withCache, withRun, withMaster}
 use Rattle.model.specs.Form.{wellFormed}
 use Rattle.model.specs.Outcome.{answer}
 use Rattle.model.specs.Look.{rowNumbers}
-use Rattle.model.specs.Calls.{StoreCall, openRun, step, ruleOf}
+use Rattle.model.specs.Calls.{openRun, step, ruleOf}
 use Rattle.model.proofs.Scripts.{ok₁, ok₃, broke, not-taken}
 
 -- ---- ways to write the examples

@@ -1,25 +1,16 @@
 -- Scripts of calls on a store, and their answers: case A of document 01 and a longer one.
--- nextStore, run, answers: a list of calls carried out. case-a, longer: the scripts, and what
--- they answer.
+-- answers: of a list of calls carried out. case-a, longer ..: the scripts, and what they answer.
 -- Assumes nothing.
 use mathlib.Core.List.{List, [], _∷_}
 use Prim.Native.Nat.{ℕ}
 use Rattle.model.specs.Store.{Store}
-use Rattle.model.specs.Outcome.{Outcome, refused, broken, done, answer}
+use Rattle.model.specs.Outcome.{answer}
 use Rattle.model.specs.Calls.{StoreCall, openRun, fetch, evict, prepare, step, issue, dropRun, look, ruleOf}
-
-abbrev pub nextStore : Outcome → Store → Store
-nextStore (refused n) s = s
-nextStore (broken m t) s = t
-nextStore (done a t) s = t
+use Rattle.model.proofs.Outcomes.{nextStore}
 
 abbrev pub answers : List StoreCall → Store → List (List ℕ)
 answers [] s = []
 answers (c ∷ cs) s = answer (ruleOf c s) ∷ answers cs (nextStore (ruleOf c s) s)
-
-abbrev pub run : List StoreCall → Store → Store
-run [] s = s
-run (c ∷ cs) s = run cs (nextStore (ruleOf c s) s)
 
 -- The ways to answer, as words.
 abbrev pub ok₁ : ℕ → List ℕ

@@ -1,15 +1,16 @@
 -- Laws of limits and changes of functions, of blocks and of windows.
 -- Assumes nothing.
-use mathlib.Core.Path.{_≡_, refl, sym, ap, ap₂, _∙_}
+use mathlib.Core.Path.{_≡_, refl, sym, ap, ap₂, _∙_, fun-ext}
 use mathlib.Core.Logic.{_≢_}
 use mathlib.Core.List.{List, [], _∷_, _++_}
 use Prim.Native.Nat.{ℕ, zero, suc, _+_, _*_, _≤_, _<_}
 use native.Mathlib.Omega.{arith}
 use native.Mathlib.Nat.{zero-add, not-suc-le-zero}
+use lib.Dec.{eqb}
 use lib.ListN.{length, getD, take, drop, length-append}
 use lib.Seq.{take-at, drop-at, drop-cons}
 use Rattle.words.specs.Lists.{blocks, window, upto, putAt}
-use Rattle.words.proofs.Bools.{lt-ltb, ge-ltb, eq-eqb, ne-eqb}
+use Rattle.words.proofs.Bools.{test, lt-ltb, ge-ltb, eqb-eq, eq-eqb, eqb-ne, ne-eqb}
 
 -- ---- limits and changes of functions
 
@@ -29,6 +30,24 @@ pub putAt-other {ℓ} : {A : Type ℓ} (f : ℕ → A) (i : ℕ) (x : A) (j : �
     → putAt f i x j ≡ f j
 unfolding putAt
 putAt-other f i x j h = rw (ne-eqb j i h)
+
+-- By where it was changed; and the same for two functions, side by side.
+pub putAt-cases {ℓ κ} : {A : Type ℓ} (P : A → Type κ) (f : ℕ → A) (i : ℕ) (x : A) (j : ℕ)
+    → (j ≡ i → P x) → (j ≢ i → P (f j)) → P (putAt f i x j)
+unfolding putAt
+putAt-cases P f i x j p q =
+    test (eqb j i) (λ y. rw y (p (eqb-eq j i y))) (λ n. rw n (q (eqb-ne j i n)))
+
+pub putAt-both {ℓ κ μ} : {A : Type ℓ} {B : Type κ} (R : A → B → Type μ) (f : ℕ → A) (g : ℕ → B)
+    (i : ℕ) (x : A) (y : B) (j : ℕ) → (j ≡ i → R x y) → (j ≢ i → R (f j) (g j))
+    → R (putAt f i x j) (putAt g i y j)
+unfolding putAt
+putAt-both R f g i x y j p q =
+    test (eqb j i) (λ e. rw e (p (eqb-eq j i e))) (λ n. rw n (q (eqb-ne j i n)))
+
+-- The value that stands there, put there.
+pub putAt-itself {ℓ} : {A : Type ℓ} (f : ℕ → A) (i : ℕ) → putAt f i (f i) ≡ f
+putAt-itself f i = fun-ext (λ j. putAt-cases (λ x. x ≡ f j) f i (f i) j (λ e. rw e) (λ _. refl))
 
 -- ---- append
 

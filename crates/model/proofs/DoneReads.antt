@@ -1,5 +1,5 @@
 -- Laws of what the done jobs of a run have read.
--- none-read: with no job done. reads-more, read-mask: with one more job done.
+-- doneReads-none: with no job done. doneReads-more, -mask: with one more job done.
 -- Assumes nothing.
 use mathlib.Core.Path.{_≡_, refl, sym, ap, _∙_}
 use mathlib.Core.Bool.{Bool, So, _&&_, _||_}
@@ -14,21 +14,21 @@ use Rattle.words.proofs.Tests.{any-intro, any-some, any-no}
 use Rattle.masks.specs.Mask.{testBit, withBit, maskBelow}
 use Rattle.masks.proofs.Bits.{test-or, test-none, test-with}
 use Rattle.masks.proofs.Sets.{test-mask, mask-lt, mask-ext-below, set-none}
 use Rattle.model.specs.Store.{Job, doneReads}
 
 -- With no job done, nothing is read.
-pub none-read : (K n : ℕ) (job : ℕ → Job) → maskBelow K (doneReads n job 0) ≡ 0
+pub doneReads-none : (K n : ℕ) (job : ℕ → Job) → maskBelow K (doneReads n job 0) ≡ 0
 unfolding doneReads
-none-read K n job =
+doneReads-none K n job =
     eqb-eq _ 0 (set-none K (doneReads n job 0)
     ∙ rw (any-no K (doneReads n job 0)
     (λ k _. any-no n (λ j. testBit 0 j && testBit (job j .reads) k) (λ j _. rw (test-none j)))))
 
 -- With job j done too, its reads are read.
-pub reads-more : (n : ℕ) (job : ℕ → Job) (done j k : ℕ) → j < n
+pub doneReads-more : (n : ℕ) (job : ℕ → Job) (done j k : ℕ) → j < n
     → doneReads n job (withBit done j) k ≡ doneReads n job done k || testBit (job j .reads) k
 unfolding doneReads
-reads-more n job done j k l = same-test there back
+doneReads-more n job done j k l = same-test there back
   where
     before : ℕ → Bool
     before i = testBit done i && testBit (job i .reads) k
@@ -64,10 +64,10 @@ reads-more n job done j k l = same-test there back
               any-intro n after j l (and-intro now q)
         ]
 
-pub read-mask : (K n : ℕ) (job : ℕ → Job) (done j : ℕ) → j < n → job j .reads < 2 ^ K
+pub doneReads-mask : (K n : ℕ) (job : ℕ → Job) (done j : ℕ) → j < n → job j .reads < 2 ^ K
     → bitOr (maskBelow K (doneReads n job done)) (job j .reads)
     ≡ maskBelow K (doneReads n job (withBit done j))
-read-mask K n job done j l h =
+doneReads-mask K n job done j l h =
     let was = maskBelow K (doneReads n job done) in
     let reads = job j .reads in
     let now = maskBelow K (doneReads n job (withBit done j)) in
@@ -77,5 +77,5 @@ read-mask K n job done j l h =
     (λ k i.
     test-or was reads k
     ∙ ap (λ (b : Bool). b || testBit reads k) (test-mask K (doneReads n job done) k i)
-    ∙ sym (reads-more n job done j k l)
+    ∙ sym (doneReads-more n job done j k l)
     ∙ sym (test-mask K (doneReads n job (withBit done j)) k i))

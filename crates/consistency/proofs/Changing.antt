@@ -1,0 +1,138 @@
+-- The invariant with one part changed, and on a fresh store.
+-- unless-moves: a call that may be refused. HasRead: what a list of finished jobs has read.
+-- inv-..: with a cache, all caches or a run changed; inv-anew: a run begun or freed.
+-- Assumes nothing.
+use mathlib.Core.Path.{_≡_, refl, sym, ap}
+use mathlib.Core.Bool.{false≢true}
+use mathlib.Core.Logic.{_≢_}
+use mathlib.Core.List.{List, []}
+use Prim.Native.Nat.{ℕ, _<_}
+use native.Mathlib.Omega.{arith}
+use Rattle.words.specs.Tests.{anyBelow}
+use Rattle.words.specs.Numbers.{countBelow}
+use Rattle.words.specs.Lists.{putAt}
+use Rattle.words.proofs.Lists.{putAt-same, putAt-other, putAt-both}
+use Rattle.sizes.specs.declared.Counts.{Counts}
+use Rattle.model.specs.Algebra.{Place}
+use Rattle.model.specs.Version.{Version, zeroPast}
+use Rattle.model.specs.Store.{Run, Site, Store, fresh, withSites, withCache, withRun}
+use Rattle.model.specs.Outcome.{Outcome, unless}
+use Rattle.model.specs.Calls.{StoreCall}
+use Rattle.model.proofs.Outcomes.{unless-cases}
+use Rattle.history.specs.History.{saved}
+use Rattle.history.specs.Copies.{Copy, heldCopy, byWriter, counted}
+use Rattle.history.specs.Book.{BookRun, Book, freshBook, withBookCaches, withBookRun}
+use Rattle.history.proofs.Notions.{ClosedAll}
+use Rattle.history.proofs.Sounds.{sound-empty}
+use Rattle.history.proofs.Counted.{counted-none, counted-unheld}
+use Rattle.consistency.specs.Trace.{ReadSet}
+use Rattle.consistency.specs.Claim.{Counted, Among}
+use Rattle.consistency.proofs.Closing.{empty-closed}
+use Rattle.consistency.proofs.Invariant.{RunFollows, Follows, ReadAs, Inv, Moves}
+use Rattle.consistency.proofs.Following.{free-follows, follows-caches, follows-cache, follows-run}
+
+-- ---- a call that may be refused
+
+pub unless-moves : (c : StoreCall) (s : Store) (b : Book) (f : ℕ → List ReadSet) (n : ℕ)
+    (x : Outcome) → Inv s b f → (n ≡ 0 → Moves c s b f x) → Moves c s b f (unless n x)
+unless-moves c s b f n x v g = unless-cases (Moves c s b f) n x g (λ _. v)
+
+-- ---- what finished jobs have read
+
+abbrev pub HasRead : ℕ → Run → BookRun → List ReadSet → Type 0
+HasRead K a c xs = (x : ReadSet) → Among x xs → ReadAs K a c x
+
+pub none-among {ℓ} : {X : Type ℓ} {x : ReadSet} → Among x [] → X
+none-among a = elim a [ ]
+
+-- A run that begins anew, or is freed: none of its jobs is finished.
+pub nothing-read : (K : ℕ) (a : Run) (c : BookRun) (f : ℕ → List ReadSet) (r : ℕ)
+    → HasRead K a c (putAt f r [] r)
+nothing-read K a c f r x i = none-among (rw (putAt-same f r []) at i)
+
+-- A next store and book that differ in run r alone, as far as runs go.
+pub inv-next : {s : Store} {b : Book} {f : ℕ → List ReadSet} (t : Store) (d : Book)
+    (g : ℕ → List ReadSet) (r : ℕ) (a : Run) (c : BookRun) → Inv s b f → Follows t d
+    → t .counts ≡ s .counts → t .run ≡ putAt (s .run) r a → d .run ≡ putAt (b .run) r c
+    → r < s .counts .runs → ((q : ℕ) → q ≢ r → g q ≡ f q)
+    → HasRead (s .counts .keys) a c (g r) → Inv t d g
+inv-next {s} {b} {f} t d g r a c v F e er ed l same has = record {
+  follows = F;
+  reads = rw (e, er, ed) reads;
+  no-run = rw e (λ q h x i. v .no-run q h x (rw (same q (λ z. absurd (omega arith))) at i));
+}
+  where
+    reads : (q : ℕ) → q < s .counts .runs → (x : ReadSet) → Among x (g q)
+        → ReadAs (s .counts .keys) (putAt (s .run) r a q) (putAt (b .run) r c q) x
+    reads q h x i =
+        putAt-both (λ a c. ReadAs (s .counts .keys) a c x) (s .run) (b .run) r a c q
+        (λ z. has x (rw z at i)) (λ z. v .reads q h x (rw (same q z) at i))
+
+module _ {s : Store} {b : Book} {f : ℕ → List ReadSet} (v : Inv s b f) where
+  pub inv-caches : (p : ℕ → Site) (q : ℕ → Place Copy)
+      → ((o : ℕ) → o < s .counts .sites
+      → Counted (s .counts .keys) (b .history) (p o .cache) (q o)
+      × ClosedAll (s .counts .keys) (b .history) (q o))
+      → Inv (withSites s p) (withBookCaches b q) f
+  unfolding withSites withBookCaches
+  inv-caches p q C = record {
+    follows = follows-caches (v .follows) p q C;
+    reads = v .reads;
+    no-run = v .no-run;
+  }
+
+  pub inv-cache : (o : ℕ) (p : Place Version) (q : Place Copy)
+      → Counted (s .counts .keys) (b .history) p q → ClosedAll (s .counts .keys) (b .history) q
+      → Inv (withCache s o p) (withBookCaches b (putAt (b .cache) o q)) f
+  unfolding withCache withSites withBookCaches
+  inv-cache o p q c d = record {
+    follows = follows-cache (v .follows) o p q c d;
+    reads = v .reads;
+    no-run = v .no-run;
+  }
+
+  -- Run r changed, and with it what its finished jobs have read.
+  pub inv-run : (g : ℕ → List ReadSet) (r : ℕ) (a : Run) (c : BookRun)
+      → RunFollows (s .counts .keys) (b .history) a c → r < s .counts .runs
+      → ((q : ℕ) → q ≢ r → g q ≡ f q) → HasRead (s .counts .keys) a c (g r)
+      → Inv (withRun s r a) (withBookRun b r c) g
+  unfolding withRun withBookRun
+  inv-run g r a c G l same has =
+      inv-next (withRun s r a) (withBookRun b r c) g r a c v (follows-run (v .follows) r a c G)
+      refl refl refl l same has
+
+  -- Run r begins anew, or is freed.
+  pub inv-anew : (r : ℕ) (a : Run) (c : BookRun)
+      → RunFollows (s .counts .keys) (b .history) a c → r < s .counts .runs
+      → Inv (withRun s r a) (withBookRun b r c) (putAt f r [])
+  inv-anew r a c G l =
+      inv-run (putAt f r []) r a c G l (putAt-other f r [])
+      (nothing-read (s .counts .keys) a c f r)
+
+-- ---- a fresh store
+
+-- A writer without issues has no past.
+no-past : (K w : ℕ) → counted K [] (byWriter K [] w) .past ≡ zeroPast
+unfolding heldCopy anyBelow
+no-past K w = ap (λ (v : Version). v .past) (counted-unheld K [] (byWriter K [] w) refl)
+
+pub inv-fresh : (z : Counts) → Inv (fresh z) (freshBook z) (λ r. [])
+unfolding fresh freshBook saved countBelow
+inv-fresh z =
+    let K = z .keys in
+    record {
+      follows = record {
+        counts = refl;
+        last = refl;
+        sound = sound-empty K (z .writers);
+        master = λ k l. sym (counted-none K []);
+        every = λ d i l p. absurd (false≢true p);
+        writes = λ d i l p. absurd (false≢true p);
+        cache = λ o l k i. sym (counted-none K []);
+        closed = λ o l. empty-closed K [] _;
+        writer = λ w l. record { count = refl; past = sym (no-past K w) };
+        run = λ r l. free-follows K [];
+      };
+      reads = λ r l x p. none-among p;
+      no-run = λ r l x p. none-among p;
+    }

@@ -1,0 +1,146 @@
+-- A store that follows its book: what the rules ask of its places, and with one part changed.
+-- now-simulates: versions stand for copies. master-, cache-, snapshot-..: what is asked of these.
+-- empty-, free-follows: a run with nothing read. follows-..: a cache, all caches or a run changed.
+-- Assumes nothing.
+use mathlib.Core.Path.{_≡_, refl, sym, ap₂}
+use mathlib.Core.Bool.{false≢true}
+use Prim.Native.Nat.{ℕ, _<_}
+use Rattle.words.specs.Tests.{none}
+use Rattle.words.specs.Lists.{putAt}
+use Rattle.words.proofs.Lists.{putAt-both}
+use Rattle.masks.proofs.Bits.{test-none}
+use Rattle.sizes.specs.declared.Counts.{Counts}
+use Rattle.model.specs.Algebra.{Place}
+use Rattle.model.specs.Version.{Version, versions}
+use Rattle.model.specs.Store.{Job, Run, Site, Store, emptyPlace, noJobs, freeRun, planned, withSites, withCache, withRun}
+use Rattle.history.specs.History.{History}
+use Rattle.history.specs.Copies.{Copy, copies}
+use Rattle.history.specs.Book.{BookRun, Book, noCopies, noRun, withBookCaches, withBookRun}
+use Rattle.history.proofs.Notions.{ClosedIn, ClosedAll}
+use Rattle.history.proofs.Past.{past-laws}
+use Rattle.history.proofs.Counted.{counted-none}
+use Rattle.consistency.specs.Claim.{Counted}
+use Rattle.consistency.proofs.Simulation.{Simulates, Related}
+use Rattle.consistency.proofs.Closing.{PartOf, empty-closed, every-part, every-closed}
+use Rattle.consistency.proofs.Counting.{CountedAs, counted-simulates, counted-related}
+use Rattle.consistency.proofs.Invariant.{RunFollows, Follows}
+
+module _ {s : Store} {b : Book} (F : Follows s b) where
+  -- What holds with the store's counts holds with the book's.
+  pub by-counts : (P : Counts → Type 0) → P (s .counts) → P (b .counts)
+  by-counts P p = rw (← F .counts) p
+
+  pub now-simulates :
+      Simulates (versions (s .counts .writers)) (copies (s .counts .keys) (b .history))
+      (s .counts .keys) (CountedAs (s .counts .keys) (b .history))
+  now-simulates =
+      let K = s .counts .keys in
+      counted-simulates K (s .counts .writers) (b .history) (past-laws K (b .history))
+      (F .sound .writers)
+
+  pub master-closed : ClosedAll (s .counts .keys) (b .history) (b .master)
+  master-closed = every-closed (F .every) (past-laws (s .counts .keys) (b .history)) (F .writes)
+
+  pub master-related :
+      Related (s .counts .keys) (CountedAs (s .counts .keys) (b .history)) (s .master) (b .master)
+  master-related = counted-related (F .master) master-closed
+
+  module _ (o : ℕ) (l : o < s .counts .sites) where
+    pub cache-related :
+        Related (s .counts .keys) (CountedAs (s .counts .keys) (b .history)) (s .site o .cache)
+        (b .cache o)
+    cache-related = counted-related (F .cache o l) (F .closed o l)
+
+    pub cache-part : PartOf (s .counts .keys) (b .cache o) (b .master)
+    cache-part = every-part (F .every) (F .closed o l)
+
+  module _ (r : ℕ) (l : r < s .counts .runs) where
+    pub snapshot-related :
+        Related (s .counts .keys) (CountedAs (s .counts .keys) (b .history)) (s .run r .snapshot)
+        (b .run r .snapshot)
+    snapshot-related = counted-related (F .run r l .snapshot) (F .run r l .closed)
+
+-- The plan of a run is that of the book's.
+pub plan-same : {K : ℕ} {h : History} {a : Run} {c : BookRun} → RunFollows K h a c
+    → planned (a .jobs) (a .job) ≡ planned (c .jobs) (c .job)
+plan-same F = ap₂ planned (F .jobs) (F .job)
+
+-- So the book's snapshot is a cut for the plan of the store's run.
+pub snapshot-closed : {s : Store} {b : Book} → Follows s b → (r : ℕ) → r < s .counts .runs
+    → ClosedIn (s .counts .keys) (b .history) (planned (s .run r .jobs) (s .run r .job))
+    (b .run r .snapshot)
+snapshot-closed F r l = rw (plan-same (F .run r l)) (F .run r l .closed)
+
+-- A run with nothing read and nothing on its snapshot.
+pub empty-follows : (K : ℕ) (h : History) (state jobs done : ℕ) (job : ℕ → Job)
+    → RunFollows K h (record {
+      state = state;
+      jobs = jobs;
+      done = done;
+      read = 0;
+      job = job;
+      snapshot = emptyPlace;
+    }) (record { jobs = jobs; job = job; read = none; snapshot = noCopies })
+empty-follows K h state jobs done job = record {
+  jobs = refl;
+  job = refl;
+  read = λ k _. test-none k;
+  low = λ k p. absurd (false≢true p);
+  snapshot = λ k _. sym (counted-none K h);
+  closed = empty-closed K h (planned jobs job);
+}
+
+pub free-follows : (K : ℕ) (h : History) → RunFollows K h freeRun noRun
+free-follows K h = empty-follows K h 0 0 0 noJobs
+
+-- ---- one part changed
+
+module _ {s : Store} {b : Book} (F : Follows s b) where
+  pub follows-caches : (f : ℕ → Site) (g : ℕ → Place Copy)
+      → ((o : ℕ) → o < s .counts .sites
+      → Counted (s .counts .keys) (b .history) (f o .cache) (g o)
+      × ClosedAll (s .counts .keys) (b .history) (g o))
+      → Follows (withSites s f) (withBookCaches b g)
+  unfolding withSites withBookCaches
+  follows-caches f g C = record {
+    counts = F .counts;
+    last = F .last;
+    sound = F .sound;
+    master = F .master;
+    every = F .every;
+    writes = F .writes;
+    cache = λ o l. C o l .0;
+    closed = λ o l. C o l .1;
+    writer = λ w l. record { count = F .writer w l .count; past = F .writer w l .past };
+    run = F .run;
+  }
+
+  pub follows-cache : (o : ℕ) (p : Place Version) (q : Place Copy)
+      → Counted (s .counts .keys) (b .history) p q → ClosedAll (s .counts .keys) (b .history) q
+      → Follows (withCache s o p) (withBookCaches b (putAt (b .cache) o q))
+  unfolding withCache
+  follows-cache o p q c d =
+      let x : Site = record { cache = p } in
+      let K = s .counts .keys in
+      follows-caches (putAt (s .site) o x) (putAt (b .cache) o q) (λ i l.
+      putAt-both (λ (x : Site) (q : Place Copy). Counted K (b .history) (x .cache) q
+      × ClosedAll K (b .history) q) (s .site) (b .cache) o x q i (λ _. (c, d))
+      (λ _. (F .cache i l, F .closed i l)))
+
+  pub follows-run : (r : ℕ) (a : Run) (c : BookRun) → RunFollows (s .counts .keys) (b .history) a c
+      → Follows (withRun s r a) (withBookRun b r c)
+  unfolding withRun withBookRun
+  follows-run r a c G = record {
+    counts = F .counts;
+    last = F .last;
+    sound = F .sound;
+    master = F .master;
+    every = F .every;
+    writes = F .writes;
+    cache = F .cache;
+    closed = F .closed;
+    writer = λ w l. record { count = F .writer w l .count; past = F .writer w l .past };
+    run = λ q l.
+        putAt-both (RunFollows (s .counts .keys) (b .history)) (s .run) (b .run) r a c q (λ _. G)
+        (λ _. F .run q l);
+  }

@@ -1,0 +1,52 @@
+-- Laws of outcomes: the rows of the refusal table, the table of states, and a call refused or not.
+-- no-cause, no-lack: a row that is passed. allowed-used: the run isn't free.
+-- unless-..: refused for a cause, or what the call does. nextStore: the store after a call.
+-- Assumes nothing.
+use mathlib.Core.Path.{_≡_, refl}
+use mathlib.Core.Bool.{Bool, true, false, not, So}
+use mathlib.Core.Logic.{_≢_}
+use Prim.Native.Nat.{ℕ, zero, suc, _≤_, _<_}
+use native.Mathlib.Omega.{arith}
+use lib.Dec.{eqb}
+use Rattle.words.proofs.Bools.{test, clash, eqb-eq, eqb-ne, ne-eqb}
+use Rattle.model.specs.Store.{Store}
+use Rattle.model.specs.Outcome.{Outcome, refused, broken, done, refuse, unless, allowed, freeState}
+
+-- A row of the refusal table that is passed: its cause doesn't hold, and the rows below are left.
+pub no-cause : (b : Bool) (n rest : ℕ) → 0 < n → refuse b n rest ≡ 0 → (b ≡ false) × (rest ≡ 0)
+unfolding refuse
+no-cause true n rest l e = absurd (omega arith)
+no-cause false n rest l e = (refl, e)
+
+-- The same where the cause is that something fails.
+pub no-lack : (b : Bool) (n rest : ℕ) → 0 < n → refuse (not b) n rest ≡ 0 → So b × (rest ≡ 0)
+unfolding refuse
+no-lack true n rest l e = (refl, e)
+no-lack false n rest l e = absurd (omega arith)
+
+-- A run in a state that a call allows isn't free, if the call doesn't allow a free one.
+pub allowed-used : (row n : ℕ) → allowed row freeState ≡ false → So (allowed row n) → 1 ≤ n
+allowed-used row zero e p = clash p e
+allowed-used row (suc n) e p = omega arith
+
+-- ---- a call that may be refused
+
+pub unless-done : (n : ℕ) (x : Outcome) → n ≡ 0 → unless n x ≡ x
+unfolding unless
+unless-done n x e = rw e
+
+pub unless-refused : (n : ℕ) (x : Outcome) → n ≢ 0 → unless n x ≡ refused n
+unfolding unless
+unless-refused n x e = rw (ne-eqb n 0 e)
+
+pub unless-cases {ℓ} : (P : Outcome → Type ℓ) (n : ℕ) (x : Outcome) → (n ≡ 0 → P x)
+    → (n ≢ 0 → P (refused n)) → P (unless n x)
+unfolding unless
+unless-cases P n x f g =
+    test (eqb n 0) (λ y. rw y (f (eqb-eq n 0 y))) (λ y. rw y (g (eqb-ne n 0 y)))
+
+-- The store after a call.
+abbrev pub nextStore : Outcome → Store → Store
+nextStore (refused n) s = s
+nextStore (broken m t) s = t
+nextStore (done a t) s = t
