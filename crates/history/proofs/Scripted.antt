@@ -30,7 +30,8 @@ use Rattle.model.specs.Step.{readStart, stepSite, stepReads, stepStart, stepFet
 use Rattle.model.specs.Issue.{issueCause, takenIn, newPast, newVersion, issuedMaster, issuedWriter, issueSaved, issueDone, issueRule}
 use Rattle.model.specs.Look.{lookPlace, lookLimit, lookCause, rowNumbers, lookDone, lookRule}
 use Rattle.model.specs.Calls.{StoreCall, openRun, fetch, step, issue, ruleOf}
-use Rattle.model.proofs.Scripts.{nextStore, case-a-script, longer-script, reading-script}
+use Rattle.model.proofs.Outcomes.{nextStore}
+use Rattle.model.proofs.Scripts.{case-a-script, longer-script, reading-script}
 use Rattle.layout.specs.Words.{clockWords, pastWords, versionWords, placeWords, siteWords, sitesWords, writerWords, writersWords, jobWords, jobsWords, runWords, runsWords, headerWords, storeWords}
 use Rattle.layout.specs.Reading.{readClock, readPast, readVersion, readPlace, readSite, readWriter, readJob, readJobs, readRun, countsIn, storeOf}
 use Rattle.layout.specs.Calls.{on, isOk}
