@@ -13,15 +13,14 @@ use Rattle.words.specs.Words.{put}
 use Rattle.words.specs.Lists.{blocks}
 use Rattle.sizes.specs.declared.Counts.{Counts}
 use Rattle.sizes.specs.declared.Sizes.{Sizes}
-use Rattle.sizes.specs.Bounds.{maxJobs, pastSize, versionSize, placeSize, siteSize, writerSize, runSize, masterAt, sitesAt, writersAt, runsAt, totalOf}
-use Rattle.sizes.proofs.Offsets.{ordered}
+use Rattle.sizes.specs.Bounds.{pastSize, versionSize, placeSize, siteSize, writerSize, runSize, masterAt, sitesAt, writersAt, runsAt, totalOf}
 use Rattle.model.specs.Version.{zeroPast, unheld}
-use Rattle.model.specs.Store.{emptyPlace, noWriter, noJob, noJobs, noSite, freeRun, fresh}
+use Rattle.model.specs.Store.{emptyPlace, noWriter, noSite, freeRun, fresh}
 use Rattle.layout.specs.Words.{clockWords, pastWords, versionWords, placeWords, siteWords, sitesWords, writerWords, writersWords, jobWords, jobsWords, runWords, runsWords, headerWords, storeWords}
 use Rattle.layout.specs.Buffer.{written}
 use Rattle.layout.proofs.Merges.{table, put-table}
 use Rattle.create.specs.Room.{Room}
-use Rattle.create.proofs.Sized.{areas}
+use Rattle.create.proofs.Sized.{total-is}
 
 -- n zeros.
 abbrev zeros : ℕ → List ℕ
@@ -79,7 +78,9 @@ module _ (z : Counts) where
 
   run-zero : runWords z freeRun ≡ zeros (runSize z)
   unfolding runWords runSize jobsWords jobWords blocks
-  run-zero = zero-join (zeros 28) (placeWords z emptyPlace) 28 (placeSize z) (runSize z) refl place-zero refl
+  run-zero =
+      zero-join (zeros 28) (placeWords z emptyPlace) 28 (placeSize z) (runSize z)
+      refl place-zero refl
 
   runs-zero : runsWords z (λ r. freeRun) ≡ zeros (z .runs * runSize z)
   unfolding runsWords
@@ -130,14 +131,14 @@ pub fresh-stored : (l m n : List ℕ) (z : Counts) (at : Sizes) → Room (length
 unfolding written fresh
 fresh-stored l m n z at R p q =
     let t = totalOf z in
-    let o = ordered z (R .counts) in
+    let same = total-is z at (R .sizes) in
     let k = t - 10 in
     let rest = drop t l in
-    let e : t ≡ 10 + k = omega arith in
+    let e : t ≡ 10 + k = omega (arith, R) in
     let split : zeros t ≡ zeros 10 ++ zeros k =
     ap zeros e ∙ sym (replicate-append-replicate 10 k 0) in
     let whole : m ≡ zeros 10 ++ zeros k ++ rest =
-    p ∙ ap (λ (j : ℕ). put l 0 j (λ _. 0)) (areas (R .sizes) .total)
-    ∙ filled l t (R .fits) ∙ ap (λ (x : List ℕ). x ++ rest) split in
+    p ∙ ap (λ (j : ℕ). put l 0 j (λ _. 0)) same
+    ∙ filled l t (omega (arith, R .fits)) ∙ ap (λ (x : List ℕ). x ++ rest) split in
     q ∙ ap (λ (x : List ℕ). sets x 0 (headerWords z 0)) whole
     ∙ headed z k rest ∙ ap (λ (x : List ℕ). x ++ rest) (sym (fresh-words z k e))

@@ -1,31 +1,26 @@
 -- What new comes to: its causes from the tests that the code makes, and its two outcomes.
--- cause-..: which cause there is. room: what holds if there is none. new-no, new-done: answer and
--- buffer. new-form: an accepted new leaves a buffer in form.
+-- cause-..: which cause there is. new-no, new-done: answer and buffer. new-not-broken: as it says.
+-- new-form: an accepted new leaves a buffer in form.
 -- Assumes nothing.
-use mathlib.Core.Path.{_≡_, refl, sym, ap, _∙_}
-use mathlib.Core.Bool.{Bool, true, false, cond, not, So}
+use mathlib.Core.Path.{_≡_, refl, ap}
+use mathlib.Core.Bool.{Bool, true, false, cond, So}
 use mathlib.Core.Logic.{_≢_}
 use mathlib.Core.List.{List, [], _∷_}
 use Prim.Native.Nat.{ℕ, _≤_, _<_}
 use native.Mathlib.Omega.{arith}
-use lib.Dec.{eqb, leb}
+use lib.Dec.{eqb}
 use lib.ListN.{length, getD}
-use Rattle.words.proofs.Bools.{leb-le, le-leb, gt-leb, ne-eqb}
+use Rattle.words.proofs.Bools.{le-leb, gt-leb, ne-eqb}
 use Rattle.sizes.specs.declared.Counts.{Counts}
-use Rattle.sizes.specs.declared.Sizes.{Sizes}
-use Rattle.sizes.specs.Bounds.{ranged, sizesOf, totalOf}
-use Rattle.sizes.proofs.Offsets.{ranged-out}
+use Rattle.sizes.specs.Bounds.{ranged, totalOf}
 use Rattle.model.specs.Store.{Store, fresh}
 use Rattle.model.specs.Outcome.{Outcome, refused, broken, done, refuse, unless, answer}
 use Rattle.layout.specs.Buffer.{written, inForm}
 use Rattle.layout.specs.Calls.{newCause, newOn, leaves}
-use Rattle.layout.proofs.Kept.{no-lack}
 use Rattle.layout.proofs.Follow.{fine-form}
 use Rattle.layout.proofs.Rules.{new-fine}
-use Rattle.create.specs.declared.Created.{Created}
 use Rattle.create.specs.declared.Created.the-variants.{Done, Refused}
 use Rattle.create.specs.Answer.{created}
-use Rattle.create.specs.Room.{Room}
 
 module _ (l : List ℕ) (z : Counts) where
   -- ---- the causes
@@ -41,18 +36,6 @@ module _ (l : List ℕ) (z : Counts) where
   pub cause-none : So (ranged z) → totalOf z ≤ length l → newCause l z ≡ 0
   unfolding newCause refuse
   cause-none p h = rw (p, le-leb (totalOf z) (length l) h)
-
-  -- Without a cause there is room.
-  pub room : (at : Sizes) → newCause l z ≡ 0 → at ≡ sizesOf z → Room (length l) z at
-  unfolding newCause
-  room at e s =
-      let a = no-lack (ranged z) 2 _ (omega arith) e in
-      let b = no-lack (leb (totalOf z) (length l)) 1 0 (omega arith) (a .1) in
-      record {
-        counts = ranged-out z (a .0);
-        sizes = s;
-        fits = leb-le (totalOf z) (length l) (b .0);
-      }
 
   -- ---- the outcomes
 
@@ -71,10 +54,11 @@ module _ (l : List ℕ) (z : Counts) where
 
   pub new-not-broken : (mask : ℕ) (s : Store) → newOn l z ≢ broken mask s
   unfolding newOn unless answer
-  new-not-broken mask s e = go (eqb (newCause l z) 0) (ap (λ (x : Outcome). getD (answer x) 0 1) e)
+  new-not-broken mask s e = go (eqb (newCause l z) 0) (ap tag e)
     where
+      -- 0 ok, 1 broken, 2 refused.
       tag : Outcome → ℕ
-      tag x = getD (answer x) 0 1
+      tag x = getD (answer x) 0 0
 
       go : (b : Bool)
           → tag (cond b (done (totalOf z ∷ []) (fresh z)) (refused (newCause l z))) ≡ 1 → ⊥
@@ -85,4 +69,5 @@ module _ (l : List ℕ) (z : Counts) where
   pub new-form : newCause l z ≡ 0 → So (inForm (leaves (newOn l z) l))
   unfolding newOn unless leaves
   new-form e =
-      let F = new-fine l (z .keys) (z .writers) (z .sites) (z .runs) e in rw e (fine-form (fresh z) l F)
+      let F = new-fine l (z .keys) (z .writers) (z .sites) (z .runs) e in
+      rw e (fine-form (fresh z) l F)

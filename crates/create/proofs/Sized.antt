@@ -1,51 +1,43 @@
--- The sizes of a store that a buffer has room for: they fit in words.
--- Small, small: bounds of the ten words of a header. size-..: sizes by their definitions.
+-- Sizes of counts in range, and the room that a buffer without a cause has.
+-- total-is: the total of some sizes. room, same-room: what holds if new has no cause.
 -- Assumes nothing.
-use mathlib.Core.Path.{_≡_, ap}
-use Prim.Native.Nat.{ℕ, _≤_, _<_}
+use mathlib.Core.Path.{_≡_, refl, ap}
+use mathlib.Core.List.{List}
+use Prim.Native.Nat.{ℕ}
 use native.Mathlib.Omega.{arith}
+use lib.Dec.{leb}
+use lib.ListN.{length}
+use Rattle.words.proofs.Bools.{leb-le}
 use Rattle.sizes.specs.declared.Counts.{Counts}
 use Rattle.sizes.specs.declared.Sizes.{Sizes}
-use Rattle.sizes.specs.Bounds.{masterAt, sitesAt, writersAt, runsAt, totalOf, sizesOf}
-use Rattle.sizes.proofs.Offsets.{ordered}
+use Rattle.sizes.specs.Bounds.{ranged, sizesOf, totalOf}
+use Rattle.sizes.proofs.Offsets.{ranged-out, ordered}
+use Rattle.layout.specs.Calls.{newCause}
+use Rattle.layout.proofs.Kept.{no-lack}
 use Rattle.create.specs.Room.{Room}
 
--- Sizes, each by its definition.
-pub record Areas (z : Counts) (at : Sizes) : Type 0 where
-  pub master : at .master ≡ masterAt z
-  pub sites : at .sites ≡ sitesAt z
-  pub writers : at .writers ≡ writersAt z
-  pub runs : at .runs ≡ runsAt z
-  pub total : at .total ≡ totalOf z
-
-pub areas : {z : Counts} {at : Sizes} → at ≡ sizesOf z → Areas z at
+pub total-is : (z : Counts) (at : Sizes) → at ≡ sizesOf z → at .total ≡ totalOf z
 unfolding sizesOf
-areas e = record {
-  master = ap (λ (s : Sizes). s .master) e;
-  sites = ap (λ (s : Sizes). s .sites) e;
-  writers = ap (λ (s : Sizes). s .writers) e;
-  runs = ap (λ (s : Sizes). s .runs) e;
-  total = ap (λ (s : Sizes). s .total) e;
-}
+total-is z at e = ap (λ (s : Sizes). s .total) e
 
--- A header has room, and its sizes fit in words.
-pub record Small (len : ℕ) (at : Sizes) : Type 0 where
-  pub room : 10 ≤ len
-  pub master : at .master < 4294967296
-  pub sites : at .sites < 4294967296
-  pub writers : at .writers < 4294967296
-  pub runs : at .runs < 4294967296
-  pub total : at .total < 4294967296
-
-pub small : {len : ℕ} {z : Counts} {at : Sizes} → Room len z at → Small len at
-small {z = z} R =
-    let o = ordered z (R .counts) in
-    let a = areas (R .sizes) in
+pub room : (l : List ℕ) (z : Counts) → newCause l z ≡ 0 → Room (length l) z (sizesOf z)
+unfolding newCause sizesOf
+room l z e =
+    let a = no-lack (ranged z) 2 _ (omega arith) e in
+    let b = no-lack (leb (totalOf z) (length l)) 1 0 (omega arith) (a .1) in
+    let o = ordered z (ranged-out z (a .0)) in
     record {
-      room = omega (arith, R .fits);
-      master = omega arith;
-      sites = omega arith;
-      writers = omega arith;
-      runs = omega arith;
-      total = omega arith;
+      counts = ranged-out z (a .0);
+      sizes = refl;
+      master-in = omega arith;
+      sites-in = omega arith;
+      writers-in = omega arith;
+      runs-in = omega arith;
+      total-in = omega arith;
+      top = o .top;
+      fits = leb-le (totalOf z) (length l) (b .0);
     }
+
+-- The same room in another buffer of that length.
+pub same-room : (m n : ℕ) (z : Counts) (at : Sizes) → Room m z at → m ≡ n → Room n z at
+same-room m n z at R e = rw (← e) R

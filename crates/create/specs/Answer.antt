@@ -1,12 +1,12 @@
--- The answer of new: document 01's number and values for each case of the enum.
+-- The answer of new as an enum.
 -- Assumes nothing.
 use lib.ListN.{getD}
 use Rattle.model.specs.Outcome.{Outcome, refused, broken, done}
 use Rattle.create.specs.declared.Created.{Created}
 use Rattle.create.specs.declared.Created.the-variants.{Done, Refused}
 
--- Done with the first number of the answer, or refused with the cause's number. New is never
--- broken.
+-- Document 01's number and values for each case: Refused has the cause's number, Done the one
+-- number of the answer. New is never broken.
 unfoldable pub created : Outcome → Created
 created (refused n) = Refused n
 created (broken m s) = Refused 0

@@ -4,10 +4,17 @@ use mathlib.Core.Path.{_≡_}
 use Prim.Native.Nat.{ℕ, _≤_}
 use Rattle.sizes.specs.declared.Counts.{Counts}
 use Rattle.sizes.specs.declared.Sizes.{Sizes}
-use Rattle.sizes.specs.Bounds.{Ranged, sizesOf, totalOf}
+use Rattle.sizes.specs.Bounds.{Ranged, sizesOf}
 
--- Counts in range and their sizes; a buffer of len words has room for the store.
+-- Counts in range and their sizes: the areas follow each other, and a buffer of len words has room
+-- for them.
 pub record Room (len : ℕ) (z : Counts) (at : Sizes) : Type 0 where
   pub counts : Ranged z
   pub sizes : at ≡ sizesOf z
-  pub fits : totalOf z ≤ len
+  pub master-in : 10 ≤ at .master
+  pub sites-in : at .master ≤ at .sites
+  pub writers-in : at .sites ≤ at .writers
+  pub runs-in : at .writers ≤ at .runs
+  pub total-in : at .runs ≤ at .total
+  pub top : at .total ≤ 287514
+  pub fits : at .total ≤ len

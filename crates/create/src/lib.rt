@@ -96,6 +96,7 @@ fn is_between(top: usize, x: usize) -> bool
     1 <= x && x <= top
 }
 
+// Four words as counts.
 fn counts_of(keys: u32, writers: u32, sites: u32, runs: u32) -> Counts
     ensures { λ r. ⌜ r ≡ countsOf keys writers sites runs ⌝ }
 {
@@ -107,6 +108,7 @@ fn counts_of(keys: u32, writers: u32, sites: u32, runs: u32) -> Counts
     }
 }
 
+// Offsets and total.
 fn sizes_of(z: Counts) -> Sizes
     requires { ⌜ Ranged z ⌝ }
     ensures { λ r. ⌜ r ≡ sizesOf z ⌝ }

@@ -1,8 +1,8 @@
--- `store_header` meets its contract: each word is a count, or one of the sizes, and fits in 32 bits.
+-- `store_header` meets its contract: each word is a count or one of the sizes.
 -- Assumes nothing.
-use mathlib.Core.Path.{_≡_, ap, _∙_}
-use mathlib.Core.List.{List, [], _∷_}
-use Prim.Native.Nat.{ℕ, _≤_, _<_}
+use mathlib.Core.Path.{_≡_, ap}
+use mathlib.Core.List.{[], _∷_}
+use Prim.Native.Nat.{ℕ}
 use native.Mathlib.Omega.{arith}
 use lib.ListN.{length-set}
 use lib.Seq.{sets}
@@ -11,7 +11,6 @@ use Rattle.sizes.specs.declared.Counts.{Counts}
 use Rattle.sizes.specs.declared.Sizes.{Sizes}
 use Rattle.sizes.specs.Bounds.{sizesOf}
 use Rattle.layout.specs.Words.{headerWords}
-use Rattle.create.proofs.Sized.{Small, small}
 use Rattle.create.proofs.store_header.Statement.{statement}
 use Rattle.create.proofs.store_header.Tie as tie
 
@@ -19,63 +18,63 @@ narrow-requires : tie.Need-narrow-requires
 narrow-requires c κs = search needs
 
 slice-write-words : tie.Need-slice-write-words
-slice-write-words c = omega (arith, small (c .before .before .pre))
+slice-write-words c = search needs
 
 narrow-requires-2 : tie.Need-narrow-requires-2
 narrow-requires-2 c κs = search needs
 
 slice-write-words-2 : tie.Need-slice-write-words-2
-slice-write-words-2 c = simp length-set (omega (arith, small (c .before .before .before .pre)))
+slice-write-words-2 c = simp length-set (omega arith)
 
 narrow-requires-3 : tie.Need-narrow-requires-3
 narrow-requires-3 c κs = search needs
 
 slice-write-words-3 : tie.Need-slice-write-words-3
-slice-write-words-3 c = simp length-set (omega (arith, small (c .before .before .before .before .pre)))
+slice-write-words-3 c = simp length-set (omega arith)
 
 narrow-requires-4 : tie.Need-narrow-requires-4
 narrow-requires-4 c κs = search needs
 
 slice-write-words-4 : tie.Need-slice-write-words-4
-slice-write-words-4 c = simp length-set (omega (arith, small (c .before .before .before .before .before .pre)))
+slice-write-words-4 c = simp length-set (omega arith)
 
 slice-write-words-5 : tie.Need-slice-write-words-5
-slice-write-words-5 c = simp length-set (omega (arith, small (c .before .before .before .before .before .pre)))
+slice-write-words-5 c = simp length-set (omega arith)
 
 narrow-requires-5 : tie.Need-narrow-requires-5
-narrow-requires-5 c κs = omega (arith, small (c .before .before .before .before .before .pre))
+narrow-requires-5 c κs = search needs
 
 slice-write-words-6 : tie.Need-slice-write-words-6
-slice-write-words-6 c = simp length-set (omega (arith, small (c .before .before .before .before .before .before .pre)))
+slice-write-words-6 c = simp length-set (omega arith)
 
 narrow-requires-6 : tie.Need-narrow-requires-6
-narrow-requires-6 c κs = omega (arith, small (c .before .before .before .before .before .before .pre))
+narrow-requires-6 c κs = search needs
 
 slice-write-words-7 : tie.Need-slice-write-words-7
-slice-write-words-7 c = simp length-set (omega (arith, small (c .before .before .before .before .before .before .before .pre)))
+slice-write-words-7 c = simp length-set (omega arith)
 
 narrow-requires-7 : tie.Need-narrow-requires-7
-narrow-requires-7 c κs = omega (arith, small (c .before .before .before .before .before .before .before .pre))
+narrow-requires-7 c κs = search needs
 
 slice-write-words-8 : tie.Need-slice-write-words-8
-slice-write-words-8 c = simp length-set (omega (arith, small (c .before .before .before .before .before .before .before .before .pre)))
+slice-write-words-8 c = simp length-set (omega arith)
 
 narrow-requires-8 : tie.Need-narrow-requires-8
-narrow-requires-8 c κs = omega (arith, small (c .before .before .before .before .before .before .before .before .pre))
+narrow-requires-8 c κs = search needs
 
 slice-write-words-9 : tie.Need-slice-write-words-9
-slice-write-words-9 c = simp length-set (omega (arith, small (c .before .before .before .before .before .before .before .before .before .pre)))
+slice-write-words-9 c = simp length-set (omega arith)
 
 narrow-requires-9 : tie.Need-narrow-requires-9
-narrow-requires-9 c κs = omega (arith, small (c .before .before .before .before .before .before .before .before .before .pre))
+narrow-requires-9 c κs = search needs
 
 slice-write-words-10 : tie.Need-slice-write-words-10
-slice-write-words-10 c = simp length-set (omega (arith, small (c .before .before .before .before .before .before .before .before .before .before .pre)))
+slice-write-words-10 c = simp length-set (omega arith)
 
 same-length : tie.Need-same-length
 same-length c = search needs
 
--- The ten words.
+-- Ten words that are the counts and the sizes are the header.
 header-is : (z : Counts) (at : Sizes) (a b c d e f g h i : ℕ) → at ≡ sizesOf z
     → a ≡ z .keys → b ≡ z .writers → c ≡ z .sites → d ≡ z .runs
     → e ≡ at .master → f ≡ at .sites → g ≡ at .writers → h ≡ at .runs → i ≡ at .total
