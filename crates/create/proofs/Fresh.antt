@@ -1,0 +1,144 @@
+-- The words of a fresh store: the header, and zeros up to the total.
+-- zero-blocks: rows of zeros are zeros. fresh-words: the words. fresh-stored: a buffer that was
+-- filled with zeros up to the total, and then got the header, has the fresh store in it.
+-- Assumes nothing.
+use mathlib.Core.Path.{_≡_, refl, sym, ap, ap₂, _∙_}
+use mathlib.Core.List.{List, [], _∷_, _++_, append-assoc}
+use Prim.Native.Nat.{ℕ, zero, suc, _+_, _-_, _*_, _≤_}
+use native.Mathlib.Nat.{mul-one}
+use native.Mathlib.Omega.{arith}
+use lib.ListN.{length, drop, replicate, length-replicate, replicate-append-replicate}
+use lib.Seq.{sets, sets-eq}
+use Rattle.words.specs.Words.{put}
+use Rattle.words.specs.Lists.{blocks}
+use Rattle.sizes.specs.declared.Counts.{Counts}
+use Rattle.sizes.specs.declared.Sizes.{Sizes}
+use Rattle.sizes.specs.Bounds.{pastSize, versionSize, placeSize, siteSize, writerSize, runSize, masterAt, sitesAt, writersAt, runsAt, totalOf}
+use Rattle.model.specs.Version.{zeroPast, unheld}
+use Rattle.model.specs.Store.{emptyPlace, noWriter, noSite, freeRun, fresh}
+use Rattle.layout.specs.Words.{clockWords, pastWords, versionWords, placeWords, siteWords, sitesWords, writerWords, writersWords, jobWords, jobsWords, runWords, runsWords, headerWords, storeWords}
+use Rattle.layout.specs.Buffer.{written}
+use Rattle.layout.proofs.Merges.{table, put-table}
+use Rattle.create.specs.Room.{Room}
+use Rattle.create.proofs.Sized.{total-is}
+
+-- n zeros.
+abbrev zeros : ℕ → List ℕ
+zeros n = replicate n 0
+
+-- ---- zeros in a row
+
+zero-join : (x y : List ℕ) (m n k : ℕ) → x ≡ zeros m → y ≡ zeros n → m + n ≡ k
+    → x ++ y ≡ zeros k
+zero-join x y m n k p q e = ap₂ _++_ p q ∙ replicate-append-replicate m n 0 ∙ ap zeros e
+
+zero-cons : (x : List ℕ) (n : ℕ) → x ≡ zeros n → 0 ∷ x ≡ zeros (1 + n)
+zero-cons x n p = zero-join (0 ∷ []) x 1 n (1 + n) refl p refl
+
+pub zero-blocks : (n v : ℕ) (x : List ℕ) → x ≡ zeros v → blocks n (λ _. x) ≡ zeros (n * v)
+unfolding blocks
+zero-blocks zero v x p = let e : 0 ≡ 0 * v = omega arith in ap zeros e
+zero-blocks (suc n) v x p =
+    zero-join x (blocks n (λ _. x)) v (n * v) (suc n * v) p (zero-blocks n v x p) (omega arith)
+
+zero-table : (n : ℕ) → table n (λ _. 0) ≡ zeros n
+unfolding table
+zero-table zero = refl
+zero-table (suc n) =
+    zero-join (table n (λ _. 0)) (0 ∷ []) n 1 (suc n) (zero-table n) refl (omega arith)
+
+-- ---- the parts of a fresh store
+
+module _ (z : Counts) where
+  clock-zero : clockWords z (λ w. 0) ≡ zeros (z .writers)
+  unfolding clockWords
+  clock-zero = zero-blocks (z .writers) 1 (0 ∷ []) refl ∙ ap zeros (mul-one (z .writers))
+
+  past-zero : pastWords z zeroPast ≡ zeros (pastSize z)
+  unfolding pastWords pastSize
+  past-zero = zero-blocks (z .keys) (z .writers) (clockWords z (λ w. 0)) clock-zero
+
+  version-zero : versionWords z unheld ≡ zeros (versionSize z)
+  unfolding versionWords versionSize
+  version-zero = zero-cons (pastWords z zeroPast) (pastSize z) past-zero
+
+  place-zero : placeWords z emptyPlace ≡ zeros (placeSize z)
+  unfolding placeWords placeSize
+  place-zero = zero-blocks (z .keys) (versionSize z) (versionWords z unheld) version-zero
+
+  sites-zero : sitesWords z (λ o. noSite) ≡ zeros (z .sites * siteSize z)
+  unfolding sitesWords siteWords siteSize
+  sites-zero = zero-blocks (z .sites) (placeSize z) (placeWords z emptyPlace) place-zero
+
+  writers-zero : writersWords z (λ w. noWriter) ≡ zeros (z .writers * writerSize z)
+  unfolding writersWords writerWords writerSize
+  writers-zero =
+      zero-blocks (z .writers) (1 + pastSize z) (0 ∷ pastWords z zeroPast)
+      (zero-cons (pastWords z zeroPast) (pastSize z) past-zero)
+
+  run-zero : runWords z freeRun ≡ zeros (runSize z)
+  unfolding runWords runSize jobsWords jobWords blocks
+  run-zero =
+      zero-join (zeros 28) (placeWords z emptyPlace) 28 (placeSize z) (runSize z)
+      refl place-zero refl
+
+  runs-zero : runsWords z (λ r. freeRun) ≡ zeros (z .runs * runSize z)
+  unfolding runsWords
+  runs-zero = zero-blocks (z .runs) (runSize z) (runWords z freeRun) run-zero
+
+-- ---- the whole
+
+-- One area of zeros more.
+next : (h x y : List ℕ) (m n : ℕ) → x ≡ h ++ zeros m → y ≡ zeros n → x ++ y ≡ h ++ zeros (m + n)
+next h x y m n p q =
+    ap₂ _++_ p q
+    ∙ append-assoc h (zeros m) (zeros n)
+    ∙ ap (λ (t : List ℕ). h ++ t) (replicate-append-replicate m n 0)
+
+pub fresh-words : (z : Counts) (n : ℕ) → totalOf z ≡ 10 + n
+    → storeWords (fresh z) ≡ headerWords z 0 ++ zeros n
+unfolding fresh storeWords totalOf runsAt writersAt sitesAt masterAt
+fresh-words z n e =
+    let h = headerWords z 0 in
+    let a = placeSize z in
+    let b = z .sites * siteSize z in
+    let c = z .writers * writerSize z in
+    let d = z .runs * runSize z in
+    let k : a + b + c + d ≡ n = omega arith in
+    let master = ap (λ (t : List ℕ). h ++ t) (place-zero z) in
+    let sites = next h _ _ a b master (sites-zero z) in
+    let writers = next h _ _ (a + b) c sites (writers-zero z) in
+    next h _ _ (a + b + c) d writers (runs-zero z) ∙ ap (λ (k : ℕ). h ++ zeros k) k
+
+-- Zeros from the first word on.
+filled : (l : List ℕ) (n : ℕ) → n ≤ length l → put l 0 n (λ _. 0) ≡ zeros n ++ drop n l
+filled l n h =
+    let e : length (zeros n) ≡ n = length-replicate n 0 in
+    let k : 0 + length (zeros n) ≡ n = omega arith in
+    put-table l 0 n (λ _. 0)
+    ∙ ap (sets l 0) (zero-table n)
+    ∙ sets-eq (zeros n) l 0 (omega arith)
+    ∙ ap (λ (j : ℕ). zeros n ++ drop j l) k
+
+-- The header over the first ten of them.
+headed : (z : Counts) (n : ℕ) (rest : List ℕ)
+    → sets (zeros 10 ++ zeros n ++ rest) 0 (headerWords z 0) ≡ headerWords z 0 ++ zeros n ++ rest
+unfolding headerWords
+headed z n rest = refl
+
+pub fresh-stored : (l m n : List ℕ) (z : Counts) (at : Sizes) → Room (length l) z at
+    → m ≡ put l 0 (at .total) (λ _. 0) → n ≡ sets m 0 (headerWords z 0) → n ≡ written (fresh z) l
+unfolding written fresh
+fresh-stored l m n z at R p q =
+    let t = totalOf z in
+    let same = total-is z at (R .sizes) in
+    let k = t - 10 in
+    let rest = drop t l in
+    let e : t ≡ 10 + k = omega (arith, R) in
+    let split : zeros t ≡ zeros 10 ++ zeros k =
+    ap zeros e ∙ sym (replicate-append-replicate 10 k 0) in
+    let whole : m ≡ zeros 10 ++ zeros k ++ rest =
+    p ∙ ap (λ (j : ℕ). put l 0 j (λ _. 0)) same
+    ∙ filled l t (omega (arith, R .fits)) ∙ ap (λ (x : List ℕ). x ++ rest) split in
+    q ∙ ap (λ (x : List ℕ). sets x 0 (headerWords z 0)) whole
+    ∙ headed z k rest ∙ ap (λ (x : List ℕ). x ++ rest) (sym (fresh-words z k e))

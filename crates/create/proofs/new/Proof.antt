@@ -1,0 +1,46 @@
+-- `new` meets its contract: refused for its cause, or done.
+-- Assumes nothing.
+use borrow.Author.Needs.{needs}
+use Rattle.create.proofs.Outcomes.{new-no, new-done}
+use Rattle.create.proofs.new.Statement.{statement}
+use Rattle.create.proofs.new.Tie as tie
+
+counts-of-requires : tie.Need-counts-of-requires
+counts-of-requires c κs = search needs
+
+cause-requires : tie.Need-cause-requires
+cause-requires c κs = search needs
+
+same-length : tie.Need-same-length
+same-length c = search needs
+
+returns : tie.Need-returns
+returns c =
+    let b = c .before in
+    new-no _ _ _ _ (b .before .before .counts-of .ensures) (b .cause .ensures) (c .if1 .taken)
+
+store-fresh-requires : tie.Need-store-fresh-requires
+store-fresh-requires c κs = search needs
+
+same-length-2 : tie.Need-same-length-2
+same-length-2 c = search needs
+
+returns-2 : tie.Need-returns-2
+returns-2 c =
+    let s = c .before .before in
+    let e = s .before .before in
+    let b = e .before in
+    new-done _ _ _ _ _ _ (b .before .before .counts-of .ensures) (b .cause .ensures) (e .if1 .left)
+    (s .store-fresh .ensures .0) (s .store-fresh .ensures .1)
+
+pub new-spec : {M : Type 1} → statement M
+new-spec =
+    tie.close
+    (tie.spec
+    counts-of-requires
+    cause-requires
+    same-length
+    returns
+    store-fresh-requires
+    same-length-2
+    returns-2)

@@ -1,0 +1,125 @@
+// The call new: a fresh store written into a buffer of any content.
+use sizes::Counts;
+use sizes::Sizes;
+use words::wide;
+ghost use mathlib.Core.Path.{_≡_};
+ghost use Prim.Native.Nat.{_<_};
+ghost use lib.ListN.{length};
+ghost use lib.Seq.{sets};
+ghost use Rattle.sizes.specs.Bounds.{Ranged, between, ranged, countsOf, sizesOf, totalOf};
+ghost use Rattle.model.specs.Store.{fresh};
+ghost use Rattle.layout.specs.Words.{headerWords};
+ghost use Rattle.layout.specs.Buffer.{written};
+ghost use Rattle.layout.specs.Calls.{newCause, newOn, leaves};
+ghost use Rattle.create.specs.Answer.{created};
+ghost use Rattle.create.specs.Room.{Room};
+
+// The total of the fresh store, or the number of the cause for which new is refused.
+pub enum Created {
+    Done(u32),
+    Refused(u32),
+}
+
+// Writes a fresh store, or refuses and leaves every word.
+pub fn new(words: &mut [u32], keys: u32, writers: u32, sites: u32, runs: u32) -> Created
+    ensures answers { λ r. ⌜ r
+        ≡ created (newOn (now (words .entry)) (countsOf keys writers sites runs)) ⌝ }
+    ensures leaves { λ _. ⌜ now (words .exit)
+        ≡ leaves (newOn (now (words .entry)) (countsOf keys writers sites runs))
+        (now (words .entry)) ⌝ }
+{
+    let z = counts_of(keys, writers, sites, runs);
+    let no = cause(words, z);
+    if no != 0 {
+        return Created::Refused(no);
+    }
+    let total = store_fresh(words, z);
+    Created::Done(total)
+}
+
+// The cause for which new is refused, or 0. No size is computed from counts out of range.
+fn cause(words: &[u32], z: Counts) -> u32
+    ensures { λ r. ⌜ r ≡ newCause (now (words .entry)) z ⌝ }
+{
+    if !is_ranged(z) {
+        return 2;
+    }
+    let at = sizes_of(z);
+    if words.len() < at.total {
+        return 1;
+    }
+    0
+}
+
+// Zeros up to the total, then the header. Answers the total.
+fn store_fresh(words: &mut [u32], z: Counts) -> u32
+    requires { ⌜ newCause (now words) z ≡ 0 ⌝ }
+    ensures answers { λ r. ⌜ r ≡ totalOf z ⌝ }
+    ensures leaves { λ _. ⌜ now (words .exit) ≡ written (fresh z) (now (words .entry)) ⌝ }
+{
+    let at = sizes_of(z);
+    words::zero(words, 0, at.total);
+    store_header(words, z, at);
+    narrow(at.total)
+}
+
+// The ten words of the header.
+fn store_header(words: &mut [u32], z: Counts, at: Sizes)
+    requires { ⌜ Room (length (now words)) z at ⌝ }
+    ensures { λ _. ⌜ now (words .exit) ≡ sets (now (words .entry)) 0 (headerWords z 0) ⌝ }
+{
+    words[0] = narrow(z.keys);
+    words[1] = narrow(z.writers);
+    words[2] = narrow(z.sites);
+    words[3] = narrow(z.runs);
+    words[4] = 0;
+    words[5] = narrow(at.master);
+    words[6] = narrow(at.sites);
+    words[7] = narrow(at.writers);
+    words[8] = narrow(at.runs);
+    words[9] = narrow(at.total);
+}
+
+// Are the four counts in range?
+fn is_ranged(z: Counts) -> bool
+    ensures { λ r. ⌜ r ≡ ranged z ⌝ }
+{
+    is_between(Sizes::MAX_KEYS, z.keys)
+        && (is_between(Sizes::MAX_WRITERS, z.writers)
+            && (is_between(Sizes::MAX_SITES, z.sites) && is_between(Sizes::MAX_RUNS, z.runs)))
+}
+
+// 1 to top.
+fn is_between(top: usize, x: usize) -> bool
+    ensures { λ r. ⌜ r ≡ between top x ⌝ }
+{
+    1 <= x && x <= top
+}
+
+// Four words as counts.
+fn counts_of(keys: u32, writers: u32, sites: u32, runs: u32) -> Counts
+    ensures { λ r. ⌜ r ≡ countsOf keys writers sites runs ⌝ }
+{
+    Counts {
+        keys: wide(keys),
+        writers: wide(writers),
+        sites: wide(sites),
+        runs: wide(runs),
+    }
+}
+
+// Offsets and total.
+fn sizes_of(z: Counts) -> Sizes
+    requires { ⌜ Ranged z ⌝ }
+    ensures { λ r. ⌜ r ≡ sizesOf z ⌝ }
+{
+    Sizes::of(z.keys, z.writers, z.sites, z.runs)
+}
+
+// An index as a word.
+fn narrow(x: usize) -> u32
+    requires { ⌜ x < 4294967296 ⌝ }
+    ensures { λ r. ⌜ r ≡ x ⌝ }
+{
+    x as u32
+}
