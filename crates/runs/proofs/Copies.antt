@@ -12,14 +12,8 @@ use lib.Seq.{sets, sets-eq, drop-at, drop-length}
 use Rattle.words.specs.Words.{put}
 use Rattle.words.specs.Lists.{window}
 use Rattle.words.proofs.Lists.{length-window, window-add, window-all}
-use Rattle.layout.proofs.Merges.{table, put-table, window-more}
-
-table-window : (m : List ℕ) (b n : ℕ) → table n (λ i. getD m (b + i) 0) ≡ window m b n
-unfolding table window
-table-window m b zero = refl
-table-window m b (suc n) =
-    ap (λ (t : List ℕ). t ++ (getD m (b + n) 0 ∷ [])) (table-window m b n)
-    ∙ sym (window-more m b n)
+use Rattle.layout.proofs.Merges.{put-table}
+use Rattle.version.proofs.Versions.{table-window}
 
 pub put-window : (l m : List ℕ) (at b n : ℕ)
     → put l at n (λ i. getD m (b + i) 0) ≡ sets l at (window m b n)

@@ -1,7 +1,7 @@
--- What drop comes to on a buffer in form: refused by its cause, or done.
+-- What drop comes to: refused on a buffer not in form, refused by its cause, or done.
 -- Assumes nothing.
 use mathlib.Core.Path.{_≡_, refl, sym, _∙_}
-use mathlib.Core.Bool.{So}
+use mathlib.Core.Bool.{false, So}
 use mathlib.Core.Logic.{_≢_}
 use mathlib.Core.List.{List}
 use Prim.Native.Nat.{ℕ, _<_}
@@ -14,9 +14,9 @@ use Rattle.model.specs.Calls.{dropRun, ruleOf}
 use Rattle.layout.specs.Reading.{storeOf}
 use Rattle.layout.specs.Buffer.{inForm}
 use Rattle.layout.specs.Calls.{on, callOn, leaves}
-use Rattle.layout.proofs.Forms.{form-refused, form-done}
+use Rattle.layout.proofs.Forms.{no-form, form-refused, form-done}
 use Rattle.runs.specs.declared.Dropped.{Dropped}
-use Rattle.runs.specs.Runs.{dropped, runCause, Holds, putRun}
+use Rattle.runs.specs.Runs.{dropped, runCause, FormWith, putRun}
 use Rattle.runs.proofs.Reading.{cause-none, run-stored}
 
 drop-rule : (r : ℕ) (s : Store)
@@ -29,6 +29,10 @@ abbrev pub DropEnds : List ℕ → ℕ → Dropped → List ℕ → Type 0
 DropEnds l r x m =
     (x ≡ dropped (callOn (on (dropRun r)) l)) × (m ≡ leaves (callOn (on (dropRun r)) l) l)
 
+pub drop-unformed : (l : List ℕ) (r : ℕ) → inForm l ≡ false → DropEnds l r (Dropped.Refused 1) l
+unfolding dropped leaves
+drop-unformed l r e = rw (no-form (dropRun r) l e) (refl, refl)
+
 pub drop-refused : (l : List ℕ) (r n : ℕ) → So (inForm l) → n ≡ runCause (storeOf l) dropRow r
     → n ≢ 0 → DropEnds l r (Dropped.Refused n) l
 unfolding dropped leaves
@@ -37,7 +41,7 @@ drop-refused l r n F e h =
     let rule : ruleOf (dropRun r) s ≡ unless n (dropDone s r) = rw e (drop-rule r s) in
     rw (form-refused (dropRun r) l n (dropDone s r) F rule h) (refl, refl)
 
-pub drop-done : (l : List ℕ) (z : Counts) (r : ℕ) (m : List ℕ) → Holds l z
+pub drop-done : (l : List ℕ) (z : Counts) (r : ℕ) (m : List ℕ) → FormWith l z
     → runCause (storeOf l) dropRow r ≡ 0 → m ≡ putRun z l (runAt z r) freeRun
     → DropEnds l r Dropped.Done m
 unfolding dropped leaves dropDone

@@ -1,5 +1,5 @@
 -- A free run: its words are zero, and a free run in form has no others.
--- no-..: what is read where there are no words. free-words, free-is.
+-- no-jobs-words: the words of no jobs. zeros-free: zeros stored over a run. free-is: its form.
 -- Assumes nothing.
 use mathlib.Core.Path.{_≡_, refl, sym, ap, _∙_, fun-ext}
 use mathlib.Core.Bool.{Bool, So, not, _&&_}
@@ -14,40 +14,31 @@ use Rattle.words.specs.Lists.{window, upto}
 use Rattle.words.specs.Words.{put}
 use Rattle.words.proofs.Bools.{and-left, and-right, not-elim, eqb-eq, eq-eqb}
 use Rattle.words.proofs.Tests.{below-or-not, all-at}
-use Rattle.words.proofs.Lists.{upto-in, upto-out}
-use Rattle.clock.specs.Clock.{Clock}
 use Rattle.sizes.specs.declared.Counts.{Counts}
 use Rattle.sizes.specs.Bounds.{maxJobs, runSize}
-use Rattle.model.specs.Version.{unheld, zeroPast, held}
+use Rattle.model.specs.Version.{Version, unheld, held}
 use Rattle.model.specs.Store.{Job, Run, noJob, noJobs, emptyPlace, freeRun}
 use Rattle.model.specs.Form.{zeroRows, zeroJob, freeFormed, runFormed}
 use Rattle.layout.specs.Words.{jobsWords, runWords}
 use Rattle.layout.specs.Reading.{readClock, readPast, readVersion, readPlace, readJob, readJobs, readRun}
 use Rattle.layout.proofs.Parts.{FitJobs, FitRun, FitPlace, jobs-laws, run-laws}
 use Rattle.layout.proofs.Merges.{unheld-is}
+use Rattle.version.proofs.Versions.{upto-all, nothing-read}
 use Rattle.runs.specs.Runs.{putRun}
 use Rattle.runs.proofs.Copies.{put-zeros}
 
 -- ---- what is read where there are no words
 
 upto-one : {A : Type 0} (n : ℕ) (x : A) → upto n x (λ _. x) ≡ (λ _. x)
-upto-one n x =
-    fun-ext (λ i. ⊎-elim (upto-in n x (λ _. x) i) (upto-out n x (λ _. x) i) (below-or-not i n))
-
-no-past : (z : Counts) (at : ℕ) → readPast z [] at ≡ zeroPast
-unfolding readPast readClock
-no-past z at =
-    ap (λ (c : Clock). upto (z .keys) (λ w. 0) (λ d. c)) (upto-one (z .writers) 0)
-    ∙ upto-one (z .keys) (λ w. 0)
+upto-one n x = fun-ext (λ i. upto-all n x i)
 
 no-place : (z : Counts) (at : ℕ) → readPlace z [] at ≡ emptyPlace
 unfolding readPlace readVersion readPast readClock
 no-place z at =
-    ap (λ (p : ℕ → Clock). upto (z .keys) unheld (λ k. record { issue = 0; past = p }))
-    (no-past z 0)
+    ap (λ (v : Version). upto (z .keys) unheld (λ k. v)) (nothing-read z)
     ∙ upto-one (z .keys) unheld
 
-pub no-jobs : (at : ℕ) → readJobs [] at ≡ noJobs
+no-jobs : (at : ℕ) → readJobs [] at ≡ noJobs
 unfolding readJobs readJob
 no-jobs at = upto-one maxJobs noJob
 
@@ -100,7 +91,8 @@ module _ (z : Counts) (a : Run) (F : FitRun z a) where
   keyEmpty k = not (held (a .snapshot k)) && zeroRows z (a .snapshot k)
 
   place-is : So (allBelow (z .keys) keyEmpty) → a .snapshot ≡ emptyPlace
-  place-is p = fun-ext (λ k. ⊎-elim (λ h. below k h) (F .snapshot .rest k) (below-or-not k (z .keys)))
+  place-is p =
+      fun-ext (λ k. ⊎-elim (below k) (F .snapshot .rest k) (below-or-not k (z .keys)))
     where
       below : (k : ℕ) → k < z .keys → a .snapshot k ≡ unheld
       below k h =

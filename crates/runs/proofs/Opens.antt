@@ -1,4 +1,4 @@
--- What open comes to on a buffer in form: refused by its cause, or done.
+-- What open comes to: refused on a buffer not in form, refused by its cause, or done.
 -- cause-run, cause-list: its cause, as the code tests it. OpenReady, open-ready: no cause.
 -- Assumes nothing.
 use mathlib.Core.Path.{_≡_, refl, sym, _∙_}
@@ -23,9 +23,9 @@ use Rattle.layout.proofs.Parts.{run-laws}
 use Rattle.layout.proofs.Readings.{counts-in}
 use Rattle.layout.proofs.Kept.{no-cause, no-lack}
 use Rattle.layout.proofs.KeptOpen.{Listed, list-out}
-use Rattle.layout.proofs.Forms.{form-refused, form-done}
+use Rattle.layout.proofs.Forms.{no-form, form-refused, form-done}
 use Rattle.runs.specs.declared.Opened.{Opened}
-use Rattle.runs.specs.Runs.{opened, runCause, Holds, putRun, putJobs}
+use Rattle.runs.specs.Runs.{opened, runCause, FormWith, putRun, putJobs}
 use Rattle.runs.proofs.Freed.{free-is}
 use Rattle.runs.proofs.Reading.{run-known, run-stored, cause-none}
 use Rattle.runs.proofs.Started.{jobs-stored}
@@ -52,7 +52,7 @@ pub cause-run : (s : Store) (r : ℕ) (jobs : List ℕ) (n : ℕ) → n ≡ runC
     → n ≡ openCause s r jobs
 cause-run s r jobs n e h = rw (open-cause s r jobs, ← e, ne-eqb n 0 h)
 
-pub cause-list : (l : List ℕ) (z : Counts) (r : ℕ) (jobs : List ℕ) (b : Bool) → Holds l z
+pub cause-list : (l : List ℕ) (z : Counts) (r : ℕ) (jobs : List ℕ) (b : Bool) → FormWith l z
     → runCause (storeOf l) openRow r ≡ 0 → b ≡ listValid z jobs
     → refuse (not b) 5 0 ≡ openCause (storeOf l) r jobs
 cause-list l z r jobs b H e f =
@@ -72,7 +72,7 @@ pub record OpenReady (l : List ℕ) (z : Counts) (r : ℕ) (jobs : List ℕ) : T
   pub free : readRun z l (runAt z r) ≡ freeRun
   pub listed : Listed z jobs
 
-pub open-ready : (l : List ℕ) (z : Counts) (r : ℕ) (jobs : List ℕ) → Holds l z
+pub open-ready : (l : List ℕ) (z : Counts) (r : ℕ) (jobs : List ℕ) → FormWith l z
     → openCause (storeOf l) r jobs ≡ 0 → OpenReady l z r jobs
 unfolding openCause readRun
 open-ready l z r jobs H e =
@@ -83,10 +83,11 @@ open-ready l z r jobs H e =
     let d = no-lack (listValid (s .counts) jobs) 5 0 (omega arith) (b .1) in
     let h : r < z .runs = rw (← c) (leb-gt _ _ (a .0)) in
     let K = run-known l z r H h in
-    let state = free-state (getD l (runAt z r) 0) (K .state) (rw (K .run) at (b .0)) in
+    let at = runAt z r in
+    let state = free-state (getD l at 0) (K .state) (rw (K .run) at (b .0)) in
     record {
       run = h;
-      free = free-is z (readRun z l (runAt z r)) (run-laws z .fits l (runAt z r)) (K .formed) state;
+      free = free-is z (readRun z l at) (run-laws z .fits l at) (K .formed) state;
       listed = list-out z jobs (rw (← c) (d .0));
     }
 
@@ -103,6 +104,11 @@ OpenEnds l r jobs x m =
     (x ≡ opened (callOn (on (openRun r jobs)) l))
     × (m ≡ leaves (callOn (on (openRun r jobs)) l) l)
 
+pub open-unformed : (l : List ℕ) (r : ℕ) (jobs : List ℕ) → inForm l ≡ false
+    → OpenEnds l r jobs (Opened.Refused 1) l
+unfolding opened leaves
+open-unformed l r jobs e = rw (no-form (openRun r jobs) l e) (refl, refl)
+
 pub open-refused : (l : List ℕ) (r : ℕ) (jobs : List ℕ) (n : ℕ) → So (inForm l)
     → n ≡ openCause (storeOf l) r jobs → n ≢ 0 → OpenEnds l r jobs (Opened.Refused n) l
 unfolding opened leaves
@@ -112,7 +118,7 @@ open-refused l r jobs n F e h =
     rw e (open-rule r jobs s) in
     rw (form-refused (openRun r jobs) l n (openDone s r jobs) F rule h) (refl, refl)
 
-pub open-done : (l : List ℕ) (z : Counts) (r : ℕ) (jobs m : List ℕ) → Holds l z
+pub open-done : (l : List ℕ) (z : Counts) (r : ℕ) (jobs m : List ℕ) → FormWith l z
     → openCause (storeOf l) r jobs ≡ 0 → m ≡ putJobs l (runAt z r) jobs
     → OpenEnds l r jobs (Opened.Done (listedCount jobs)) m
 unfolding opened leaves openDone
@@ -120,6 +126,8 @@ open-done l z r jobs m H e f =
     let s = storeOf l in
     let R = open-ready l z r jobs H e in
     let K = run-known l z r H (R .run) in
-    rw (form-done (openRun r jobs) l _ (openDone s r jobs) (H .form) (open-rule r jobs s) e)
-    (refl, f ∙ jobs-stored z l (runAt z r) jobs (R .listed) (K .ends) (R .free)
-    ∙ run-stored l z r (openedRun jobs) H (R .run))
+    rw (form-done (openRun r jobs) l _ (openDone s r jobs) (H .form) (open-rule r jobs s) e) (
+      refl,
+      f ∙ jobs-stored z l (runAt z r) jobs (R .listed) (K .ends) (R .free)
+          ∙ run-stored l z r (openedRun jobs) H (R .run),
+    )

@@ -26,7 +26,7 @@ use Rattle.layout.proofs.Formed.{well-out}
 use Rattle.layout.proofs.Plans.{plan-out}
 use Rattle.layout.proofs.Follow.{form-fine}
 use Rattle.layout.proofs.Kept.{no-cause, no-lack}
-use Rattle.runs.specs.Runs.{Holds, putRun, runCause}
+use Rattle.runs.specs.Runs.{FormWith, putRun, runCause}
 
 -- ---- the whole buffer
 
@@ -39,7 +39,7 @@ form-long l p =
     let S = shaped-out l (in-shape l p) in
     omega (arith, S .fits, ordered (countsIn l) (S .counts))
 
-pub holds-ranged : (l : List ℕ) (z : Counts) → Holds l z → Ranged z
+pub holds-ranged : (l : List ℕ) (z : Counts) → FormWith l z → Ranged z
 holds-ranged l z H = rw (H .counts) (shaped-out l (in-shape l (H .form)) .counts)
 
 -- ---- one run
@@ -59,7 +59,7 @@ pub record RunKnown (l : List ℕ) (z : Counts) (r : ℕ) : Type 0 where
   pub formed : So (runFormed z (readRun z l (runAt z r)))
   pub state : getD l (runAt z r) 0 < 3
 
-pub run-known : (l : List ℕ) (z : Counts) (r : ℕ) → Holds l z → r < z .runs → RunKnown l z r
+pub run-known : (l : List ℕ) (z : Counts) (r : ℕ) → FormWith l z → r < z .runs → RunKnown l z r
 unfolding storeOf readRun runSize
 run-known l z r H h =
     let R = holds-ranged l z H in
@@ -79,7 +79,7 @@ run-known l z r H h =
       state = state-low z (readRun z l (runAt z r)) formed;
     }
 
-pub run-stored : (l : List ℕ) (z : Counts) (r : ℕ) (a : Run) → Holds l z → r < z .runs
+pub run-stored : (l : List ℕ) (z : Counts) (r : ℕ) (a : Run) → FormWith l z → r < z .runs
     → putRun z l (runAt z r) a ≡ written (withRun (storeOf l) r a) l
 unfolding storeOf
 run-stored l z r a H h =
@@ -91,14 +91,14 @@ run-stored l z r a H h =
 
 -- ---- causes
 
-pub cause-high : (l : List ℕ) (z : Counts) (row r : ℕ) → Holds l z → z .runs ≤ r
+pub cause-high : (l : List ℕ) (z : Counts) (row r : ℕ) → FormWith l z → z .runs ≤ r
     → 3 ≡ runCause (storeOf l) row r
 unfolding runCause refuse
 cause-high l z row r H h =
     let e : storeOf l .counts ≡ z = counts-in l ∙ sym (H .counts) in rw (e, le-leb _ _ h)
 
 -- b: what the code finds of the word at the run's index.
-pub cause-state : (l : List ℕ) (z : Counts) (row r : ℕ) → Holds l z → r < z .runs
+pub cause-state : (l : List ℕ) (z : Counts) (row r : ℕ) → FormWith l z → r < z .runs
     → (at : ℕ) (b : Bool) → at ≡ runAt z r → b ≡ allowed row (getD l at 0)
     → refuse (not b) 4 0 ≡ runCause (storeOf l) row r
 unfolding runCause refuse readRun
@@ -107,7 +107,7 @@ cause-state l z row r H h at b e f =
     rw (c, gt-leb _ _ h, run-known l z r H h .run, ← e, ← f)
 
 -- Where they do not hold, run r is one of the runs and in a state that the call allows.
-pub cause-none : (l : List ℕ) (z : Counts) (row r : ℕ) → Holds l z
+pub cause-none : (l : List ℕ) (z : Counts) (row r : ℕ) → FormWith l z
     → runCause (storeOf l) row r ≡ 0 → (r < z .runs) × So (allowed row (storeOf l .run r .state))
 unfolding runCause
 cause-none l z row r H e =

@@ -1,6 +1,6 @@
 -- Open and drop on a buffer: their answers, and what the parts of their code are told by.
 -- opened, dropped: the answer of an outcome. runCause: the causes that calls on a run share.
--- Holds: a buffer in form, and its counts. putRun, putJobs: a run stored at an index, and what
+-- FormWith: a buffer in form, and its counts. putRun, putJobs: a run stored at an index, and what
 -- open stores of it.
 -- Assumes nothing.
 use mathlib.Core.Path.{_≡_}
@@ -42,7 +42,7 @@ runCause s row r =
     0)
 
 -- A buffer in form, and the counts in its header.
-pub record Holds (l : List ℕ) (z : Counts) : Type 0 where
+pub record FormWith (l : List ℕ) (z : Counts) : Type 0 where
   pub form : So (inForm l)
   pub counts : z ≡ countsIn l
 

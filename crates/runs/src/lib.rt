@@ -3,6 +3,7 @@ pub mod jobs;
 pub mod run;
 
 use form::header::counts;
+use form::in_form;
 use jobs::list_valid;
 use jobs::put_jobs;
 use run::clear_run;
@@ -18,7 +19,7 @@ ghost use Rattle.model.specs.Calls.{openRun, dropRun};
 ghost use Rattle.layout.specs.Reading.{storeOf};
 ghost use Rattle.layout.specs.Buffer.{inForm};
 ghost use Rattle.layout.specs.Calls.{on, callOn, leaves};
-ghost use Rattle.runs.specs.Runs.{opened, dropped, Holds};
+ghost use Rattle.runs.specs.Runs.{opened, dropped, FormWith};
 
 // The number of jobs, or the cause's number.
 pub enum Opened {
@@ -50,9 +51,23 @@ pub fn drop_in(words: &mut [u32], run: u32) -> Dropped
     Dropped::Done
 }
 
+// Frees the run.
+pub fn drop(words: &mut [u32], run: u32) -> Dropped
+    ensures answers { λ r. ⌜ r ≡ dropped (callOn (on (dropRun run)) (now (words .entry))) ⌝ }
+    ensures leaves { λ _. ⌜ now (words .exit)
+        ≡ leaves (callOn (on (dropRun run)) (now (words .entry))) (now (words .entry)) ⌝ }
+    ensures keeps { λ _. ⌜ (So (inForm (now (words .entry)))
+        → So (inForm (now (words .exit)))) ⌝ }
+{
+    if !in_form(words) {
+        return Dropped::Refused(1);
+    }
+    drop_in(words, run)
+}
+
 // The first cause for which open is refused on a buffer in form, or 0.
 pub fn open_cause(words: &[u32], z: Counts, r: usize, jobs: &[u32]) -> u32
-    requires { ⌜ Holds (now words) z ⌝ }
+    requires { ⌜ FormWith (now words) z ⌝ }
     ensures { λ c. ⌜ c ≡ openCause (storeOf (now (words .entry))) r (now (jobs .entry)) ⌝ }
 {
     let no = run_cause(words, z, OPEN_ROW, r);
@@ -83,4 +98,20 @@ pub fn open_in(words: &mut [u32], run: u32, jobs: &[u32]) -> Opened
     let at = z.run_at(r);
     let n = put_jobs(words, at, jobs);
     Opened::Done(n)
+}
+
+// Begins a run of the jobs in a list, three words for each. The list may have any length.
+pub fn open(words: &mut [u32], run: u32, jobs: &[u32]) -> Opened
+    ensures answers { λ r. ⌜ r
+        ≡ opened (callOn (on (openRun run (now (jobs .entry)))) (now (words .entry))) ⌝ }
+    ensures leaves { λ _. ⌜ now (words .exit)
+        ≡ leaves (callOn (on (openRun run (now (jobs .entry)))) (now (words .entry)))
+        (now (words .entry)) ⌝ }
+    ensures keeps { λ _. ⌜ (So (inForm (now (words .entry)))
+        → So (inForm (now (words .exit)))) ⌝ }
+{
+    if !in_form(words) {
+        return Opened::Refused(1);
+    }
+    open_in(words, run, jobs)
 }

@@ -8,12 +8,12 @@ ghost use lib.ListN.{length};
 ghost use Rattle.sizes.specs.Bounds.{Ranged, runSize};
 ghost use Rattle.model.specs.Store.{freeRun};
 ghost use Rattle.layout.specs.Reading.{storeOf};
-ghost use Rattle.runs.specs.Runs.{runCause, Holds, putRun};
+ghost use Rattle.runs.specs.Runs.{runCause, FormWith, putRun};
 
 // The first cause for which a call on run r is refused: there is no such run, or its state isn't
 // one that the call, a row of the table, allows. 0: none.
 pub fn run_cause(words: &[u32], z: Counts, row: u32, r: usize) -> u32
-    requires { ⌜ Holds (now words) z ⌝ }
+    requires { ⌜ FormWith (now words) z ⌝ }
     requires { ⌜ row < 5 ⌝ }
     ensures { λ c. ⌜ c ≡ runCause (storeOf (now (words .entry))) row r ⌝ }
 {

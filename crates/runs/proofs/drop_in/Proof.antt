@@ -6,7 +6,7 @@ use borrow.Author.Needs.{needs}
 use Rattle.model.specs.Store.{freeRun}
 use Rattle.model.specs.Outcome.{dropRow}
 use Rattle.layout.specs.Reading.{storeOf}
-use Rattle.runs.specs.Runs.{Holds, putRun, runCause}
+use Rattle.runs.specs.Runs.{FormWith, putRun, runCause}
 use Rattle.runs.proofs.Reading.{form-long, RunKnown, run-known, cause-none}
 use Rattle.runs.proofs.Drops.{drop-refused, drop-done}
 use Rattle.runs.proofs.drop_in.Statement.{statement}
@@ -16,7 +16,8 @@ wide-requires : tie.Need-wide-requires
 wide-requires c κs = search needs
 
 counts-requires : tie.Need-counts-requires
-counts-requires c κs = let s = c .before .before .before in form-long (s .args .words .now) (s .pre)
+counts-requires c κs =
+    let s = c .before .before .before in form-long (s .args .words .now) (s .pre)
 
 run-cause-requires : tie.Need-run-cause-requires
 run-cause-requires c κs = search needs
@@ -34,7 +35,7 @@ returns c =
 
 -- Where no cause holds: the store's counts, and the run is one of its runs.
 holds : (c : tie.Else1) → let n = c .before .before .before in
-    Holds (n .before .before .before .before .args .words .now) (n .counts .result)
+    FormWith (n .before .before .before .before .args .words .now) (n .counts .result)
 holds c =
     let n = c .before .before .before in
     record { form = n .before .before .before .before .pre; counts = n .counts .ensures }

@@ -6,7 +6,7 @@ use borrow.Author.Needs.{needs}
 use native.Mathlib.Omega.{arith}
 use Rattle.model.specs.Runs.{openCause}
 use Rattle.layout.specs.Reading.{storeOf}
-use Rattle.runs.specs.Runs.{Holds, putJobs}
+use Rattle.runs.specs.Runs.{FormWith, putJobs}
 use Rattle.runs.proofs.Reading.{form-long, RunKnown, run-known}
 use Rattle.runs.proofs.Opens.{OpenReady, open-ready, open-refused, open-done}
 use Rattle.runs.proofs.open_in.Statement.{statement}
@@ -35,7 +35,7 @@ returns c =
 
 -- Where no cause holds: the store's counts, the run and the list.
 holds : (c : tie.Else1) → let n = c .before .before .before in
-    Holds (n .before .before .before .before .before .args .words .now) (n .counts .result)
+    FormWith (n .before .before .before .before .before .args .words .now) (n .counts .result)
 holds c =
     let n = c .before .before .before in
     record { form = n .before .before .before .before .before .pre; counts = n .counts .ensures }
@@ -61,8 +61,7 @@ run-at-requires c κs = (known c .counts, ready c .run)
 put-jobs-requires : tie.Need-put-jobs-requires
 put-jobs-requires c κs =
     let K = known (c .before .before) in
-    let L = ready (c .before .before) .listed in
-    (
+    let L = ready (c .before .before) .listed in (
       rw (c .before .run-at .ensures) (omega (arith, K .ends, K .size)),
       omega (arith, L .whole, L .high),
     )

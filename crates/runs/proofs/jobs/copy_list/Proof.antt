@@ -60,8 +60,9 @@ returns : tie.Need-returns Inv-loop μ-loop
 returns c =
     let l = c .before in
     let a = l .before .args in
+    let f : ℕ → ℕ = λ j. getD (a .list .now) j 0 in
     let e : l .loop .i ≡ length (a .list .now) = omega arith in
-    l .loop .inv .2 ∙ ap (λ (n : ℕ). put (a .words .now) (a .at) n (λ j. getD (a .list .now) j 0)) e
+    l .loop .inv .2 ∙ ap (λ (n : ℕ). put (a .words .now) (a .at) n f) e
 
 pub copy-list-spec : {M : Type 1} → statement M
 copy-list-spec =
