@@ -8,6 +8,7 @@ use crate::job::reads_of;
 use crate::place::place_formed;
 use masks::without;
 use sizes::Counts;
+use sizes::Sizes;
 use version::held_mask;
 use words::wide;
 ghost use mathlib.Core.Path.{_≡_};
@@ -26,7 +27,7 @@ pub fn jobs_formed(words: &[u32], z: Counts, at: usize) -> bool
     ensures { λ r. ⌜ r ≡ jobsFormed z (readRun z (now (words .entry)) at) ⌝ }
 {
     let n = wide(words[at + 1]);
-    is_between(n, 8) & each_job(words, z, at + 4, n)
+    is_between(n, Sizes::MAX_JOBS) & each_job(words, z, at + 4, n)
 }
 
 // Whether the done mask is one of the run's jobs, and the read mask just what these read.
@@ -42,6 +43,7 @@ pub fn masks_formed(words: &[u32], z: Counts, at: usize) -> bool
 }
 
 // Whether the snapshot is in form, holds only keys of the plan, and each key that was read.
+// 255 is the mask of all jobs.
 pub fn snapshot_formed(words: &[u32], z: Counts, at: usize) -> bool
     requires { ⌜ RunArea (length (now words)) z at ⌝ }
     requires { ⌜ So (jobsFormed z (readRun z (now words) at)) ⌝ }

@@ -5,9 +5,11 @@ use mathlib.Core.Bool.{So}
 use borrow.Author.Needs.{needs}
 use borrow.Author.Tests.{not-true, not-false}
 use lib.ListN.{length}
+use Rattle.sizes.specs.Bounds.{sizesOf}
 use Rattle.layout.specs.Buffer.{shaped, inForm}
+use Rattle.version.proofs.Stores.{master-area}
 use Rattle.form.specs.Parts.{StoreArea}
-use Rattle.form.proofs.Stores.{master-area, shaped-area, shaped-long, store-test}
+use Rattle.form.proofs.Stores.{shaped-area, shaped-long, store-test}
 use Rattle.form.proofs.in_form.Statement.{statement}
 use Rattle.form.proofs.in_form.Tie as tie
 
@@ -29,29 +31,36 @@ area c = rw (c .counts .ensures) (shaped-area _ (yes (c .before)))
 counts-requires : tie.Need-counts-requires
 counts-requires c κs = shaped-long _ (yes c)
 
+areas-requires : tie.Need-areas-requires
+areas-requires c κs = area c .ranged
+
 place-formed-requires : tie.Need-place-formed-requires
-place-formed-requires c κs = master-area _ _ (area c)
+unfolding sizesOf
+place-formed-requires c κs =
+    let A = area (c .before) in rw (c .areas .ensures) (master-area _ _ (A .ranged) (A .fits))
 
 sites-formed-requires : tie.Need-sites-formed-requires
-sites-formed-requires c κs = area (c .before)
+sites-formed-requires c κs = area (c .before .before)
 
 runs-formed-requires : tie.Need-runs-formed-requires
-runs-formed-requires c κs = area (c .before .before)
+runs-formed-requires c κs = area (c .before .before .before)
 
 returns-2 : tie.Need-returns-2
-unfolding inForm
+unfolding inForm sizesOf
 returns-2 c =
     let s = c .before in
     let p = s .before in
-    let n = p .before in
-    let l = n .before .before .before .before .args .words .now in
+    let a = p .before in
+    let n = a .before in
     rw (
       yes (n .before),
       p .place-formed .ensures,
       s .sites-formed .ensures,
       c .runs-formed .ensures,
+      a .areas .ensures,
       n .counts .ensures,
-    ) (store-test l)
+    )
+    (store-test (n .before .before .before .before .args .words .now))
 
 pub in-form-spec : {M : Type 1} → statement M
 in-form-spec =
@@ -60,6 +69,7 @@ in-form-spec =
     shaped-requires
     returns
     counts-requires
+    areas-requires
     place-formed-requires
     sites-formed-requires
     runs-formed-requires

@@ -41,7 +41,7 @@ run-formed-requires : tie.Need-run-formed-requires Inv-loop μ-loop
 run-formed-requires c κs =
     let l = c .before .before in
     let s = l .before .before in
-    rw (c .run-at .ensures) (run-area (s .args .z) _ (s .pre) (l .loop .i) (omega arith))
+    rw (c .run-at .ensures) (run-area _ (s .args .z) (s .pre) (l .loop .i) (omega arith))
 
 -- What the code finds is the test of run i.
 found : (c : tie.After-run-formed Inv-loop μ-loop) → let l = c .before .before .before in

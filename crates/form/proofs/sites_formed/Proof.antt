@@ -12,7 +12,7 @@ use Rattle.sizes.specs.declared.Counts.{Counts}
 use Rattle.model.specs.Form.{placeFormed}
 use Rattle.layout.specs.Reading.{readPlace}
 use Rattle.form.proofs.Loops.{loop-fails, loop-turn, loop-ends}
-use Rattle.form.proofs.Stores.{site-area}
+use Rattle.version.proofs.Stores.{site-area}
 use Rattle.form.proofs.sites_formed.Statement.{statement}
 use Rattle.form.proofs.sites_formed.Tie as tie
 
@@ -41,7 +41,7 @@ place-formed-requires : tie.Need-place-formed-requires Inv-loop μ-loop
 place-formed-requires c κs =
     let l = c .before .before in
     let s = l .before .before in
-    rw (c .site-at .ensures) (site-area (s .args .z) _ (s .pre) (l .loop .o) (omega arith))
+    rw (c .site-at .ensures) (site-area _ (s .args .z) (s .pre .ranged) (s .pre .fits) (l .loop .o) (omega arith))
 
 -- What the code finds is the test of site o.
 found : (c : tie.After-place-formed Inv-loop μ-loop) → let l = c .before .before .before in
