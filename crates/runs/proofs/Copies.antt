@@ -1,6 +1,5 @@
 -- Words that a loop stores one by one, as one store.
--- put-window: words copied from an index of a list on. put-zeros: zeros. put-list: a whole list.
--- past-end, sets-front: a list stored over zeros.
+-- put-zeros: zeros. put-list: the words of a list. sets-front: a list stored over zeros.
 -- Assumes nothing.
 use mathlib.Core.Path.{_≡_, refl, sym, ap, ap₂, _∙_, fun-ext}
 use mathlib.Core.List.{List, [], _∷_, _++_, append-nil}
@@ -15,7 +14,7 @@ use Rattle.words.proofs.Lists.{length-window, window-add, window-all}
 use Rattle.layout.proofs.Merges.{put-table}
 use Rattle.version.proofs.Versions.{table-window}
 
-pub put-window : (l m : List ℕ) (at b n : ℕ)
+put-window : (l m : List ℕ) (at b n : ℕ)
     → put l at n (λ i. getD m (b + i) 0) ≡ sets l at (window m b n)
 put-window l m at b n =
     put-table l at n (λ i. getD m (b + i) 0) ∙ ap (sets l at) (table-window m b n)

@@ -1,10 +1,10 @@
 -- What drop comes to: refused on a buffer not in form, refused by its cause, or done.
 -- Assumes nothing.
-use mathlib.Core.Path.{_≡_, refl, sym, _∙_}
+use mathlib.Core.Path.{_≡_, refl, _∙_}
 use mathlib.Core.Bool.{false, So}
 use mathlib.Core.Logic.{_≢_}
 use mathlib.Core.List.{List}
-use Prim.Native.Nat.{ℕ, _<_}
+use Prim.Native.Nat.{ℕ}
 use Rattle.sizes.specs.declared.Counts.{Counts}
 use Rattle.sizes.specs.Bounds.{runAt}
 use Rattle.model.specs.Store.{Store, freeRun}
@@ -17,7 +17,7 @@ use Rattle.layout.specs.Calls.{on, callOn, leaves}
 use Rattle.layout.proofs.Forms.{no-form, form-refused, form-done}
 use Rattle.runs.specs.declared.Dropped.{Dropped}
 use Rattle.runs.specs.Runs.{dropped, runCause, FormWith, putRun}
-use Rattle.runs.proofs.Reading.{cause-none, run-stored}
+use Rattle.runs.proofs.Known.{cause-none, run-stored}
 
 drop-rule : (r : ℕ) (s : Store)
     → ruleOf (dropRun r) s ≡ unless (runCause s dropRow r) (dropDone s r)

@@ -1,12 +1,11 @@
 -- A free run: its words are zero, and a free run in form has no others.
 -- no-jobs-words: the words of no jobs. zeros-free: zeros stored over a run. free-is: its form.
 -- Assumes nothing.
-use mathlib.Core.Path.{_≡_, refl, sym, ap, _∙_, fun-ext}
+use mathlib.Core.Path.{_≡_, sym, ap, _∙_, fun-ext}
 use mathlib.Core.Bool.{Bool, So, not, _&&_}
 use mathlib.Core.Logic.{⊎-elim}
 use mathlib.Core.List.{List, []}
-use Prim.Native.Nat.{ℕ, _≤_, _<_}
-use native.Mathlib.Omega.{arith}
+use Prim.Native.Nat.{ℕ, _<_}
 use lib.Dec.{eqb}
 use lib.Seq.{sets}
 use Rattle.words.specs.Tests.{allBelow}
@@ -21,7 +20,7 @@ use Rattle.model.specs.Store.{Job, Run, noJob, noJobs, emptyPlace, freeRun}
 use Rattle.model.specs.Form.{zeroRows, zeroJob, freeFormed, runFormed}
 use Rattle.layout.specs.Words.{jobsWords, runWords}
 use Rattle.layout.specs.Reading.{readClock, readPast, readVersion, readPlace, readJob, readJobs, readRun}
-use Rattle.layout.proofs.Parts.{FitJobs, FitRun, FitPlace, jobs-laws, run-laws}
+use Rattle.layout.proofs.Parts.{FitJobs, FitRun, jobs-laws, run-laws}
 use Rattle.layout.proofs.Merges.{unheld-is}
 use Rattle.version.proofs.Versions.{upto-all, nothing-read}
 use Rattle.runs.specs.Runs.{putRun}

@@ -5,7 +5,7 @@ use mathlib.Core.Path.{_≡_, refl, sym, _∙_}
 use mathlib.Core.Bool.{Bool, true, false, cond, not, So, false≢true}
 use mathlib.Core.Logic.{_≢_}
 use mathlib.Core.List.{List}
-use Prim.Native.Nat.{ℕ, zero, suc, _≤_, _<_}
+use Prim.Native.Nat.{ℕ, zero, suc, _<_}
 use native.Mathlib.Omega.{arith}
 use lib.Dec.{eqb, leb}
 use lib.ListN.{getD}
@@ -25,9 +25,9 @@ use Rattle.layout.proofs.Kept.{no-cause, no-lack}
 use Rattle.layout.proofs.KeptOpen.{Listed, list-out}
 use Rattle.layout.proofs.Forms.{no-form, form-refused, form-done}
 use Rattle.runs.specs.declared.Opened.{Opened}
-use Rattle.runs.specs.Runs.{opened, runCause, FormWith, putRun, putJobs}
+use Rattle.runs.specs.Runs.{opened, runCause, FormWith, putJobs}
 use Rattle.runs.proofs.Freed.{free-is}
-use Rattle.runs.proofs.Reading.{run-known, run-stored, cause-none}
+use Rattle.runs.proofs.Known.{area-ends, run-known, run-stored}
 use Rattle.runs.proofs.Started.{jobs-stored}
 
 -- ---- its cause
@@ -125,9 +125,9 @@ unfolding opened leaves openDone
 open-done l z r jobs m H e f =
     let s = storeOf l in
     let R = open-ready l z r jobs H e in
-    let K = run-known l z r H (R .run) in
+    let ends = area-ends _ z _ (run-known l z r H (R .run) .area) in
     rw (form-done (openRun r jobs) l _ (openDone s r jobs) (H .form) (open-rule r jobs s) e) (
       refl,
-      f ∙ jobs-stored z l (runAt z r) jobs (R .listed) (K .ends) (R .free)
+      f ∙ jobs-stored z l (runAt z r) jobs (R .listed) ends (R .free)
           ∙ run-stored l z r (openedRun jobs) H (R .run),
     )

@@ -16,7 +16,7 @@ use Rattle.words.proofs.Words.{length-put}
 use Rattle.words.proofs.Stores.{sets-left, sets-behind}
 use Rattle.sizes.specs.declared.Counts.{Counts}
 use Rattle.sizes.specs.Bounds.{maxJobs, runSize}
-use Rattle.model.specs.Store.{Job, Run, noJob, noJobs, emptyPlace, freeRun}
+use Rattle.model.specs.Store.{Run, noJob, noJobs, emptyPlace, freeRun}
 use Rattle.model.specs.Outcome.{openState}
 use Rattle.model.specs.Runs.{listedJob, listedCount, listedJobs, openedRun}
 use Rattle.layout.specs.Words.{jobsWords, placeWords, runWords}

@@ -3,11 +3,11 @@ use sizes::Counts;
 use states::is_allowed;
 use words::zero;
 ghost use mathlib.Core.Path.{_≡_};
-ghost use Prim.Native.Nat.{_+_, _≤_, _<_};
+ghost use Prim.Native.Nat.{_<_};
 ghost use lib.ListN.{length};
-ghost use Rattle.sizes.specs.Bounds.{Ranged, runSize};
 ghost use Rattle.model.specs.Store.{freeRun};
 ghost use Rattle.layout.specs.Reading.{storeOf};
+ghost use Rattle.form.specs.Parts.{RunArea};
 ghost use Rattle.runs.specs.Runs.{runCause, FormWith, putRun};
 
 // The first cause for which a call on run r is refused: there is no such run, or its state isn't
@@ -30,8 +30,7 @@ pub fn run_cause(words: &[u32], z: Counts, row: u32, r: usize) -> u32
 
 // Makes the run at an index a free one: all its words are zero.
 pub fn clear_run(words: &mut [u32], z: Counts, at: usize)
-    requires { ⌜ Ranged z ⌝ }
-    requires { ⌜ at + runSize z ≤ length (now words) ⌝ }
+    requires { ⌜ RunArea (length (now words)) z at ⌝ }
     ensures { λ _. ⌜ now (words .exit) ≡ putRun z (now (words .entry)) at freeRun ⌝ }
 {
     let n = z.run_size();

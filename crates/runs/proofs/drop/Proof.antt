@@ -1,6 +1,6 @@
 -- `drop` refuses a buffer that isn't in form, and leaves one that is in form.
 -- Assumes nothing.
-use mathlib.Core.Path.{_≡_, sym, _∙_}
+use mathlib.Core.Path.{sym, _∙_}
 use mathlib.Core.Bool.{So}
 use borrow.Author.Needs.{needs}
 use borrow.Author.Tests.{not-true, not-false}

@@ -7,7 +7,7 @@ use Rattle.model.specs.Store.{freeRun}
 use Rattle.model.specs.Outcome.{dropRow}
 use Rattle.layout.specs.Reading.{storeOf}
 use Rattle.runs.specs.Runs.{FormWith, putRun, runCause}
-use Rattle.runs.proofs.Reading.{form-long, RunKnown, run-known, cause-none}
+use Rattle.runs.proofs.Known.{form-long, RunKnown, run-known, cause-none}
 use Rattle.runs.proofs.Drops.{drop-refused, drop-done}
 use Rattle.runs.proofs.drop_in.Statement.{statement}
 use Rattle.runs.proofs.drop_in.Tie as tie
@@ -55,12 +55,10 @@ known : (c : tie.Else1) → let n = c .before .before .before in
 known c = run-known _ _ _ (holds c) (below c)
 
 run-at-requires : tie.Need-run-at-requires
-run-at-requires c κs = (known c .counts, below c)
+run-at-requires c κs = (known c .area .ranged, below c)
 
 clear-run-requires : tie.Need-clear-run-requires
-clear-run-requires c κs =
-    let K = known (c .before .before) in
-    (K .counts, rw (c .before .run-at .ensures) (K .ends))
+clear-run-requires c κs = rw (c .before .run-at .ensures) (known (c .before .before) .area)
 
 same-length-2 : tie.Need-same-length-2
 same-length-2 c = search needs

@@ -1,6 +1,6 @@
 -- `open` refuses a buffer that isn't in form, and leaves one that is in form.
 -- Assumes nothing.
-use mathlib.Core.Path.{_≡_, sym, _∙_}
+use mathlib.Core.Path.{sym, _∙_}
 use mathlib.Core.Bool.{So}
 use borrow.Author.Needs.{needs}
 use borrow.Author.Tests.{not-true, not-false}
@@ -24,7 +24,8 @@ returns c =
     (sym (c .before .in-form .ensures) ∙ not-true _ (c .if1 .taken)) in
     (e .0, (e .1, λ p. p))
 
-formed : (c : tie.Else1) → So (inForm (c .before .before .before .before .before .args .words .now))
+formed : (c : tie.Else1)
+    → So (inForm (c .before .before .before .before .before .args .words .now))
 formed c = sym (c .before .in-form .ensures) ∙ not-false _ (c .if1 .left)
 
 open-in-requires : tie.Need-open-in-requires

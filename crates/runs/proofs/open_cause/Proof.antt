@@ -6,7 +6,7 @@ use borrow.Author.Needs.{needs}
 use Rattle.model.specs.Outcome.{refuse}
 use Rattle.model.specs.Runs.{openCause}
 use Rattle.layout.specs.Reading.{storeOf}
-use Rattle.runs.proofs.Reading.{holds-ranged}
+use Rattle.runs.proofs.Known.{form-area}
 use Rattle.runs.proofs.Opens.{cause-run, cause-list}
 use Rattle.runs.proofs.open_cause.Statement.{statement}
 use Rattle.runs.proofs.open_cause.Tie as tie
@@ -23,7 +23,7 @@ returns c =
 list-valid-requires : tie.Need-list-valid-requires
 list-valid-requires c κs =
     let s = c .before .before .before .before in
-    holds-ranged (s .args .words .now) (s .args .z) (s .pre)
+    form-area (s .args .words .now) (s .args .z) (s .pre) .ranged
 
 -- What the test of the list says.
 told : (c : tie.After-list-valid) → let a = c .before .before .before .before .before .args in

@@ -7,7 +7,7 @@ use native.Mathlib.Omega.{arith}
 use Rattle.model.specs.Runs.{openCause}
 use Rattle.layout.specs.Reading.{storeOf}
 use Rattle.runs.specs.Runs.{FormWith, putJobs}
-use Rattle.runs.proofs.Reading.{form-long, RunKnown, run-known}
+use Rattle.runs.proofs.Known.{form-long, RunKnown, run-known}
 use Rattle.runs.proofs.Opens.{OpenReady, open-ready, open-refused, open-done}
 use Rattle.runs.proofs.open_in.Statement.{statement}
 use Rattle.runs.proofs.open_in.Tie as tie
@@ -56,13 +56,13 @@ known : (c : tie.Else1) → let n = c .before .before .before in
 known c = run-known _ _ _ (holds c) (ready c .run)
 
 run-at-requires : tie.Need-run-at-requires
-run-at-requires c κs = (known c .counts, ready c .run)
+run-at-requires c κs = (known c .area .ranged, ready c .run)
 
 put-jobs-requires : tie.Need-put-jobs-requires
 put-jobs-requires c κs =
     let K = known (c .before .before) in
     let L = ready (c .before .before) .listed in (
-      rw (c .before .run-at .ensures) (omega (arith, K .ends, K .size)),
+      rw (c .before .run-at .ensures) (omega (arith, K .area .fits)),
       omega (arith, L .whole, L .high),
     )
 

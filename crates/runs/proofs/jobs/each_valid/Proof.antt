@@ -1,7 +1,7 @@
 -- `each_valid` answers whether each job is valid.
 -- The loop's invariant: the jobs passed are.
 -- Assumes nothing.
-use mathlib.Core.Path.{_≡_, refl}
+use mathlib.Core.Path.{refl}
 use mathlib.Core.Bool.{So}
 use mathlib.Core.List.{List}
 use Prim.Native.Nat.{ℕ, _≤_, _-_}

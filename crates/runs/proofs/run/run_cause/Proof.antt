@@ -2,13 +2,13 @@
 -- Assumes nothing.
 use mathlib.Core.Path.{_≡_, sym, ap, _∙_}
 use mathlib.Core.Bool.{Bool, not}
-use Prim.Native.Nat.{ℕ, _+_, _≤_}
+use Prim.Native.Nat.{_+_, _≤_}
 use native.Mathlib.Omega.{arith}
 use lib.ListN.{length}
 use Rattle.model.specs.Outcome.{refuse}
 use Rattle.layout.specs.Reading.{storeOf}
 use Rattle.runs.specs.Runs.{runCause}
-use Rattle.runs.proofs.Reading.{RunKnown, run-known, cause-high, cause-state}
+use Rattle.runs.proofs.Known.{RunKnown, run-known, cause-high, cause-state}
 use Rattle.runs.proofs.run.run_cause.Statement.{statement}
 use Rattle.runs.proofs.run.run_cause.Tie as tie
 
@@ -25,11 +25,11 @@ known c =
     let a = s .args in run-known (a .words .now) (a .z) (a .r) (s .pre .0) (c .if1 .left)
 
 run-at-requires : tie.Need-run-at-requires
-run-at-requires c κs = (known c .counts, c .if1 .left)
+run-at-requires c κs = (known c .area .ranged, c .if1 .left)
 
 here : (c : tie.After-run-at)
     → c .run-at .result + 28 ≤ length (c .before .before .before .args .words .now)
-here c = let K = known (c .before) in rw (c .run-at .ensures) (omega (arith, K .ends, K .size))
+here c = rw (c .run-at .ensures) (omega (arith, known (c .before) .area .fits))
 
 mul-is-allowed : tie.Need-mul-is-allowed
 mul-is-allowed c = omega (arith, here c)

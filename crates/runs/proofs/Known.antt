@@ -2,7 +2,7 @@
 -- RunKnown, run-known: where it lies, and its state. run-stored: another run stored there.
 -- cause-..: the causes that calls on a run share, as the code tests them.
 -- Assumes nothing.
-use mathlib.Core.Path.{_≡_, refl, sym, ap, _∙_}
+use mathlib.Core.Path.{_≡_, sym, ap, _∙_}
 use mathlib.Core.Bool.{Bool, So, not}
 use mathlib.Core.List.{List}
 use Prim.Native.Nat.{ℕ, _+_, _≤_, _<_}
@@ -11,14 +11,12 @@ use lib.Dec.{eqb, leb}
 use lib.ListN.{length, getD}
 use Rattle.words.proofs.Bools.{test, and-left, le-leb, gt-leb, leb-gt, eqb-eq, eqb-ne}
 use Rattle.sizes.specs.declared.Counts.{Counts}
-use Rattle.sizes.specs.Bounds.{Ranged, runSize, runAt, totalOf}
-use Rattle.sizes.proofs.Offsets.{ordered, run-lies}
+use Rattle.sizes.specs.Bounds.{runSize, runAt}
 use Rattle.model.specs.Store.{Run, withRun}
 use Rattle.model.specs.Form.{runFormed, wellFormed}
 use Rattle.model.specs.Outcome.{refuse, allowed}
 use Rattle.layout.specs.Reading.{countsIn, storeOf, readRun}
 use Rattle.layout.specs.Buffer.{written, shaped, inForm}
-use Rattle.layout.proofs.Shapes.{Shaped, shaped-out}
 use Rattle.layout.proofs.Whole.{store-kept}
 use Rattle.layout.proofs.Updates.{put-run}
 use Rattle.layout.proofs.Readings.{counts-in, run-in}
@@ -26,6 +24,8 @@ use Rattle.layout.proofs.Formed.{well-out}
 use Rattle.layout.proofs.Plans.{plan-out}
 use Rattle.layout.proofs.Follow.{form-fine}
 use Rattle.layout.proofs.Kept.{no-cause, no-lack}
+use Rattle.form.specs.Parts.{RunArea, StoreArea}
+use Rattle.form.proofs.Stores.{run-area, shaped-area, shaped-long}
 use Rattle.runs.specs.Runs.{FormWith, putRun, runCause}
 
 -- ---- the whole buffer
@@ -35,14 +35,16 @@ unfolding inForm
 in-shape l p = and-left (shaped l) (wellFormed (storeOf l)) p
 
 pub form-long : (l : List ℕ) → So (inForm l) → 10 ≤ length l
-form-long l p =
-    let S = shaped-out l (in-shape l p) in
-    omega (arith, S .fits, ordered (countsIn l) (S .counts))
+form-long l p = shaped-long l (in-shape l p)
 
-pub holds-ranged : (l : List ℕ) (z : Counts) → FormWith l z → Ranged z
-holds-ranged l z H = rw (H .counts) (shaped-out l (in-shape l (H .form)) .counts)
+pub form-area : (l : List ℕ) (z : Counts) → FormWith l z → StoreArea (length l) z
+form-area l z H = rw (H .counts) (shaped-area l (in-shape l (H .form)))
 
 -- ---- one run
+
+pub area-ends : (len : ℕ) (z : Counts) (at : ℕ) → RunArea len z at → at + runSize z ≤ len
+unfolding runSize
+area-ends len z at A = omega (arith, A .fits)
 
 state-low : (z : Counts) (a : Run) → So (runFormed z a) → a .state < 3
 state-low z a p =
@@ -51,29 +53,20 @@ state-low z a p =
     omega (arith, plan-out z a (omega arith) p .state))
 
 pub record RunKnown (l : List ℕ) (z : Counts) (r : ℕ) : Type 0 where
-  pub counts : Ranged z
-  pub ends : runAt z r + runSize z ≤ length l
-  pub low : runAt z r + runSize z ≤ 287514
-  pub size : 28 ≤ runSize z
+  pub area : RunArea (length l) z (runAt z r)
   pub run : storeOf l .run r ≡ readRun z l (runAt z r)
   pub formed : So (runFormed z (readRun z l (runAt z r)))
   pub state : getD l (runAt z r) 0 < 3
 
 pub run-known : (l : List ℕ) (z : Counts) (r : ℕ) → FormWith l z → r < z .runs → RunKnown l z r
-unfolding storeOf readRun runSize
+unfolding storeOf readRun
 run-known l z r H h =
-    let R = holds-ranged l z H in
-    let lies = run-lies z r h in
-    let fits : totalOf z ≤ length l = rw (H .counts) (shaped-out l (in-shape l (H .form)) .fits) in
     let run = run-in l z (H .counts) r h in
     let formed : So (runFormed z (readRun z l (runAt z r))) =
     rw (← run, H .counts) (well-out (storeOf l) (form-fine l (H .form) .formed) .run r
     (rw (← H .counts) h)) in
     record {
-      counts = R;
-      ends = omega (arith, lies .ends);
-      low = omega (arith, lies .ends, ordered z R .top);
-      size = omega arith;
+      area = run-area (length l) z (form-area l z H) r h;
       run = run;
       formed = formed;
       state = state-low z (readRun z l (runAt z r)) formed;
