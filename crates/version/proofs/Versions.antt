@@ -1,5 +1,6 @@
 -- A version copied, cleared and merged, word by word.
--- ..-version: the words that a loop stores are those of a version.
+-- ..-version: the words that a loop stores are those of a version. table-window: copied words.
+-- upto-all, nothing-read: what is read where nothing is.
 -- Assumes nothing.
 use mathlib.Core.Path.{_≡_, refl, sym, ap, _∙_, fun-ext}
 use mathlib.Core.Bool.{Bool, true, false, cond}
@@ -21,7 +22,7 @@ use Rattle.layout.proofs.Parts.{version-laws}
 use Rattle.layout.proofs.Merges.{table, put-table, larger-version}
 use Rattle.version.specs.Places.{putVersion}
 
-table-window : (l : List ℕ) (at n : ℕ) → table n (λ i. getD l (at + i) 0) ≡ window l at n
+pub table-window : (l : List ℕ) (at n : ℕ) → table n (λ i. getD l (at + i) 0) ≡ window l at n
 unfolding table window
 table-window l at zero = refl
 table-window l at (suc n) =
@@ -38,7 +39,7 @@ copy-version z l m dst src =
     ∙ ap (sets l dst) (table-window m src n ∙ sym (version-laws z .round m src))
 
 -- A limit to what stands everywhere is none.
-upto-all : {A : Type 0} (n : ℕ) (x : A) (i : ℕ) → upto n x (λ j. x) i ≡ x
+pub upto-all : {A : Type 0} (n : ℕ) (x : A) (i : ℕ) → upto n x (λ j. x) i ≡ x
 unfolding upto
 upto-all n x i = go (ltb i n)
   where
@@ -47,7 +48,7 @@ upto-all n x i = go (ltb i n)
     go false = refl
 
 -- A buffer with no words holds nothing.
-nothing-read : (z : Counts) → readVersion z [] 0 ≡ unheld
+pub nothing-read : (z : Counts) → readVersion z [] 0 ≡ unheld
 unfolding readVersion readPast readClock
 nothing-read z =
     let none : Clock = λ w. 0 in

@@ -1,0 +1,128 @@
+-- A free run: its words are zero, and a free run in form has no others.
+-- no-jobs-words: the words of no jobs. zeros-free: zeros stored over a run. free-is: its form.
+-- Assumes nothing.
+use mathlib.Core.Path.{_≡_, sym, ap, _∙_, fun-ext}
+use mathlib.Core.Bool.{Bool, So, not, _&&_}
+use mathlib.Core.Logic.{⊎-elim}
+use mathlib.Core.List.{List, []}
+use Prim.Native.Nat.{ℕ, _<_}
+use lib.Dec.{eqb}
+use lib.Seq.{sets}
+use Rattle.words.specs.Tests.{allBelow}
+use Rattle.words.specs.Lists.{window, upto}
+use Rattle.words.specs.Words.{put}
+use Rattle.words.proofs.Bools.{and-left, and-right, not-elim, eqb-eq, eq-eqb}
+use Rattle.words.proofs.Tests.{below-or-not, all-at}
+use Rattle.sizes.specs.declared.Counts.{Counts}
+use Rattle.sizes.specs.Bounds.{maxJobs, runSize}
+use Rattle.model.specs.Version.{Version, unheld, held}
+use Rattle.model.specs.Store.{Job, Run, noJob, noJobs, emptyPlace, freeRun}
+use Rattle.model.specs.Form.{zeroRows, zeroJob, freeFormed, runFormed}
+use Rattle.layout.specs.Words.{jobsWords, runWords}
+use Rattle.layout.specs.Reading.{readClock, readPast, readVersion, readPlace, readJob, readJobs, readRun}
+use Rattle.layout.proofs.Parts.{FitJobs, FitRun, jobs-laws, run-laws}
+use Rattle.layout.proofs.Merges.{unheld-is}
+use Rattle.version.proofs.Versions.{upto-all, nothing-read}
+use Rattle.runs.specs.Runs.{putRun}
+use Rattle.runs.proofs.Copies.{put-zeros}
+
+-- ---- what is read where there are no words
+
+upto-one : {A : Type 0} (n : ℕ) (x : A) → upto n x (λ _. x) ≡ (λ _. x)
+upto-one n x = fun-ext (λ i. upto-all n x i)
+
+no-place : (z : Counts) (at : ℕ) → readPlace z [] at ≡ emptyPlace
+unfolding readPlace readVersion readPast readClock
+no-place z at =
+    ap (λ (v : Version). upto (z .keys) unheld (λ k. v)) (nothing-read z)
+    ∙ upto-one (z .keys) unheld
+
+no-jobs : (at : ℕ) → readJobs [] at ≡ noJobs
+unfolding readJobs readJob
+no-jobs at = upto-one maxJobs noJob
+
+no-run : (z : Counts) (at : ℕ) → readRun z [] at ≡ freeRun
+unfolding readRun
+no-run z at =
+    let job = no-jobs _ in
+    let snapshot = no-place z _ in
+    λ i. record {
+      state = 0;
+      jobs = 0;
+      done = 0;
+      read = 0;
+      job = job i;
+      snapshot = snapshot i;
+    }
+
+-- ---- zeros
+
+pub no-jobs-words : jobsWords noJobs ≡ window [] 0 24
+no-jobs-words = ap jobsWords (sym (no-jobs 0)) ∙ jobs-laws .round [] 0
+
+pub zeros-free : (z : Counts) (l : List ℕ) (at : ℕ)
+    → put l at (runSize z) (λ _. 0) ≡ putRun z l at freeRun
+zeros-free z l at =
+    put-zeros l at (runSize z)
+    ∙ ap (sets l at) (sym (run-laws z .round [] 0) ∙ ap (runWords z) (no-run z 0))
+
+-- ---- a free run in form
+
+job-is : (j : Job) → So (zeroJob j) → j ≡ noJob
+unfolding zeroJob
+job-is j p =
+    let a = eqb (j .site) 0 in
+    let b = eqb (j .reads) 0 in
+    let c = eqb (j .upstream) 0 in
+    let q = and-right a (b && c) p in
+    let x = eqb-eq _ _ (and-left a (b && c) p) in
+    let y = eqb-eq _ _ (and-left b c q) in
+    let w = eqb-eq _ _ (and-right b c q) in
+    λ i. record { site = x i; reads = y i; upstream = w i }
+
+jobs-are : (f : ℕ → Job) → FitJobs f → So (allBelow maxJobs (λ i. zeroJob (f i))) → f ≡ noJobs
+jobs-are f F p =
+    fun-ext (λ i. ⊎-elim (λ h. job-is (f i) (all-at maxJobs (λ i. zeroJob (f i)) p i h))
+    (F .rest i) (below-or-not i maxJobs))
+
+module _ (z : Counts) (a : Run) (F : FitRun z a) where
+  abbrev keyEmpty : ℕ → Bool
+  keyEmpty k = not (held (a .snapshot k)) && zeroRows z (a .snapshot k)
+
+  place-is : So (allBelow (z .keys) keyEmpty) → a .snapshot ≡ emptyPlace
+  place-is p =
+      fun-ext (λ k. ⊎-elim (below k) (F .snapshot .rest k) (below-or-not k (z .keys)))
+    where
+      below : (k : ℕ) → k < z .keys → a .snapshot k ≡ unheld
+      below k h =
+          let q = all-at (z .keys) keyEmpty p k h in
+          let no = not (held (a .snapshot k)) in
+          let rows = zeroRows z (a .snapshot k) in
+          unheld-is z (a .snapshot k) (F .snapshot .each k h) (not-elim (and-left no rows q))
+          (and-right no rows q)
+
+  pub free-is : So (runFormed z a) → a .state ≡ 0 → a ≡ freeRun
+  unfolding runFormed freeFormed
+  free-is p e =
+      let q : So (freeFormed z a) = rw (eq-eqb (a .state) 0 e) at p in
+      let jobs = eqb (a .jobs) 0 in
+      let done = eqb (a .done) 0 in
+      let read = eqb (a .read) 0 in
+      let job = allBelow maxJobs (λ i. zeroJob (a .job i)) in
+      let snapshot = allBelow (z .keys) keyEmpty in
+      let q₁ = and-right jobs (done && (read && (job && snapshot))) q in
+      let q₂ = and-right done (read && (job && snapshot)) q₁ in
+      let q₃ = and-right read (job && snapshot) q₂ in
+      let x = eqb-eq _ _ (and-left jobs (done && (read && (job && snapshot))) q) in
+      let y = eqb-eq _ _ (and-left done (read && (job && snapshot)) q₁) in
+      let w = eqb-eq _ _ (and-left read (job && snapshot) q₂) in
+      let f = jobs-are (a .job) (F .job) (and-left job snapshot q₃) in
+      let g = place-is (and-right job snapshot q₃) in
+      λ i. record {
+        state = e i;
+        jobs = x i;
+        done = y i;
+        read = w i;
+        job = f i;
+        snapshot = g i;
+      }

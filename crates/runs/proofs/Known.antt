@@ -1,0 +1,110 @@
+-- What is known of run r of a buffer in form, where it is one of its runs.
+-- RunKnown, run-known: where it lies, and its state. run-stored: another run stored there.
+-- cause-..: the causes that calls on a run share, as the code tests them.
+-- Assumes nothing.
+use mathlib.Core.Path.{_≡_, sym, ap, _∙_}
+use mathlib.Core.Bool.{Bool, So, not}
+use mathlib.Core.List.{List}
+use Prim.Native.Nat.{ℕ, _+_, _≤_, _<_}
+use native.Mathlib.Omega.{arith}
+use lib.Dec.{eqb, leb}
+use lib.ListN.{length, getD}
+use Rattle.words.proofs.Bools.{test, and-left, le-leb, gt-leb, leb-gt, eqb-eq, eqb-ne}
+use Rattle.sizes.specs.declared.Counts.{Counts}
+use Rattle.sizes.specs.Bounds.{runSize, runAt}
+use Rattle.model.specs.Store.{Run, withRun}
+use Rattle.model.specs.Form.{runFormed, wellFormed}
+use Rattle.model.specs.Outcome.{refuse, allowed}
+use Rattle.layout.specs.Reading.{countsIn, storeOf, readRun}
+use Rattle.layout.specs.Buffer.{written, shaped, inForm}
+use Rattle.layout.proofs.Whole.{store-kept}
+use Rattle.layout.proofs.Updates.{put-run}
+use Rattle.layout.proofs.Readings.{counts-in, run-in}
+use Rattle.layout.proofs.Formed.{well-out}
+use Rattle.layout.proofs.Plans.{plan-out}
+use Rattle.layout.proofs.Follow.{form-fine}
+use Rattle.layout.proofs.Kept.{no-cause, no-lack}
+use Rattle.form.specs.Parts.{RunArea, StoreArea}
+use Rattle.form.proofs.Stores.{run-area, shaped-area, shaped-long}
+use Rattle.runs.specs.Runs.{FormWith, putRun, runCause}
+
+-- ---- the whole buffer
+
+in-shape : (l : List ℕ) → So (inForm l) → So (shaped l)
+unfolding inForm
+in-shape l p = and-left (shaped l) (wellFormed (storeOf l)) p
+
+pub form-long : (l : List ℕ) → So (inForm l) → 10 ≤ length l
+form-long l p = shaped-long l (in-shape l p)
+
+pub form-area : (l : List ℕ) (z : Counts) → FormWith l z → StoreArea (length l) z
+form-area l z H = rw (H .counts) (shaped-area l (in-shape l (H .form)))
+
+-- ---- one run
+
+pub area-ends : (len : ℕ) (z : Counts) (at : ℕ) → RunArea len z at → at + runSize z ≤ len
+unfolding runSize
+area-ends len z at A = omega (arith, A .fits)
+
+state-low : (z : Counts) (a : Run) → So (runFormed z a) → a .state < 3
+state-low z a p =
+    test (eqb (a .state) 0) (λ t. omega (arith, eqb-eq (a .state) 0 t)) (λ t.
+    let used = eqb-ne (a .state) 0 t in
+    omega (arith, plan-out z a (omega arith) p .state))
+
+pub record RunKnown (l : List ℕ) (z : Counts) (r : ℕ) : Type 0 where
+  pub area : RunArea (length l) z (runAt z r)
+  pub run : storeOf l .run r ≡ readRun z l (runAt z r)
+  pub formed : So (runFormed z (readRun z l (runAt z r)))
+  pub state : getD l (runAt z r) 0 < 3
+
+pub run-known : (l : List ℕ) (z : Counts) (r : ℕ) → FormWith l z → r < z .runs → RunKnown l z r
+unfolding storeOf readRun
+run-known l z r H h =
+    let run = run-in l z (H .counts) r h in
+    let formed : So (runFormed z (readRun z l (runAt z r))) =
+    rw (← run, H .counts) (well-out (storeOf l) (form-fine l (H .form) .formed) .run r
+    (rw (← H .counts) h)) in
+    record {
+      area = run-area (length l) z (form-area l z H) r h;
+      run = run;
+      formed = formed;
+      state = state-low z (readRun z l (runAt z r)) formed;
+    }
+
+pub run-stored : (l : List ℕ) (z : Counts) (r : ℕ) (a : Run) → FormWith l z → r < z .runs
+    → putRun z l (runAt z r) a ≡ written (withRun (storeOf l) r a) l
+unfolding storeOf
+run-stored l z r a H h =
+    let y = countsIn l in
+    rw (H .counts)
+    (ap (λ (m : List ℕ). putRun y m (runAt y r) a)
+    (sym (store-kept l (in-shape l (H .form))))
+    ∙ put-run (storeOf l) l r a (rw (← H .counts) h))
+
+-- ---- causes
+
+pub cause-high : (l : List ℕ) (z : Counts) (row r : ℕ) → FormWith l z → z .runs ≤ r
+    → 3 ≡ runCause (storeOf l) row r
+unfolding runCause refuse
+cause-high l z row r H h =
+    let e : storeOf l .counts ≡ z = counts-in l ∙ sym (H .counts) in rw (e, le-leb _ _ h)
+
+-- b: what the code finds of the word at the run's index.
+pub cause-state : (l : List ℕ) (z : Counts) (row r : ℕ) → FormWith l z → r < z .runs
+    → (at : ℕ) (b : Bool) → at ≡ runAt z r → b ≡ allowed row (getD l at 0)
+    → refuse (not b) 4 0 ≡ runCause (storeOf l) row r
+unfolding runCause refuse readRun
+cause-state l z row r H h at b e f =
+    let c : storeOf l .counts ≡ z = counts-in l ∙ sym (H .counts) in
+    rw (c, gt-leb _ _ h, run-known l z r H h .run, ← e, ← f)
+
+-- Where they do not hold, run r is one of the runs and in a state that the call allows.
+pub cause-none : (l : List ℕ) (z : Counts) (row r : ℕ) → FormWith l z
+    → runCause (storeOf l) row r ≡ 0 → (r < z .runs) × So (allowed row (storeOf l .run r .state))
+unfolding runCause
+cause-none l z row r H e =
+    let c : storeOf l .counts ≡ z = counts-in l ∙ sym (H .counts) in
+    let a = no-cause (leb (storeOf l .counts .runs) r) 3 _ (omega arith) e in
+    let b = no-lack (allowed row (storeOf l .run r .state)) 4 0 (omega arith) (a .1) in
+    (rw (← c) (leb-gt _ _ (a .0)), b .0)

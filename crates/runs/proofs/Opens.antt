@@ -1,0 +1,133 @@
+-- What open comes to: refused on a buffer not in form, refused by its cause, or done.
+-- cause-run, cause-list: its cause, as the code tests it. OpenReady, open-ready: no cause.
+-- Assumes nothing.
+use mathlib.Core.Path.{_≡_, refl, sym, _∙_}
+use mathlib.Core.Bool.{Bool, true, false, cond, not, So, false≢true}
+use mathlib.Core.Logic.{_≢_}
+use mathlib.Core.List.{List}
+use Prim.Native.Nat.{ℕ, zero, suc, _<_}
+use native.Mathlib.Omega.{arith}
+use lib.Dec.{eqb, leb}
+use lib.ListN.{getD}
+use Rattle.words.proofs.Bools.{leb-gt, ne-eqb}
+use Rattle.sizes.specs.declared.Counts.{Counts}
+use Rattle.sizes.specs.Bounds.{runAt}
+use Rattle.model.specs.Store.{Store, freeRun}
+use Rattle.model.specs.Outcome.{openRow, refuse, unless, allowed}
+use Rattle.model.specs.Runs.{listedCount, listValid, openCause, openDone, openRule, openedRun}
+use Rattle.model.specs.Calls.{openRun, ruleOf}
+use Rattle.layout.specs.Reading.{storeOf, readRun}
+use Rattle.layout.specs.Buffer.{inForm}
+use Rattle.layout.specs.Calls.{on, callOn, leaves}
+use Rattle.layout.proofs.Parts.{run-laws}
+use Rattle.layout.proofs.Readings.{counts-in}
+use Rattle.layout.proofs.Kept.{no-cause, no-lack}
+use Rattle.layout.proofs.KeptOpen.{Listed, list-out}
+use Rattle.layout.proofs.Forms.{no-form, form-refused, form-done}
+use Rattle.runs.specs.declared.Opened.{Opened}
+use Rattle.runs.specs.Runs.{opened, runCause, FormWith, putJobs}
+use Rattle.runs.proofs.Freed.{free-is}
+use Rattle.runs.proofs.Known.{area-ends, run-known, run-stored}
+use Rattle.runs.proofs.Started.{jobs-stored}
+
+-- ---- its cause
+
+-- Of two causes and what is left: the two, and where neither holds what is left.
+first-two : (a b : Bool) (m : ℕ) → let n = refuse a 3 (refuse b 4 0) in
+    refuse a 3 (refuse b 4 m) ≡ cond (eqb n 0) m n
+unfolding refuse
+first-two true b m = refl
+first-two false true m = refl
+first-two false false m = refl
+
+open-cause : (s : Store) (r : ℕ) (jobs : List ℕ)
+    → openCause s r jobs
+    ≡ cond (eqb (runCause s openRow r) 0) (refuse (not (listValid (s .counts) jobs)) 5 0)
+    (runCause s openRow r)
+unfolding openCause runCause
+open-cause s r jobs = first-two _ _ (refuse (not (listValid (s .counts) jobs)) 5 0)
+
+-- n, b: what the code finds.
+pub cause-run : (s : Store) (r : ℕ) (jobs : List ℕ) (n : ℕ) → n ≡ runCause s openRow r → n ≢ 0
+    → n ≡ openCause s r jobs
+cause-run s r jobs n e h = rw (open-cause s r jobs, ← e, ne-eqb n 0 h)
+
+pub cause-list : (l : List ℕ) (z : Counts) (r : ℕ) (jobs : List ℕ) (b : Bool) → FormWith l z
+    → runCause (storeOf l) openRow r ≡ 0 → b ≡ listValid z jobs
+    → refuse (not b) 5 0 ≡ openCause (storeOf l) r jobs
+cause-list l z r jobs b H e f =
+    let c : storeOf l .counts ≡ z = counts-in l ∙ sym (H .counts) in
+    rw (open-cause (storeOf l) r jobs, e, c, ← f)
+
+-- Only a free run may be opened.
+free-state : (n : ℕ) → n < 3 → So (allowed openRow n) → n ≡ 0
+unfolding allowed
+free-state zero h p = refl
+free-state (suc zero) h p = absurd (false≢true p)
+free-state (suc (suc zero)) h p = absurd (false≢true p)
+free-state (suc (suc (suc n))) h p = absurd (omega arith)
+
+pub record OpenReady (l : List ℕ) (z : Counts) (r : ℕ) (jobs : List ℕ) : Type 0 where
+  pub run : r < z .runs
+  pub free : readRun z l (runAt z r) ≡ freeRun
+  pub listed : Listed z jobs
+
+pub open-ready : (l : List ℕ) (z : Counts) (r : ℕ) (jobs : List ℕ) → FormWith l z
+    → openCause (storeOf l) r jobs ≡ 0 → OpenReady l z r jobs
+unfolding openCause readRun
+open-ready l z r jobs H e =
+    let s = storeOf l in
+    let c : s .counts ≡ z = counts-in l ∙ sym (H .counts) in
+    let a = no-cause (leb (s .counts .runs) r) 3 _ (omega arith) e in
+    let b = no-lack (allowed openRow (s .run r .state)) 4 _ (omega arith) (a .1) in
+    let d = no-lack (listValid (s .counts) jobs) 5 0 (omega arith) (b .1) in
+    let h : r < z .runs = rw (← c) (leb-gt _ _ (a .0)) in
+    let K = run-known l z r H h in
+    let at = runAt z r in
+    let state = free-state (getD l at 0) (K .state) (rw (K .run) at (b .0)) in
+    record {
+      run = h;
+      free = free-is z (readRun z l at) (run-laws z .fits l at) (K .formed) state;
+      listed = list-out z jobs (rw (← c) (d .0));
+    }
+
+-- ---- the call
+
+open-rule : (r : ℕ) (jobs : List ℕ) (s : Store)
+    → ruleOf (openRun r jobs) s ≡ unless (openCause s r jobs) (openDone s r jobs)
+unfolding ruleOf openRule
+open-rule r jobs s = refl
+
+-- The answer x, and the buffer m after the call.
+abbrev pub OpenEnds : List ℕ → ℕ → List ℕ → Opened → List ℕ → Type 0
+OpenEnds l r jobs x m =
+    (x ≡ opened (callOn (on (openRun r jobs)) l))
+    × (m ≡ leaves (callOn (on (openRun r jobs)) l) l)
+
+pub open-unformed : (l : List ℕ) (r : ℕ) (jobs : List ℕ) → inForm l ≡ false
+    → OpenEnds l r jobs (Opened.Refused 1) l
+unfolding opened leaves
+open-unformed l r jobs e = rw (no-form (openRun r jobs) l e) (refl, refl)
+
+pub open-refused : (l : List ℕ) (r : ℕ) (jobs : List ℕ) (n : ℕ) → So (inForm l)
+    → n ≡ openCause (storeOf l) r jobs → n ≢ 0 → OpenEnds l r jobs (Opened.Refused n) l
+unfolding opened leaves
+open-refused l r jobs n F e h =
+    let s = storeOf l in
+    let rule : ruleOf (openRun r jobs) s ≡ unless n (openDone s r jobs) =
+    rw e (open-rule r jobs s) in
+    rw (form-refused (openRun r jobs) l n (openDone s r jobs) F rule h) (refl, refl)
+
+pub open-done : (l : List ℕ) (z : Counts) (r : ℕ) (jobs m : List ℕ) → FormWith l z
+    → openCause (storeOf l) r jobs ≡ 0 → m ≡ putJobs l (runAt z r) jobs
+    → OpenEnds l r jobs (Opened.Done (listedCount jobs)) m
+unfolding opened leaves openDone
+open-done l z r jobs m H e f =
+    let s = storeOf l in
+    let R = open-ready l z r jobs H e in
+    let ends = area-ends _ z _ (run-known l z r H (R .run) .area) in
+    rw (form-done (openRun r jobs) l _ (openDone s r jobs) (H .form) (open-rule r jobs s) e) (
+      refl,
+      f ∙ jobs-stored z l (runAt z r) jobs (R .listed) ends (R .free)
+          ∙ run-stored l z r (openedRun jobs) H (R .run),
+    )

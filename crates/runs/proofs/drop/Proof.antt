@@ -1,0 +1,45 @@
+-- `drop` refuses a buffer that isn't in form, and leaves one that is in form.
+-- Assumes nothing.
+use mathlib.Core.Path.{sym, _∙_}
+use mathlib.Core.Bool.{So}
+use borrow.Author.Needs.{needs}
+use borrow.Author.Tests.{not-true, not-false}
+use Rattle.model.specs.Calls.{dropRun}
+use Rattle.layout.specs.Buffer.{inForm}
+use Rattle.layout.proofs.Forms.{form-kept}
+use Rattle.runs.proofs.Drops.{drop-unformed}
+use Rattle.runs.proofs.drop.Statement.{statement}
+use Rattle.runs.proofs.drop.Tie as tie
+
+in-form-requires : tie.Need-in-form-requires
+in-form-requires c κs = search needs
+
+same-length : tie.Need-same-length
+same-length c = search needs
+
+returns : tie.Need-returns
+returns c =
+    let a = c .before .before .before .before .args in
+    let e = drop-unformed (a .words .now) (a .run)
+    (sym (c .before .in-form .ensures) ∙ not-true _ (c .if1 .taken)) in
+    (e .0, (e .1, λ p. p))
+
+formed : (c : tie.Else1) → So (inForm (c .before .before .before .before .args .words .now))
+formed c = sym (c .before .in-form .ensures) ∙ not-false _ (c .if1 .left)
+
+drop-in-requires : tie.Need-drop-in-requires
+drop-in-requires c κs = formed (c .before)
+
+same-length-2 : tie.Need-same-length-2
+same-length-2 c = search needs
+
+returns-2 : tie.Need-returns-2
+returns-2 c =
+    let a = c .before .before .before .before .before .before .before .before .args in
+    let e = c .before .before .drop-in .ensures in
+    (e .0, (e .1, λ p. rw (e .1) (form-kept (dropRun (a .run)) (a .words .now) p)))
+
+pub drop-spec : {M : Type 1} → statement M
+drop-spec =
+    tie.close
+    (tie.spec in-form-requires same-length returns drop-in-requires same-length-2 returns-2)

@@ -1,0 +1,83 @@
+-- `copy_list` meets its contract: after i turns i words are stored.
+-- Assumes nothing.
+use native.Mathlib.Omega.{arith}
+use mathlib.Core.Path.{_≡_, refl, ap, _∙_}
+use Prim.Native.Nat.{ℕ, _≤_, _-_}
+use lib.ListN.{length, getD, length-set}
+use Rattle.words.specs.Words.{put}
+use Rattle.words.proofs.Words.{put-step}
+use Rattle.runs.proofs.jobs.copy_list.Statement.{statement}
+use Rattle.runs.proofs.jobs.copy_list.Tie as tie
+
+abbrev Inv-loop : tie.InvT-loop
+Inv-loop words₀ at list i₀ words i =
+    (i ≤ length list) × (length words ≡ length words₀)
+    × (words ≡ put words₀ at i (λ j. getD list j 0))
+
+abbrev μ-loop : tie.MeasureT-loop
+μ-loop words₀ at list i₀ words i = length list - i
+
+loop-holds : tie.Need-loop-holds Inv-loop μ-loop
+unfolding put
+loop-holds c = (omega arith, refl, refl)
+
+mul-words : tie.Need-mul-words Inv-loop μ-loop
+mul-words c = omega arith
+
+shared-slice-read-words : tie.Need-shared-slice-read-words Inv-loop μ-loop
+shared-slice-read-words c = omega arith
+
+add-words : tie.Need-add-words Inv-loop μ-loop
+add-words c = omega arith
+
+mul-words-2 : tie.Need-mul-words-2 Inv-loop μ-loop
+mul-words-2 c = omega arith
+
+slice-write-words : tie.Need-slice-write-words Inv-loop μ-loop
+slice-write-words c = omega arith
+
+add-i : tie.Need-add-i Inv-loop μ-loop
+add-i c = omega arith
+
+loop-less : tie.Need-loop-less Inv-loop μ-loop
+loop-less c = omega arith
+
+loop-again : tie.Need-loop-again Inv-loop μ-loop
+loop-again c =
+    let l = c .before .before in
+    let a = l .before .args in
+    let i = l .loop .i in
+    let f : ℕ → ℕ = λ j. getD (a .list .now) j 0 in (
+      omega arith,
+      rw length-set (l .loop .inv .1),
+      put-step (a .words .now) (a .at) i f (l .loop .words) (f i) (l .loop .inv .2) refl,
+    )
+
+same-length : tie.Need-same-length Inv-loop μ-loop
+same-length c = c .before .loop .inv .1
+
+returns : tie.Need-returns Inv-loop μ-loop
+returns c =
+    let l = c .before in
+    let a = l .before .args in
+    let f : ℕ → ℕ = λ j. getD (a .list .now) j 0 in
+    let e : l .loop .i ≡ length (a .list .now) = omega arith in
+    l .loop .inv .2 ∙ ap (λ (n : ℕ). put (a .words .now) (a .at) n f) e
+
+pub copy-list-spec : {M : Type 1} → statement M
+copy-list-spec =
+    tie.close
+    (tie.spec
+    Inv-loop
+    μ-loop
+    loop-holds
+    mul-words
+    shared-slice-read-words
+    add-words
+    mul-words-2
+    slice-write-words
+    add-i
+    loop-less
+    loop-again
+    same-length
+    returns)
