@@ -67,7 +67,7 @@ pub record Jobs (z : Counts) (n : ℕ) (job : ℕ → Job) : Type 0 where
 abbrev jobTest : Counts → Run → ℕ → Bool
 jobTest z a i = cond (ltb i (a .jobs)) (validJob z i (a .job i)) (zeroJob (a .job i))
 
-jobs-out : (z : Counts) (a : Run) → So (jobsFormed z a) → Jobs z (a .jobs) (a .job)
+pub jobs-out : (z : Counts) (a : Run) → So (jobsFormed z a) → Jobs z (a .jobs) (a .job)
 unfolding jobsFormed
 jobs-out z a p =
     let b = between maxJobs (a .jobs) in

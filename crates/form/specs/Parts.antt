@@ -1,0 +1,30 @@
+-- Parts of a store in a buffer, for the contracts of the tests.
+-- jobOf: a job of three numbers. jobFormed: what is asked of one job.
+-- readsOf: what some jobs read. RunArea: where a run lies.
+-- Assumes nothing.
+use mathlib.Core.Bool.{Bool, cond}
+use Prim.Native.Nat.{ℕ, _+_, _≤_, _<_}
+use lib.Dec.{ltb}
+use Rattle.words.specs.Numbers.{when}
+use Rattle.masks.specs.Mask.{testBit, unionBelow}
+use Rattle.sizes.specs.Bounds.{Ranged, placeSize}
+use Rattle.sizes.specs.declared.Counts.{Counts}
+use Rattle.model.specs.Store.{Job}
+use Rattle.model.specs.Form.{validJob, zeroJob}
+
+abbrev pub jobOf : ℕ → ℕ → ℕ → Job
+jobOf a b c = record { site = a; reads = b; upstream = c }
+
+-- Job i of a run of n jobs: valid, or beyond them and without words.
+unfoldable pub jobFormed : Counts → ℕ → ℕ → Job → Bool
+jobFormed z n i j = cond (ltb i n) (validJob z i j) (zeroJob j)
+
+-- The union of what the jobs of a mask read, of the first n.
+unfoldable pub readsOf : ℕ → (ℕ → Job) → ℕ → ℕ
+readsOf n job mask = unionBelow n (λ j. when (testBit mask j) (job j .reads))
+
+-- The run at an index lies in a buffer of len words: 28, and the snapshot.
+pub record RunArea (len : ℕ) (z : Counts) (at : ℕ) : Type 0 where
+  pub counts : Ranged z
+  pub low : at < 1000000
+  pub ends : at + 28 + placeSize z ≤ len
