@@ -1,3 +1,5 @@
 pub mod Loops
 pub mod Runs
 pub mod Masks
+pub mod Snapshots
+pub mod Stores

@@ -25,7 +25,7 @@ use Rattle.form.specs.Parts.{jobFormed, readsOf}
 use Rattle.form.proofs.Runs.{run-done, run-read, run-jobs}
 
 -- The key k is read by a job of the mask.
-test-reads : (n : ℕ) (job : ℕ → Job) (mask k : ℕ)
+pub test-reads : (n : ℕ) (job : ℕ → Job) (mask k : ℕ)
     → testBit (readsOf n job mask) k ≡ doneReads n job mask k
 unfolding readsOf doneReads
 test-reads n job mask k =

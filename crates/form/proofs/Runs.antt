@@ -8,22 +8,21 @@ use native.Mathlib.Omega.{arith}
 use lib.Bits.{bitOr}
 use lib.ListN.{getD}
 use Rattle.words.specs.Numbers.{when}
-use Rattle.words.proofs.Lists.{upto-in}
 use Rattle.masks.specs.Mask.{testBit, unionBelow}
 use Rattle.masks.proofs.Sets.{union-more}
 use Rattle.sizes.specs.declared.Counts.{Counts}
 use Rattle.sizes.specs.Bounds.{maxJobs}
-use Rattle.model.specs.Store.{Job, noJob}
+use Rattle.model.specs.Store.{Job}
 use Rattle.layout.specs.Reading.{readPlace, readJob, readJobs, readRun}
+use Rattle.layout.proofs.Readings.{job-at}
 use Rattle.form.specs.Parts.{jobOf, readsOf}
 
 -- Job i, of three words.
 pub job-words : (l : List ℕ) (at i : ℕ) → i < maxJobs → let j = at + i * 3 in
     readJobs l at i ≡ jobOf (getD l j 0) (getD l (j + 1) 0) (getD l (j + 2) 0)
-unfolding readJobs readJob
+unfolding readJob
 job-words l at i h =
-    let e : at + i * 3 + 1 + 1 ≡ at + i * 3 + 2 = omega arith in
-    upto-in maxJobs noJob (λ i. readJob l (at + i * 3)) i h ∙ rw e
+    let e : at + i * 3 + 1 + 1 ≡ at + i * 3 + 2 = omega arith in job-at l at i h ∙ rw e
 
 module _ (z : Counts) (l : List ℕ) (at : ℕ) where
   pub run-done : readRun z l at .done ≡ getD l (at + 2) 0

@@ -1,13 +1,13 @@
 -- Parts of a store in a buffer, for the contracts of the tests.
 -- jobOf: a job of three numbers. jobFormed: what is asked of one job.
--- readsOf: what some jobs read. RunArea: where a run lies.
+-- readsOf: what some jobs read. RunArea, StoreArea: where a part lies.
 -- Assumes nothing.
 use mathlib.Core.Bool.{Bool, cond}
 use Prim.Native.Nat.{ℕ, _+_, _≤_, _<_}
 use lib.Dec.{ltb}
 use Rattle.words.specs.Numbers.{when}
 use Rattle.masks.specs.Mask.{testBit, unionBelow}
-use Rattle.sizes.specs.Bounds.{Ranged, placeSize}
+use Rattle.sizes.specs.Bounds.{Ranged, placeSize, totalOf}
 use Rattle.sizes.specs.declared.Counts.{Counts}
 use Rattle.model.specs.Store.{Job}
 use Rattle.model.specs.Form.{validJob, zeroJob}
@@ -23,8 +23,15 @@ jobFormed z n i j = cond (ltb i n) (validJob z i j) (zeroJob j)
 unfoldable pub readsOf : ℕ → (ℕ → Job) → ℕ → ℕ
 readsOf n job mask = unionBelow n (λ j. when (testBit mask j) (job j .reads))
 
--- The run at an index lies in a buffer of len words: 28, and the snapshot.
+-- ---- where a part lies in a buffer of len words
+
+-- The run at an index: 28 words, and the snapshot.
 pub record RunArea (len : ℕ) (z : Counts) (at : ℕ) : Type 0 where
-  pub counts : Ranged z
-  pub low : at < 1000000
-  pub ends : at + 28 + placeSize z ≤ len
+  pub ranged : Ranged z
+  pub low : at + 28 < 1000000
+  pub fits : at + 28 + placeSize z ≤ len
+
+-- The whole store.
+pub record StoreArea (len : ℕ) (z : Counts) : Type 0 where
+  pub ranged : Ranged z
+  pub fits : totalOf z ≤ len

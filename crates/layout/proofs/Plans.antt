@@ -93,7 +93,7 @@ pub record Masks (z : Counts) (n : ℕ) (job : ℕ → Job) (done read : ℕ) : 
   pub low : done < 2 ^ n
   pub reads : read ≡ maskBelow (z .keys) (doneReads n job done)
 
-masks-out : (z : Counts) (a : Run) → So (masksFormed z a)
+pub masks-out : (z : Counts) (a : Run) → So (masksFormed z a)
     → Masks z (a .jobs) (a .job) (a .done) (a .read)
 unfolding masksFormed
 masks-out z a p =

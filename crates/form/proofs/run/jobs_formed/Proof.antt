@@ -26,7 +26,7 @@ add-each-job c = search needs
 
 each-job-requires : tie.Need-each-job-requires
 each-job-requires c κs =
-    let p = c .before .before .before .before .pre in (p .counts, omega arith)
+    let p = c .before .before .before .before .pre in (p .ranged, omega arith)
 
 returns : tie.Need-returns
 returns c =

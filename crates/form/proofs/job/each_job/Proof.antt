@@ -13,8 +13,8 @@ use Rattle.sizes.specs.declared.Counts.{Counts}
 use Rattle.layout.specs.Reading.{readJobs}
 use Rattle.form.specs.Parts.{jobFormed}
 use Rattle.form.proofs.Loops.{loop-fails, loop-turn, loop-ends}
-use Rattle.form.proofs.run.each_job.Statement.{statement}
-use Rattle.form.proofs.run.each_job.Tie as tie
+use Rattle.form.proofs.job.each_job.Statement.{statement}
+use Rattle.form.proofs.job.each_job.Tie as tie
 
 -- The test of job i.
 abbrev jobTest : List ℕ → Counts → ℕ → ℕ → Items

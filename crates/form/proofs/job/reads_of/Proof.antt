@@ -9,8 +9,8 @@ use Rattle.masks.specs.Mask.{unionBelow}
 use Rattle.layout.specs.Reading.{readJobs}
 use Rattle.form.specs.Parts.{readsOf}
 use Rattle.form.proofs.Runs.{reads-more}
-use Rattle.form.proofs.run.reads_of.Statement.{statement}
-use Rattle.form.proofs.run.reads_of.Tie as tie
+use Rattle.form.proofs.job.reads_of.Statement.{statement}
+use Rattle.form.proofs.job.reads_of.Tie as tie
 
 abbrev Inv-loop : tie.InvT-loop
 Inv-loop words at n mask all₀ j₀ all j =

@@ -5,8 +5,8 @@ use borrow.Author.Tests.{lt-ltb, le-ltb}
 use native.Mathlib.Omega.{arith}
 use Rattle.form.specs.Parts.{jobFormed}
 use Rattle.form.proofs.Runs.{job-words}
-use Rattle.form.proofs.run.job_formed.Statement.{statement}
-use Rattle.form.proofs.run.job_formed.Tie as tie
+use Rattle.form.proofs.job.job_formed.Statement.{statement}
+use Rattle.form.proofs.job.job_formed.Tie as tie
 
 mul-job : tie.Need-mul-job
 mul-job c = search needs

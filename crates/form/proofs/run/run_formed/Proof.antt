@@ -1,0 +1,39 @@
+-- `run_formed` tests a free run or any other.
+-- Assumes nothing.
+use borrow.Author.Needs.{needs}
+use borrow.Author.Tests.{eq-eqb, ne-eqb}
+use Rattle.model.specs.Form.{runFormed}
+use Rattle.layout.specs.Reading.{readRun}
+use Rattle.form.proofs.run.run_formed.Statement.{statement}
+use Rattle.form.proofs.run.run_formed.Tie as tie
+
+mul-state : tie.Need-mul-state
+mul-state c = search needs
+
+shared-slice-read-state : tie.Need-shared-slice-read-state
+shared-slice-read-state c = search needs
+
+free-formed-requires : tie.Need-free-formed-requires
+free-formed-requires c κs = search needs
+
+plan-formed-requires : tie.Need-plan-formed-requires
+plan-formed-requires c κs = search needs
+
+returns : tie.Need-returns
+unfolding runFormed readRun
+returns c = rw (eq-eqb _ _ (c .before .if1 .taken)) (c .free-formed .ensures)
+
+returns-2 : tie.Need-returns-2
+unfolding runFormed readRun
+returns-2 c = rw (ne-eqb _ _ (c .before .if1 .left), c .plan-formed .ensures)
+
+pub run-formed-spec : {M : Type 1} → statement M
+run-formed-spec =
+    tie.close
+    (tie.spec
+    mul-state
+    shared-slice-read-state
+    free-formed-requires
+    plan-formed-requires
+    returns
+    returns-2)
