@@ -2,19 +2,17 @@
 -- limit-..: how many there are. place-in: what is read there. place-area: where it lies.
 -- row-window: the counts of a row.
 -- Assumes nothing.
-use mathlib.Core.Path.{_≡_, refl, ap, _∙_}
+use mathlib.Core.Path.{_≡_, ap, _∙_}
 use mathlib.Core.Bool.{false, So}
 use mathlib.Core.List.{List}
 use Prim.Native.Nat.{ℕ, _+_, _*_, _≤_, _<_}
 use native.Mathlib.Omega.{arith}
 use lib.Dec.{eqb}
-use lib.ListN.{length}
 use Rattle.words.specs.Lists.{window}
 use Rattle.words.proofs.Bools.{test}
 use Rattle.words.proofs.Lists.{upto-in}
 use Rattle.sizes.specs.declared.Counts.{Counts}
-use Rattle.sizes.specs.Bounds.{Ranged, placeSize, siteSize, totalOf, keyAt, rowAt}
-use Rattle.sizes.proofs.Offsets.{largest, ordered, site-lies, run-lies, snapshot-lies, key-lies}
+use Rattle.sizes.specs.Bounds.{Ranged, totalOf, keyAt, rowAt}
 use Rattle.model.specs.Look.{lookPlace, rowNumbers}
 use Rattle.layout.specs.Words.{clockWords}
 use Rattle.layout.specs.Reading.{readClock, readPast, readVersion, readPlace, countsIn, storeOf}
@@ -22,6 +20,7 @@ use Rattle.layout.proofs.Parts.{clock-laws}
 use Rattle.layout.proofs.Places.{place-at}
 use Rattle.layout.proofs.Readings.{master-in, cache-in, snapshot-in}
 use Rattle.version.specs.Places.{Area}
+use Rattle.version.proofs.Stores.{master-area, site-area, snapshot-area}
 use Rattle.look.specs.Places.{limitOf, placeAt}
 
 -- ---- the three kinds
@@ -44,32 +43,14 @@ place-in l z e p i h =
     (λ b. rw (a, b) (cache-in l z e i (omega (arith, limit-sites z p a b))))
     (λ b. rw (a, b) (snapshot-in l z e i (omega (arith, limit-runs z p a b)))))
 
-place-fits : (z : Counts) → Ranged z → (p i : ℕ) → i < limitOf z p
-    → placeAt z p i + placeSize z ≤ totalOf z
-unfolding placeAt siteSize
-place-fits z R p i h =
-    let o = ordered z R in
-    test (eqb p 0) (λ a. rw a (omega (arith, o)))
-    (λ a. test (eqb p 1)
-    (λ b. rw (a, b) (omega (arith, o, site-lies z i (omega (arith, limit-sites z p a b)))))
-    (λ b. rw (a, b)
-    (omega (arith, run-lies z i (omega (arith, limit-runs z p a b)), snapshot-lies z i))))
-
 pub place-area : (len : ℕ) (z : Counts) → Ranged z → totalOf z ≤ len
     → (p i : ℕ) → i < limitOf z p → Area len z (placeAt z p i)
+unfolding placeAt
 place-area len z R f p i h =
-    let g = place-fits z R p i h in
-    record {
-      ranged = R;
-      low = omega (arith, ordered z R .top, g);
-      fits = omega (arith, f, g);
-    }
-
--- A version in it begins low enough for a sum.
-pub key-low : (len : ℕ) (z : Counts) (at : ℕ) → Area len z at → (k : ℕ) → k < z .keys
-    → keyAt z at k < 2000000
-key-low len z at A k h =
-    omega (arith, A .low, largest z (A .ranged) .place, key-lies z at k h .ends)
+    test (eqb p 0) (λ a. rw a (master-area len z R f))
+    (λ a. test (eqb p 1)
+    (λ b. rw (a, b) (site-area len z R f i (omega (arith, limit-sites z p a b))))
+    (λ b. rw (a, b) (snapshot-area len z R f i (omega (arith, limit-runs z p a b)))))
 
 -- ---- a row
 

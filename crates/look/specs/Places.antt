@@ -1,15 +1,11 @@
 -- The places that a look names (0 master, 1 cache, 2 snapshot) in a buffer with given counts.
 -- limitOf: how many there are. placeAt: where one begins. ownRowAt: where a version's own row does.
 -- Assumes nothing.
-use mathlib.Core.Path.{_≡_}
-use mathlib.Core.Bool.{cond, So}
-use mathlib.Core.List.{List}
+use mathlib.Core.Bool.{cond}
 use Prim.Native.Nat.{ℕ}
 use lib.Dec.{eqb}
 use Rattle.sizes.specs.declared.Counts.{Counts}
 use Rattle.sizes.specs.Bounds.{masterAt, siteAt, snapshotAt, keyAt, rowAt}
-use Rattle.layout.specs.Reading.{countsIn}
-use Rattle.layout.specs.Buffer.{inForm}
 
 -- `lookLimit` of a store with these counts.
 unfoldable pub limitOf : Counts → ℕ → ℕ
@@ -21,8 +17,3 @@ placeAt z p i = cond (eqb p 0) (masterAt z) (cond (eqb p 1) (siteAt z i) (snapsh
 -- Row k of the version of key k.
 unfoldable pub ownRowAt : Counts → ℕ → ℕ → ℕ → ℕ
 ownRowAt z p i k = rowAt z (keyAt z (placeAt z p i) k) k
-
--- A buffer in form, and the counts in its header.
-pub record Holds (l : List ℕ) (z : Counts) : Type 0 where
-  pub form : So (inForm l)
-  pub counts : z ≡ countsIn l

@@ -4,6 +4,7 @@ use mathlib.Core.Path.{_≡_}
 use mathlib.Core.Bool.{not}
 use Prim.Native.Nat.{_<_}
 use borrow.Author.Needs.{needs}
+use native.Mathlib.Omega.{arith}
 use borrow.Author.Tests.{le-leb, lt-leb, not-true, not-false}
 use lib.ListN.{length}
 use Rattle.model.specs.Outcome.{refuse}
@@ -21,12 +22,16 @@ returns c =
     let s = c .before .before in
     let a = s .args in
     rw (
-      cause-in (a .words .now) (a .z) (s .pre) (a .place) (a .i) (a .k),
-      le-leb _ _ (c .if1 .taken),
+      cause-in (a .words .now) (a .z) (s .pre .1) (a .place) (a .i) (a .k),
+      le-leb 3 (a .place) (omega arith),
     )
 
 limit-requires : tie.Need-limit-requires
 limit-requires c κs = search needs
+
+-- There is such a kind of place.
+kind : (c : tie.Else1) → c .before .before .args .place < 3
+kind c = omega arith
 
 returns-2 : tie.Need-returns-2
 unfolding refuse
@@ -35,44 +40,48 @@ returns-2 c =
     let s = b .before .before .before in
     let a = s .args in
     rw (
-      cause-in (a .words .now) (a .z) (s .pre) (a .place) (a .i) (a .k),
-      lt-leb _ _ (b .before .if1 .left),
+      cause-in (a .words .now) (a .z) (s .pre .1) (a .place) (a .i) (a .k),
+      lt-leb _ _ (kind (b .before)),
       ← b .limit .ensures,
-      le-leb _ _ (c .if2 .taken),
+      le-leb (b .limit .result) (a .i) (omega arith),
     )
+
+-- There is such a place.
+number : (c : tie.Else2) → let a = c .before .before .before .before .args in
+    a .i < limitOf (a .z) (a .place)
+number c = rw (← c .before .limit .ensures) (omega arith)
 
 returns-3 : tie.Need-returns-3
 unfolding refuse
 returns-3 c =
     let n = c .before .before in
-    let b = n .before in
-    let s = b .before .before .before in
+    let s = n .before .before .before .before in
     let a = s .args in
     rw (
-      cause-in (a .words .now) (a .z) (s .pre) (a .place) (a .i) (a .k),
-      lt-leb _ _ (b .before .if1 .left),
-      ← b .limit .ensures,
-      lt-leb _ _ (n .if2 .left),
-      le-leb _ _ (c .if3 .taken),
+      cause-in (a .words .now) (a .z) (s .pre .1) (a .place) (a .i) (a .k),
+      lt-leb _ _ (kind (n .before .before)),
+      lt-leb _ _ (number n),
+      le-leb (a .z .keys) (a .k) (omega arith),
     )
 
--- The place is there.
-number : (c : tie.Else3) → let a = c .before .before .before .before .before .before .args in
-    a .i < limitOf (a .z) (a .place)
-number c = let n = c .before .before in rw (← n .before .limit .ensures) (n .if2 .left)
+-- There is such a key.
+key : (c : tie.Else3) → let a = c .before .before .before .before .before .before .args in
+    a .k < a .z .keys
+key c = omega arith
 
 area : (c : tie.Else3) → let a = c .before .before .before .before .before .before .args in
     Area (length (a .words .now)) (a .z) (placeAt (a .z) (a .place) (a .i))
 area c =
-    let s = c .before .before .before .before .before .before in
+    let n = c .before .before in
+    let s = n .before .before .before .before in
     let a = s .args in
-    area-in (a .words .now) (a .z) (s .pre) (a .place) (a .i) (number c)
+    area-in (a .words .now) (a .z) (s .pre .1) (a .place) (a .i) (s .pre .0) (number n)
 
 place-at-requires : tie.Need-place-at-requires
-place-at-requires c κs = (area c .ranged, number c)
+place-at-requires c κs = (area c .ranged, number (c .before .before))
 
 held-requires : tie.Need-held-requires
-held-requires c κs = (rw (c .place-at .ensures) (area (c .before)), c .before .if3 .left)
+held-requires c κs = (rw (c .place-at .ensures) (area (c .before)), key (c .before))
 
 -- The last test is left.
 last : (c : tie.After-held)
@@ -83,16 +92,14 @@ unfolding refuse
 last c =
     let e = c .before .before in
     let n = e .before .before in
-    let b = n .before in
-    let s = b .before .before .before in
+    let s = n .before .before .before .before in
     let a = s .args in
     rw (
-      cause-in (a .words .now) (a .z) (s .pre) (a .place) (a .i) (a .k),
-      lt-leb _ _ (b .before .if1 .left),
-      ← b .limit .ensures,
-      lt-leb _ _ (n .if2 .left),
-      lt-leb _ _ (e .if3 .left),
-      held-in (a .words .now) (a .z) (s .pre) (a .place) (a .i) (a .k) (number e),
+      cause-in (a .words .now) (a .z) (s .pre .1) (a .place) (a .i) (a .k),
+      lt-leb _ _ (kind (n .before .before)),
+      lt-leb _ _ (number n),
+      lt-leb _ _ (key e),
+      held-in (a .words .now) (a .z) (s .pre .1) (a .place) (a .i) (a .k) (number n),
       ← c .before .place-at .ensures,
       ← c .held .ensures,
     )

@@ -1,14 +1,13 @@
 -- `look_in` is refused by its cause, or reads where the version is.
 -- Assumes nothing.
-use mathlib.Core.Path.{_≡_, sym, _∙_}
+use mathlib.Core.Path.{sym, _∙_}
 use Prim.Native.Nat.{_<_}
 use borrow.Author.Needs.{needs}
 use native.Mathlib.Omega.{arith}
 use lib.ListN.{length}
 use Rattle.version.specs.Places.{Area}
 use Rattle.version.proofs.Areas.{issue-in}
-use Rattle.look.specs.Places.{placeAt, ownRowAt, Holds}
-use Rattle.look.proofs.Places.{key-low}
+use Rattle.look.specs.Places.{placeAt, ownRowAt}
 use Rattle.look.proofs.Answers.{form-long, area-in, Found, found, look-refused, look-done}
 use Rattle.look.proofs.look_in.Statement.{statement}
 use Rattle.look.proofs.look_in.Tie as tie
@@ -25,18 +24,15 @@ wide-requires-2 c κs = search needs
 cause-requires : tie.Need-cause-requires
 cause-requires c κs = search needs
 
-holds : (c : tie.After-counts) → Holds (c .before .before .args .words .now) (c .counts .result)
-holds c = record { form = c .before .before .pre; counts = c .counts .ensures }
-
 returns : tie.Need-returns
 returns c =
     let k = c .before .before in
     let i = k .before in
-    let n = i .before in
-    let a = n .before .before .args in
+    let s = i .before .before .before in
+    let a = s .args in
     rw (← i .wide .ensures, ← k .wide2 .ensures)
-    (look-refused (a .words .now) (n .counts .result) (holds n) (a .place) (i .wide .result)
-    (k .wide2 .result) (c .before .cause .result) (c .before .cause .ensures) (c .if1 .taken))
+    (look-refused (a .words .now) (a .place) (i .wide .result) (k .wide2 .result)
+    (c .before .cause .result) (s .pre) (c .before .cause .ensures) (c .if1 .taken))
 
 -- The version is there.
 there : (c : tie.Else1) → let k = c .before .before in
@@ -48,9 +44,10 @@ there c =
     let k = c .before .before in
     let i = k .before in
     let n = i .before in
-    let a = n .before .before .args in
-    found (a .words .now) (n .counts .result) (holds n) (a .place) (i .wide .result)
-    (k .wide2 .result) (sym (c .before .cause .ensures) ∙ c .if1 .left)
+    let s = n .before .before in
+    let a = s .args in
+    found (a .words .now) (a .place) (i .wide .result) (k .wide2 .result) (n .counts .result)
+    (n .counts .ensures) (s .pre) (sym (c .before .cause .ensures) ∙ c .if1 .left)
 
 area : (c : tie.Else1) → let i = c .before .before .before in
     let n = i .before in
@@ -60,9 +57,9 @@ area : (c : tie.Else1) → let i = c .before .before .before in
 area c =
     let i = c .before .before .before in
     let n = i .before in
-    let a = n .before .before .args in
-    area-in (a .words .now) (n .counts .result) (holds n) (a .place) (i .wide .result)
-    (there c .number)
+    let s = n .before .before in
+    area-in (s .args .words .now) (n .counts .result) (n .counts .ensures) (s .args .place)
+    (i .wide .result) (s .pre) (there c .number)
 
 place-at-requires : tie.Need-place-at-requires
 place-at-requires c κs = (area c .ranged, there c .number)
@@ -70,14 +67,14 @@ place-at-requires c κs = (area c .ranged, there c .number)
 key-at-requires : tie.Need-key-at-requires
 key-at-requires c κs =
     let A = area (c .before) in
-    (A .ranged, (rw (c .place-at .ensures) (A .low), there (c .before) .key))
+    (A .ranged, (rw (c .place-at .ensures) (A .low), omega (arith, there (c .before) .key)))
 
-row-at-requires : tie.Need-row-at-requires
-row-at-requires c κs =
-    let e = c .before .before in
-    let A = area e in
-    let h = there e .key in
-    (A .ranged, (rw (c .key-at .ensures, c .before .place-at .ensures) (key-low _ _ _ A _ h), h))
+row-of-requires : tie.Need-row-of-requires
+row-of-requires c κs =
+    let p = c .before in
+    let A = area (p .before) in
+    let h = there (p .before) .key in
+    (A .ranged, (rw (p .place-at .ensures) (A .low), h, omega (arith, h)))
 
 -- Its issue number is a word of the buffer.
 here : (c : tie.After-key-at)
@@ -86,7 +83,7 @@ here : (c : tie.After-key-at)
 here c =
     let e = c .before .before in
     rw (c .key-at .ensures, c .before .place-at .ensures)
-    (issue-in _ _ _ (area e) _ (there e .key))
+    (issue-in _ _ _ (area e) _ (omega (arith, there e .key)))
 
 mul-t13 : tie.Need-mul-t13
 mul-t13 c = omega (arith, here (c .before))
@@ -107,12 +104,12 @@ returns-2 c =
     rw (
       ← i .wide .ensures,
       ← k .wide2 .ensures,
-      r .row-at .ensures,
+      r .row-of .ensures,
       v .key-at .ensures,
       v .before .place-at .ensures,
     )
-    (look-done (a .words .now) (n .counts .result) (holds n) (a .place) (i .wide .result)
-    (k .wide2 .result) (there e))
+    (look-done (a .words .now) (a .place) (i .wide .result) (k .wide2 .result)
+    (n .counts .result) (n .counts .ensures) (there e))
 
 pub look-in-spec : {M : Type 1} → statement M
 look-in-spec =
@@ -125,7 +122,7 @@ look-in-spec =
     returns
     place-at-requires
     key-at-requires
-    row-at-requires
+    row-of-requires
     mul-t13
     shared-slice-read-t15
     returns-2)
