@@ -1,5 +1,6 @@
 -- The places that a look names (0 master, 1 cache, 2 snapshot) in a buffer with given counts.
--- limitOf: how many there are. placeAt: where one begins. ownRowAt: where a version's own row does.
+-- limitOf: how many there are. placeAt: where one begins. ownRowAt: where a version's own row
+-- begins.
 -- Assumes nothing.
 use mathlib.Core.Bool.{cond}
 use Prim.Native.Nat.{ℕ}
