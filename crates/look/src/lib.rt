@@ -1,0 +1,108 @@
+// The call look: the issue number and the own row of a version, read in a buffer.
+use form::header::counts;
+use form::in_form;
+use sizes::Counts;
+use version::held;
+use version::row_of;
+use words::wide;
+ghost use mathlib.Core.Path.{_≡_};
+ghost use mathlib.Core.Bool.{So};
+ghost use Prim.Native.Nat.{_<_};
+ghost use Rattle.sizes.specs.Bounds.{Ranged};
+ghost use Rattle.model.specs.Outcome.{answer};
+ghost use Rattle.model.specs.Look.{lookCause};
+ghost use Rattle.model.specs.Calls.{look};
+ghost use Rattle.layout.specs.Reading.{countsIn, storeOf};
+ghost use Rattle.layout.specs.Buffer.{inForm};
+ghost use Rattle.layout.specs.Calls.{on, callOn};
+ghost use Rattle.look.specs.Places.{limitOf, placeAt};
+ghost use Rattle.look.specs.Answer.{shown, RowIn, lookedOn};
+
+// The issue number, and the index at which the own row's W counts begin; or the number of the
+// cause for which a look is refused.
+pub enum Looked {
+    Done(u32, usize),
+    Refused(u32),
+}
+
+// How many places of the kind there are.
+fn limit(z: Counts, place: u32) -> usize
+    ensures { λ r. ⌜ r ≡ limitOf z place ⌝ }
+{
+    if place == 0 {
+        return 1;
+    }
+    if place == 1 {
+        return z.sites;
+    }
+    z.runs
+}
+
+// Where place i of the kind begins.
+fn place_at(z: Counts, place: u32, i: usize) -> usize
+    requires { ⌜ Ranged z ⌝ }
+    requires { ⌜ i < limitOf z place ⌝ }
+    ensures { λ r. ⌜ r ≡ placeAt z place i ⌝ }
+{
+    if place == 0 {
+        return z.areas().master;
+    }
+    if place == 1 {
+        return z.site_at(i);
+    }
+    z.snapshot_at(i)
+}
+
+// The cause for which a look is refused, or 0.
+fn cause(words: &[u32], z: Counts, place: u32, i: usize, k: usize) -> u32
+    requires { ⌜ So (inForm (now words)) ⌝ }
+    requires { ⌜ z ≡ countsIn (now words) ⌝ }
+    ensures { λ r. ⌜ r ≡ lookCause (storeOf (now (words .entry))) place i k ⌝ }
+{
+    if 3 <= place {
+        return 3;
+    }
+    if limit(z, place) <= i {
+        return 3;
+    }
+    if z.keys <= k {
+        return 3;
+    }
+    let at = place_at(z, place, i);
+    if !held(words, z, at, k) {
+        return 8;
+    }
+    0
+}
+
+// A look on a buffer in form.
+fn look_in(words: &[u32], place: u32, number: u32, key: u32) -> Looked
+    requires { ⌜ So (inForm (now words)) ⌝ }
+    ensures { λ r. ⌜ r ≡ lookedOn (now (words .entry)) place number key ⌝ }
+{
+    let z = counts(words);
+    let i = wide(number);
+    let k = wide(key);
+    let no = cause(words, z, place, i, k);
+    if no != 0 {
+        return Looked::Refused(no);
+    }
+    let at = place_at(z, place, i);
+    let issue = z.key_at(at, k);
+    let row = row_of(z, at, k, k);
+    Looked::Done(words[issue], row)
+}
+
+// The version of a key in place 0 (the master), 1 (the cache of site `number`) or 2 (the
+// snapshot of run `number`). Any buffer and any numbers.
+pub fn look(words: &[u32], place: u32, number: u32, key: u32) -> Looked
+    ensures shows { λ r. ⌜ shown (now (words .entry)) r
+        ≡ answer (callOn (on (look place number key)) (now (words .entry))) ⌝ }
+    ensures row { λ r. ⌜ RowIn (now (words .entry)) r ⌝ }
+    ensures settles { λ r. ⌜ r ≡ lookedOn (now (words .entry)) place number key ⌝ }
+{
+    if !in_form(words) {
+        return Looked::Refused(1);
+    }
+    look_in(words, place, number, key)
+}
