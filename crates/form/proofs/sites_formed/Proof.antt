@@ -41,7 +41,8 @@ place-formed-requires : tie.Need-place-formed-requires Inv-loop μ-loop
 place-formed-requires c κs =
     let l = c .before .before in
     let s = l .before .before in
-    rw (c .site-at .ensures) (site-area _ (s .args .z) (s .pre .ranged) (s .pre .fits) (l .loop .o) (omega arith))
+    rw (c .site-at .ensures)
+    (site-area _ (s .args .z) (s .pre .ranged) (s .pre .fits) (l .loop .o) (omega arith))
 
 -- What the code finds is the test of site o.
 found : (c : tie.After-place-formed Inv-loop μ-loop) → let l = c .before .before .before in

@@ -41,7 +41,13 @@ returns c =
     let w = j .before in
     let v = w .before in
     let a = v .before .before .before .args in
-    rw (v .before .word-is .ensures, v .word-is2 .ensures, w .word-is3 .ensures, j .each-job .ensures, c .is-empty .ensures)
+    rw (
+      v .before .word-is .ensures,
+      v .word-is2 .ensures,
+      w .word-is3 .ensures,
+      j .each-job .ensures,
+      c .is-empty .ensures,
+    )
     (free-test (a .z) (a .words .now) (a .at))
 
 pub free-formed-spec : {M : Type 1} → statement M
