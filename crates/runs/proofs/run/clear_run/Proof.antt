@@ -3,6 +3,7 @@
 use mathlib.Core.Path.{ap, _∙_}
 use Prim.Native.Nat.{ℕ}
 use borrow.Author.Needs.{needs}
+use native.Mathlib.Omega.{arith}
 use Rattle.words.specs.Words.{put}
 use Rattle.runs.proofs.Freed.{zeros-free}
 use Rattle.runs.proofs.Known.{area-ends}
@@ -16,7 +17,7 @@ zero-requires : tie.Need-zero-requires
 zero-requires c κs =
     let n = c .before in
     let s = n .before .before in
-    rw (n .run-size .ensures) (area-ends _ (s .args .z) (s .args .at) (s .pre))
+    omega (arith, n .run-size .ensures, area-ends _ (s .args .z) (s .args .at) (s .pre))
 
 same-length : tie.Need-same-length
 same-length c = search needs
