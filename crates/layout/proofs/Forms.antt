@@ -14,12 +14,13 @@ use Rattle.model.specs.Calls.{StoreCall, ruleOf}
 use Rattle.layout.specs.Reading.{storeOf}
 use Rattle.layout.specs.Buffer.{inForm}
 use Rattle.layout.specs.Calls.{on, onStore, callOn, leaves}
-use Rattle.layout.proofs.Follow.{nextStore, Fine, fine-form, form-fine}
+use Rattle.model.proofs.Outcomes.{nextStore}
+use Rattle.layout.proofs.Follow.{Fine, fine-form, form-fine}
 use Rattle.layout.proofs.Rules.{rule-kept}
 
 left-form : (x : Outcome) (s : Store) (l : List ℕ) → So (inForm l) → Fine (nextStore x s)
     → So (inForm (leaves x l))
-unfolding leaves nextStore
+unfolding leaves
 left-form (refused n) s l F K = F
 left-form (broken m t) s l F K = fine-form t l K
 left-form (done a t) s l F K = fine-form t l K
