@@ -13,7 +13,7 @@ use Rattle.sizes.specs.declared.Sizes.{Sizes}
 use Rattle.sizes.specs.Bounds.{ranged, sizesOf, totalOf}
 use Rattle.sizes.proofs.Offsets.{ranged-out, ordered}
 use Rattle.layout.specs.Calls.{newCause}
-use Rattle.layout.proofs.Kept.{no-lack}
+use Rattle.model.proofs.Outcomes.{no-lack}
 use Rattle.create.specs.Room.{Room}
 
 pub total-is : (z : Counts) (at : Sizes) → at ≡ sizesOf z → at .total ≡ totalOf z

@@ -22,7 +22,7 @@ use Rattle.model.specs.Calls.{look, ruleOf}
 use Rattle.layout.specs.Reading.{readWord, readVersion, readPlace, countsIn, storeOf}
 use Rattle.layout.specs.Buffer.{shaped, inForm}
 use Rattle.layout.specs.Calls.{on, callOn}
-use Rattle.layout.proofs.Kept.{no-cause}
+use Rattle.model.proofs.Outcomes.{no-cause}
 use Rattle.layout.proofs.Places.{place-at}
 use Rattle.layout.proofs.Readings.{counts-in}
 use Rattle.layout.proofs.Forms.{no-form, form-refused, form-done}

@@ -23,7 +23,7 @@ use Rattle.layout.proofs.Readings.{counts-in, run-in}
 use Rattle.layout.proofs.Formed.{well-out}
 use Rattle.layout.proofs.Plans.{plan-out}
 use Rattle.layout.proofs.Follow.{form-fine}
-use Rattle.layout.proofs.Kept.{no-cause, no-lack}
+use Rattle.model.proofs.Outcomes.{no-cause, no-lack}
 use Rattle.form.specs.Parts.{RunArea, StoreArea}
 use Rattle.form.proofs.Stores.{run-area, shaped-area, shaped-long}
 use Rattle.runs.specs.Runs.{FormWith, putRun, runCause}

@@ -21,7 +21,7 @@ use Rattle.layout.specs.Buffer.{inForm}
 use Rattle.layout.specs.Calls.{on, callOn, leaves}
 use Rattle.layout.proofs.Parts.{run-laws}
 use Rattle.layout.proofs.Readings.{counts-in}
-use Rattle.layout.proofs.Kept.{no-cause, no-lack}
+use Rattle.model.proofs.Outcomes.{no-cause, no-lack}
 use Rattle.layout.proofs.KeptOpen.{Listed, list-out}
 use Rattle.layout.proofs.Forms.{no-form, form-refused, form-done}
 use Rattle.runs.specs.declared.Opened.{Opened}
