@@ -1,0 +1,205 @@
+// Every refusal that new, open, drop, look, fetch and evict can give, tried on lent buffers through the exported library:
+// answer as expected, every word as it was, guard words untouched. Besides them: the largest store.
+// Usage: refusals. Prints what went wrong and exits 1, or how many trials there were.
+
+extern "C" {
+    fn sheetdesk_new(d: *mut u32, dn: usize, k: u32, w: u32, n: u32, p: u32, a: *mut u32, an: usize) -> u32;
+    fn sheetdesk_open(d: *mut u32, dn: usize, r: u32, j: *const u32, jn: usize, a: *mut u32, an: usize) -> u32;
+    fn sheetdesk_drop(d: *mut u32, dn: usize, r: u32, a: *mut u32, an: usize) -> u32;
+    fn sheetdesk_fetch(d: *mut u32, dn: usize, o: u32, k: u32, a: *mut u32, an: usize) -> u32;
+    fn sheetdesk_evict(d: *mut u32, dn: usize, o: u32, k: u32, a: *mut u32, an: usize) -> u32;
+    fn sheetdesk_look(d: *const u32, dn: usize, p: u32, i: u32, k: u32, a: *mut u32, an: usize) -> u32;
+}
+
+const GUARD: usize = 16;
+const MARK: u32 = 0xA5A5_5A5A;
+
+enum Call<'a> {
+    New(u32, u32, u32, u32),
+    Open(u32, &'a [u32]),
+    Drop(u32),
+    Fetch(u32, u32),
+    Evict(u32, u32),
+    Look(u32, u32, u32),
+}
+
+// A lent buffer with guard words behind it.
+struct Desk {
+    words: Vec<u32>,
+    len: usize,
+}
+
+impl Desk {
+    fn of(len: usize, fill: u32) -> Desk {
+        let mut words = vec![fill; len];
+        words.extend([MARK; GUARD]);
+        Desk { words, len }
+    }
+
+    fn call(&mut self, c: &Call) -> Vec<u32> {
+        let mut answer = [MARK; 24];
+        let (d, n) = (self.words.as_mut_ptr(), self.len);
+        let (a, an) = (answer.as_mut_ptr(), answer.len());
+        // Each pointer comes with the length of what it points to.
+        let count = unsafe {
+            match *c {
+                Call::New(k, w, s, p) => sheetdesk_new(d, n, k, w, s, p, a, an),
+                Call::Open(r, j) => sheetdesk_open(d, n, r, j.as_ptr(), j.len(), a, an),
+                Call::Drop(r) => sheetdesk_drop(d, n, r, a, an),
+                Call::Fetch(o, k) => sheetdesk_fetch(d, n, o, k, a, an),
+                Call::Evict(o, k) => sheetdesk_evict(d, n, o, k, a, an),
+                Call::Look(p, i, k) => sheetdesk_look(d, n, p, i, k, a, an),
+            }
+        };
+        answer[..count as usize].to_vec()
+    }
+}
+
+struct Trials {
+    tried: usize,
+    wrong: usize,
+}
+
+impl Trials {
+    fn check(&mut self, what: &str, good: bool) {
+        self.tried += 1;
+        if !good {
+            self.wrong += 1;
+            println!("wrong: {what}");
+        }
+    }
+
+    // Refused with this number, and every word as it was.
+    fn refused(&mut self, what: &str, desk: &mut Desk, c: Call, number: u32) {
+        let before = desk.words.clone();
+        let answer = desk.call(&c);
+        self.check(what, answer == [2, number] && desk.words == before);
+    }
+
+    // Answered ok with these numbers, the guard untouched.
+    fn ok(&mut self, what: &str, desk: &mut Desk, c: Call, numbers: &[u32]) {
+        let answer = desk.call(&c);
+        let guarded = desk.words[desk.len..].iter().all(|&w| w == MARK);
+        let good = answer.first() == Some(&0) && &answer[1..] == numbers && guarded;
+        if !good {
+            println!("  {answer:?}");
+        }
+        self.check(what, good);
+    }
+}
+
+// The master's version of key k: issue 1, own row present, and a need of the key before it.
+fn chain(desk: &mut Desk, keys: usize, writers: usize) {
+    let size = 1 + keys * writers;
+    for k in 0..keys {
+        let at = desk.words[5] as usize + k * size;
+        desk.words[at] = 1;
+        desk.words[at + 1 + k * writers] = 1;
+        if k > 0 {
+            desk.words[at + 1 + (k - 1) * writers] = 1;
+        }
+    }
+}
+
+fn of_new(t: &mut Trials) {
+    for (k, w, n, p) in [(0, 1, 1, 1), (33, 1, 1, 1), (1, 0, 1, 1), (1, 17, 1, 1), (1, 1, 0, 1), (1, 1, 9, 1), (1, 1, 1, 0),
+        (1, 1, 1, 9), (u32::MAX, 1, 1, 1), (1, u32::MAX, u32::MAX, 1)] {
+        t.refused("new 2", &mut Desk::of(300, 7), Call::New(k, w, n, p), 2);
+        t.refused("new 2 before 1", &mut Desk::of(0, 7), Call::New(k, w, n, p), 2);
+    }
+    t.refused("new 1, a word short", &mut Desk::of(77, 7), Call::New(2, 2, 1, 1), 1);
+    t.refused("new 1, empty", &mut Desk::of(0, 7), Call::New(1, 1, 1, 1), 1);
+    let mut desk = Desk::of(80, 7);
+    t.ok("new", &mut desk, Call::New(2, 2, 1, 1), &[78]);
+    t.check("offsets", desk.words[..10] == [2, 2, 1, 1, 0, 10, 20, 30, 40, 78]);
+    t.check("fresh, and past the total as it was", desk.words[10..78].iter().all(|&w| w == 0) && desk.words[78..80] == [7, 7]);
+}
+
+// A desk that is not in form is refused by 1, whatever else is wrong.
+fn of_form(t: &mut Trials) {
+    let mut fresh = Desk::of(88, 0);
+    fresh.call(&Call::New(2, 2, 2, 1));
+    let mut broken: Vec<Desk> = vec![Desk::of(0, 0), Desk::of(9, 1), Desk::of(300, 0), Desk::of(300, u32::MAX)];
+    for (at, word) in [(0, 0), (0, 33), (1, 17), (2, 9), (3, 9), (5, 11), (6, 21), (7, 0), (8, u32::MAX), (9, 87), (9, 89),
+        (10, 1), (11, 1), (20, 5), (50, 3), (50, 1), (51, 9), (52, 1), (53, 1), (60, 1), (87, 1)] {
+        let mut d = Desk { words: fresh.words.clone(), len: fresh.len };
+        d.words[at] = word;
+        broken.push(d);
+    }
+    broken.push(Desk { words: fresh.words.clone(), len: 87 });
+    for d in &mut broken {
+        t.refused("open 1", d, Call::Open(9, &[]), 1);
+        t.refused("drop 1", d, Call::Drop(9), 1);
+        t.refused("fetch 1", d, Call::Fetch(9, 9), 1);
+        t.refused("evict 1", d, Call::Evict(9, 9), 1);
+        t.refused("look 1", d, Call::Look(9, 9, 9), 1);
+    }
+}
+
+fn of_runs(t: &mut Trials) {
+    let mut d = Desk::of(120, 0);
+    d.call(&Call::New(2, 2, 2, 2));
+    let nine = [0u32; 27];
+    t.refused("open 3", &mut d, Call::Open(2, &[0, 0, 0]), 3);
+    t.refused("open 3 before 5", &mut d, Call::Open(u32::MAX, &[]), 3);
+    for bad in [&[][..], &[0], &[0, 0, 0, 0], &nine, &[2, 0, 0], &[0, 4, 0], &[0, 0, 1], &[0, 1, 0, 0, 1, 2], &[u32::MAX; 3]] {
+        t.refused("open 5", &mut d, Call::Open(0, bad), 5);
+    }
+    t.refused("open 5, a long list", &mut d, Call::Open(0, &vec![0; 100_001]), 5);
+    t.refused("drop 4, free", &mut d, Call::Drop(0), 4);
+    t.refused("drop 3", &mut d, Call::Drop(2), 3);
+    t.ok("open", &mut d, Call::Open(0, &[1, 3, 0, 0, 0, 1]), &[2]);
+    t.refused("open 4 before 5", &mut d, Call::Open(0, &[]), 4);
+    t.ok("open 8 jobs", &mut d, Call::Open(1, &nine[..24]), &[8]);
+    t.ok("drop", &mut d, Call::Drop(0), &[0]);
+    t.ok("open again", &mut d, Call::Open(0, &[0, 0, 0]), &[1]);
+}
+
+fn of_caches(t: &mut Trials) {
+    let mut d = Desk::of(130, 0);
+    d.call(&Call::New(2, 2, 2, 2));
+    t.refused("fetch 3, office", &mut d, Call::Fetch(2, 0), 3);
+    t.refused("fetch 3, sheet", &mut d, Call::Fetch(0, 2), 3);
+    t.refused("fetch 7", &mut d, Call::Fetch(0, 0), 7);
+    t.refused("evict 3, office", &mut d, Call::Evict(u32::MAX, 0), 3);
+    t.refused("evict 3, sheet", &mut d, Call::Evict(0, 2), 3);
+    t.refused("evict 8", &mut d, Call::Evict(1, 1), 8);
+    for (p, i, k) in [(3, 0, 0), (0, 1, 0), (1, 2, 0), (2, 2, 0), (0, 0, 2), (u32::MAX, u32::MAX, u32::MAX)] {
+        t.refused("look 3", &mut d, Call::Look(p, i, k), 3);
+    }
+    for (p, i) in [(0, 0), (1, 1), (2, 0)] {
+        t.refused("look 8", &mut d, Call::Look(p, i, 1), 8);
+    }
+    chain(&mut d, 2, 2);
+    t.ok("fetch 1 takes 0", &mut d, Call::Fetch(1, 1), &[3]);
+    t.ok("fetch 0 again", &mut d, Call::Fetch(1, 0), &[1]);
+    t.ok("look", &mut d, Call::Look(1, 1, 1), &[1, 1, 0]);
+    t.ok("evict 0 takes 1", &mut d, Call::Evict(1, 0), &[3]);
+    t.refused("evict 8 again", &mut d, Call::Evict(1, 0), 8);
+}
+
+fn of_the_largest(t: &mut Trials) {
+    t.refused("largest, a word short", &mut Desk::of(287_513, 7), Call::New(32, 16, 8, 8), 1);
+    let mut d = Desk::of(287_514, 7);
+    t.ok("largest", &mut d, Call::New(32, 16, 8, 8), &[287_514]);
+    t.refused("largest, fetch 7", &mut d, Call::Fetch(7, 31), 7);
+    t.ok("largest, open", &mut d, Call::Open(7, &[7, u32::MAX, 0].repeat(8)), &[8]);
+    chain(&mut d, 32, 16);
+    t.ok("largest, fetch", &mut d, Call::Fetch(7, 31), &[u32::MAX]);
+    t.ok("largest, fetch 15", &mut d, Call::Fetch(0, 15), &[0xFFFF]);
+    let row: Vec<u32> = [1, 1].into_iter().chain([0; 15]).collect();
+    t.ok("largest, look", &mut d, Call::Look(1, 7, 31), &row);
+    t.ok("largest, evict", &mut d, Call::Evict(7, 16), &[0xFFFF_0000]);
+    t.ok("largest, drop", &mut d, Call::Drop(7), &[0]);
+}
+
+fn main() {
+    let mut t = Trials { tried: 0, wrong: 0 };
+    of_new(&mut t);
+    of_form(&mut t);
+    of_runs(&mut t);
+    of_caches(&mut t);
+    of_the_largest(&mut t);
+    println!("refusals: {} trials, {} wrong", t.tried, t.wrong);
+    std::process::exit(if t.wrong == 0 { 0 } else { 1 });
+}
