@@ -1,6 +1,7 @@
 // The counts of a store, their limits, and the offsets and total that follow from them.
 ghost use mathlib.Core.Path.{_≡_};
-ghost use Rattle.sizes.specs.Bounds.{Ranged, countsOf, sizesOf, maxKeys, maxWriters, maxSites, maxRuns, maxJobs};
+ghost use Prim.Native.Nat.{_<_};
+ghost use Rattle.sizes.specs.Bounds.{Ranged, countsOf, sizesOf, maxKeys, maxWriters, maxSites, maxRuns, maxJobs, pastSize, versionSize, placeSize, siteSize, writerSize, runSize, masterAt, siteAt, writerAt, runAt, snapshotAt, keyAt, rowAt};
 
 // Sheets, writers, offices and runs (document 01: K, W, N, P).
 pub struct Counts {
@@ -58,4 +59,124 @@ impl Sizes {
         ensures runs { λ _. do ⌜ (← ⟦Sizes::MAX_RUNS⟧ .entry) ≡ maxRuns ⌝ }
         ensures jobs { λ _. do ⌜ (← ⟦Sizes::MAX_JOBS⟧ .entry) ≡ maxJobs ⌝ }
     {}
+}
+
+impl Counts {
+    // Where each area begins, and the total.
+    pub fn areas(self) -> Sizes
+        requires { ⌜ Ranged self ⌝ }
+        ensures { λ r. ⌜ r ≡ sizesOf self ⌝ }
+    {
+        Sizes::of(self.keys, self.writers, self.sites, self.runs)
+    }
+
+    // The words of a past.
+    pub fn past_size(self) -> usize
+        requires { ⌜ Ranged self ⌝ }
+        ensures { λ r. ⌜ r ≡ pastSize self ⌝ }
+    {
+        self.keys * self.writers
+    }
+
+    // The words of a version.
+    pub fn version_size(self) -> usize
+        requires { ⌜ Ranged self ⌝ }
+        ensures { λ r. ⌜ r ≡ versionSize self ⌝ }
+    {
+        1 + self.past_size()
+    }
+
+    // The words of a place.
+    pub fn place_size(self) -> usize
+        requires { ⌜ Ranged self ⌝ }
+        ensures { λ r. ⌜ r ≡ placeSize self ⌝ }
+    {
+        let v = self.version_size();
+        self.keys * v
+    }
+
+    // The words of a site.
+    pub fn site_size(self) -> usize
+        requires { ⌜ Ranged self ⌝ }
+        ensures { λ r. ⌜ r ≡ siteSize self ⌝ }
+    {
+        self.place_size()
+    }
+
+    // The words of a writer.
+    pub fn writer_size(self) -> usize
+        requires { ⌜ Ranged self ⌝ }
+        ensures { λ r. ⌜ r ≡ writerSize self ⌝ }
+    {
+        1 + self.past_size()
+    }
+
+    // The words of a run.
+    pub fn run_size(self) -> usize
+        requires { ⌜ Ranged self ⌝ }
+        ensures { λ r. ⌜ r ≡ runSize self ⌝ }
+    {
+        28 + self.place_size()
+    }
+
+    // Where site o begins.
+    pub fn site_at(self, o: usize) -> usize
+        requires { ⌜ Ranged self ⌝ }
+        requires { ⌜ o < self .sites ⌝ }
+        ensures { λ r. ⌜ r ≡ siteAt self o ⌝ }
+    {
+        let areas = self.areas();
+        let v = self.site_size();
+        areas.sites + o * v
+    }
+
+    // Where writer u begins.
+    pub fn writer_at(self, u: usize) -> usize
+        requires { ⌜ Ranged self ⌝ }
+        requires { ⌜ u < self .writers ⌝ }
+        ensures { λ r. ⌜ r ≡ writerAt self u ⌝ }
+    {
+        let areas = self.areas();
+        let v = self.writer_size();
+        areas.writers + u * v
+    }
+
+    // Where run r begins.
+    pub fn run_at(self, r: usize) -> usize
+        requires { ⌜ Ranged self ⌝ }
+        requires { ⌜ r < self .runs ⌝ }
+        ensures { λ at. ⌜ at ≡ runAt self r ⌝ }
+    {
+        let areas = self.areas();
+        let v = self.run_size();
+        areas.runs + r * v
+    }
+
+    // Where the snapshot of run r begins.
+    pub fn snapshot_at(self, r: usize) -> usize
+        requires { ⌜ Ranged self ⌝ }
+        requires { ⌜ r < self .runs ⌝ }
+        ensures { λ at. ⌜ at ≡ snapshotAt self r ⌝ }
+    {
+        self.run_at(r) + 28
+    }
+
+    // Where the version of key k begins in the place at an index.
+    pub fn key_at(self, at: usize, k: usize) -> usize
+        requires { ⌜ Ranged self ⌝ }
+        requires { ⌜ (at < 1000000) × (k < self .keys) ⌝ }
+        ensures { λ r. ⌜ r ≡ keyAt self at k ⌝ }
+    {
+        let v = self.version_size();
+        at + k * v
+    }
+
+    // Where row d begins in the version at an index.
+    pub fn row_at(self, at: usize, d: usize) -> usize
+        requires { ⌜ Ranged self ⌝ }
+        requires { ⌜ (at < 2000000) × (d < self .keys) ⌝ }
+        ensures { λ r. ⌜ r ≡ rowAt self at d ⌝ }
+    {
+        at + (1 + d * self.writers)
+    }
 }

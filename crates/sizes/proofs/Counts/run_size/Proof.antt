@@ -1,0 +1,23 @@
+-- `run_size` is the size of a run.
+-- Assumes nothing.
+use borrow.Author.Needs.{needs}
+use native.Mathlib.Omega.{arith}
+use Rattle.sizes.specs.Bounds.{runSize}
+use Rattle.sizes.proofs.Offsets.{largest}
+use Rattle.sizes.proofs.Counts.run_size.Statement.{statement}
+use Rattle.sizes.proofs.Counts.run_size.Tie as tie
+
+place-size-requires : tie.Need-place-size-requires
+place-size-requires c κs = search needs
+
+add-result : tie.Need-add-result
+unfolding runSize
+add-result c =
+    rw (c .place-size .ensures) (omega (arith, largest (c .before .args .self) (c .before .pre) .run))
+
+returns : tie.Need-returns
+unfolding runSize
+returns c = rw (c .place-size .ensures)
+
+pub run-size-spec : {M : Type 1} → statement M
+run-size-spec = tie.close (tie.spec place-size-requires add-result returns)

@@ -1,0 +1,23 @@
+-- `version_size` is the size of a version.
+-- Assumes nothing.
+use borrow.Author.Needs.{needs}
+use native.Mathlib.Omega.{arith}
+use Rattle.sizes.specs.Bounds.{versionSize}
+use Rattle.sizes.proofs.Offsets.{largest}
+use Rattle.sizes.proofs.Counts.version_size.Statement.{statement}
+use Rattle.sizes.proofs.Counts.version_size.Tie as tie
+
+past-size-requires : tie.Need-past-size-requires
+past-size-requires c κs = search needs
+
+add-result : tie.Need-add-result
+unfolding versionSize
+add-result c =
+    rw (c .past-size .ensures) (omega (arith, largest (c .before .args .self) (c .before .pre) .version))
+
+returns : tie.Need-returns
+unfolding versionSize
+returns c = rw (c .past-size .ensures)
+
+pub version-size-spec : {M : Type 1} → statement M
+version-size-spec = tie.close (tie.spec past-size-requires add-result returns)

@@ -1,0 +1,53 @@
+-- Where the versions and rows of a place lie, and what is read there.
+-- key-..: the version of a key. row-in: a row. meets-word: a need and the row that meets it.
+-- Assumes nothing.
+use mathlib.Core.Path.{_≡_, ap}
+use mathlib.Core.List.{List}
+use mathlib.Core.Logic.{inl, inr, ⊎-elim}
+use Prim.Native.Nat.{ℕ, _+_, _≤_, _<_}
+use native.Mathlib.Omega.{arith}
+use Rattle.words.specs.Words.{Apart}
+use Rattle.clock.specs.Clock.{dominates, clockAt}
+use Rattle.clock.proofs.Order.{dominates-same}
+use Rattle.sizes.specs.declared.Counts.{Counts}
+use Rattle.sizes.specs.Bounds.{versionSize, keyAt, rowAt}
+use Rattle.sizes.proofs.Offsets.{key-lies, row-lies}
+use Rattle.layout.specs.Reading.{readPlace}
+use Rattle.layout.proofs.Readings.{row-word}
+use Rattle.version.specs.Places.{Area, Areas}
+
+module _ (len : ℕ) (z : Counts) (at : ℕ) (A : Area len z at) where
+  pub key-in : (k : ℕ) → k < z .keys → keyAt z at k + versionSize z ≤ len
+  key-in k h = omega (arith, key-lies z at k h .ends, A .fits)
+
+  pub row-in : (k d : ℕ) → k < z .keys → d < z .keys → rowAt z (keyAt z at k) d + z .writers ≤ len
+  row-in k d h i = omega (arith, row-lies z (keyAt z at k) d i .ends, key-in k h)
+
+  -- The first word of a version, its issue number.
+  pub issue-in : (k : ℕ) → k < z .keys → keyAt z at k < len
+  unfolding versionSize
+  issue-in k h = omega (arith, key-in k h)
+
+-- The versions of one key in two places.
+pub key-apart : (len : ℕ) (z : Counts) (dst src : ℕ) → Areas len z dst src → (k : ℕ) → k < z .keys
+    → Apart len (keyAt z dst k) (keyAt z src k) (versionSize z)
+key-apart len z dst src A k h =
+    let a = key-lies z dst k h in
+    let b = key-lies z src k h in
+    record {
+      dst-in = key-in len z dst (A .target) k h;
+      src-in = key-in len z src (A .source) k h;
+      apart = ⊎-elim (λ e. inl (omega (arith, ap (λ (at : ℕ). keyAt z at k) e)))
+          (⊎-elim (λ l. inl (omega arith)) (λ l. inr (omega arith))) (A .apart);
+    }
+
+-- Row d of key k in one place and of key t in another.
+pub dominates-word : (z : Counts) (l : List ℕ) (a k b t d : ℕ)
+    → k < z .keys → t < z .keys → d < z .keys
+    → dominates (z .writers) (readPlace z l a k .past d) (readPlace z l b t .past d)
+    ≡ dominates (z .writers) (clockAt l (rowAt z (keyAt z a k) d))
+    (clockAt l (rowAt z (keyAt z b t) d))
+dominates-word z l a k b t d h i j =
+    dominates-same (z .writers) (readPlace z l a k .past d) (clockAt l (rowAt z (keyAt z a k) d))
+    (readPlace z l b t .past d) (clockAt l (rowAt z (keyAt z b t) d))
+    (λ w u. row-word z l a k d w h j u) (λ w u. row-word z l b t d w i j u)

@@ -1,0 +1,55 @@
+-- `meets` tests that a version is held and that its own row dominates what is needed.
+-- Assumes nothing.
+use mathlib.Core.Path.{sym, _∙_}
+use borrow.Author.Needs.{needs}
+use borrow.Author.Tests.{not-true, not-false}
+use lib.ListN.{length}
+use Rattle.model.specs.Version.{supersedes}
+use Rattle.version.proofs.Areas.{row-in, dominates-word}
+use Rattle.version.proofs.meets.Statement.{statement}
+use Rattle.version.proofs.meets.Tie as tie
+
+held-requires : tie.Need-held-requires
+held-requires c κs = search needs
+
+returns : tie.Need-returns
+unfolding supersedes
+returns c = rw (sym (c .before .held .ensures) ∙ not-true _ (c .if1 .taken))
+
+row-of-requires : tie.Need-row-of-requires
+row-of-requires c κs = search needs
+
+row-of-requires-2 : tie.Need-row-of-requires-2
+row-of-requires-2 c κs = search needs
+
+dominates-requires : tie.Need-dominates-requires
+dominates-requires c κs =
+    let s = c .before .before .before .before .before in
+    let a = s .args in
+    let n = length (a .words .now) in
+    let d = s .pre .1 .0 in
+    rw (c .row-of2 .ensures, c .before .row-of .ensures) (
+      row-in n (a .z) (a .target) (s .pre .0 .0) (a .d) (a .d) d d,
+      row-in n (a .z) (a .source) (s .pre .0 .1) (a .t) (a .d) (s .pre .1 .1) d,
+    )
+
+returns-2 : tie.Need-returns-2
+unfolding supersedes
+returns-2 c =
+    let b = c .before .before in
+    let s = b .before .before .before .before in
+    let a = s .args in
+    let d = s .pre .1 .0 in
+    rw (
+      sym (b .before .before .held .ensures) ∙ not-false _ (b .before .if1 .left),
+      dominates-word (a .z) (a .words .now) (a .target) (a .d) (a .source) (a .t) (a .d) d
+          (s .pre .1 .1) d,
+      ← b .row-of .ensures,
+      ← c .before .row-of2 .ensures,
+    )
+    (c .dominates .ensures)
+
+pub meets-spec : {M : Type 1} → statement M
+meets-spec =
+    tie.close
+    (tie.spec held-requires returns row-of-requires row-of-requires-2 dominates-requires returns-2)

@@ -1,0 +1,38 @@
+-- Versions and places in the words of a buffer: stored at an index, and where they lie.
+-- putVersion, putPlace: stored. choice: a place by a set of keys. Area, Areas: where places lie.
+-- Assumes nothing.
+use mathlib.Core.Path.{_≡_}
+use mathlib.Core.Bool.{cond}
+use mathlib.Core.List.{List}
+use mathlib.Core.Logic.{_⊎_}
+use Prim.Native.Nat.{ℕ, _+_, _≤_, _<_}
+use lib.Seq.{sets}
+use Rattle.words.specs.Tests.{Items}
+use Rattle.sizes.specs.declared.Counts.{Counts}
+use Rattle.sizes.specs.Bounds.{Ranged, placeSize}
+use Rattle.model.specs.Algebra.{Place}
+use Rattle.model.specs.Version.{Version}
+use Rattle.layout.specs.Words.{versionWords, placeWords}
+
+-- The words l with a version, a place, stored from index at on.
+abbrev pub putVersion : Counts → List ℕ → ℕ → Version → List ℕ
+putVersion z l at v = sets l at (versionWords z v)
+
+abbrev pub putPlace : Counts → List ℕ → ℕ → Place Version → List ℕ
+putPlace z l at p = sets l at (placeWords z p)
+
+-- p for the keys of a set, and q for the others.
+abbrev pub choice : Items → Place Version → Place Version → Place Version
+choice S p q k = cond (S k) (p k) (q k)
+
+-- A place at an index of a buffer of len words.
+pub record Area (len : ℕ) (z : Counts) (at : ℕ) : Type 0 where
+  pub ranged : Ranged z
+  pub low : at < 1000000
+  pub fits : at + placeSize z ≤ len
+
+-- Two places: one and the same, or two that do not overlap.
+pub record Areas (len : ℕ) (z : Counts) (dst src : ℕ) : Type 0 where
+  pub target : Area len z dst
+  pub source : Area len z src
+  pub apart : (dst ≡ src) ⊎ ((dst + placeSize z ≤ src) ⊎ (src + placeSize z ≤ dst))
