@@ -1,1 +1,4 @@
 pub mod Areas
+pub mod Versions
+pub mod Keys
+pub mod Stores

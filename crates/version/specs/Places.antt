@@ -1,5 +1,6 @@
 -- Versions and places in the words of a buffer: stored at an index, and where they lie.
--- putVersion, putPlace: stored. choice: a place by a set of keys. Area, Areas: where places lie.
+-- putVersion, putPlace, putKey: stored. choice: a place by a set of keys.
+-- Area, Areas: where places lie.
 -- Assumes nothing.
 use mathlib.Core.Path.{_≡_}
 use mathlib.Core.Bool.{cond}
@@ -9,7 +10,7 @@ use Prim.Native.Nat.{ℕ, _+_, _≤_, _<_}
 use lib.Seq.{sets}
 use Rattle.words.specs.Tests.{Items}
 use Rattle.sizes.specs.declared.Counts.{Counts}
-use Rattle.sizes.specs.Bounds.{Ranged, placeSize}
+use Rattle.sizes.specs.Bounds.{Ranged, placeSize, keyAt}
 use Rattle.model.specs.Algebra.{Place}
 use Rattle.model.specs.Version.{Version}
 use Rattle.layout.specs.Words.{versionWords, placeWords}
@@ -20,6 +21,10 @@ putVersion z l at v = sets l at (versionWords z v)
 
 abbrev pub putPlace : Counts → List ℕ → ℕ → Place Version → List ℕ
 putPlace z l at p = sets l at (placeWords z p)
+
+-- The words l with version v stored for key k of the place at an index, if k is in the set.
+abbrev pub putKey : Counts → List ℕ → ℕ → Items → ℕ → Version → List ℕ
+putKey z l at S k v = cond (S k) (putVersion z l (keyAt z at k) v) l
 
 -- p for the keys of a set, and q for the others.
 abbrev pub choice : Items → Place Version → Place Version → Place Version

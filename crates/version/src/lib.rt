@@ -8,7 +8,7 @@ use sizes::Counts;
 use words::copy;
 use words::zero;
 ghost use mathlib.Core.Path.{_≡_};
-ghost use mathlib.Core.Bool.{cond, So};
+ghost use mathlib.Core.Bool.{So};
 ghost use Prim.Native.Nat.{_+_, _≤_, _<_};
 ghost use lib.ListN.{length};
 ghost use Rattle.words.specs.Words.{Apart};
@@ -17,7 +17,7 @@ ghost use Rattle.sizes.specs.Bounds.{Ranged, versionSize, keyAt, rowAt};
 ghost use Rattle.model.specs.Version.{unheld, held, dependency, supersedes, larger, merge};
 ghost use Rattle.model.specs.Form.{placeFormed};
 ghost use Rattle.layout.specs.Reading.{readVersion, readPlace};
-ghost use Rattle.version.specs.Places.{putVersion, putPlace, choice, Area, Areas};
+ghost use Rattle.version.specs.Places.{putVersion, putPlace, putKey, choice, Area, Areas};
 
 // Where row d of key k begins in the place at an index.
 fn row_of(z: Counts, at: usize, k: usize, d: usize) -> usize
@@ -25,8 +25,8 @@ fn row_of(z: Counts, at: usize, k: usize, d: usize) -> usize
     requires { ⌜ (at < 1000000) × (k < z .keys) × (d < z .keys) ⌝ }
     ensures { λ r. ⌜ r ≡ rowAt z (keyAt z at k) d ⌝ }
 {
-    let v = z.key_at(at, k);
-    z.row_at(v, d)
+    let version = z.key_at(at, k);
+    z.row_at(version, d)
 }
 
 // Whether key k of the place is held.
@@ -35,8 +35,8 @@ pub fn held(words: &[u32], z: Counts, at: usize, k: usize) -> bool
     requires { ⌜ k < z .keys ⌝ }
     ensures { λ r. ⌜ r ≡ held (readPlace z (now (words .entry)) at k) ⌝ }
 {
-    let v = z.key_at(at, k);
-    1 <= words[v]
+    let issue = z.key_at(at, k);
+    1 <= words[issue]
 }
 
 // Whether key k of the place needs key d.
@@ -80,4 +80,125 @@ pub fn held_mask(words: &[u32], z: Counts, at: usize) -> u32
         k += 1;
     }
     mask
+}
+
+// Copies the version at src to dst.
+pub fn copy_version(words: &mut [u32], z: Counts, dst: usize, src: usize)
+    requires { ⌜ Ranged z ⌝ }
+    requires { ⌜ Apart (length (now words)) dst src (versionSize z) ⌝ }
+    ensures { λ _. ⌜ now (words .exit) ≡ putVersion z (now (words .entry)) dst
+        (readVersion z (now (words .entry)) src) ⌝ }
+{
+    let n = z.version_size();
+    copy(words, dst, src, n);
+}
+
+// Clears the version at an index: it is not held.
+pub fn clear_version(words: &mut [u32], z: Counts, at: usize)
+    requires { ⌜ Ranged z ⌝ }
+    requires { ⌜ at + versionSize z ≤ length (now words) ⌝ }
+    ensures { λ _. ⌜ now (words .exit) ≡ putVersion z (now (words .entry)) at unheld ⌝ }
+{
+    let n = z.version_size();
+    zero(words, at, n);
+}
+
+// Merges the version at src into the one at dst: each word becomes the larger of the two.
+pub fn merge_version(words: &mut [u32], z: Counts, dst: usize, src: usize)
+    requires { ⌜ Ranged z ⌝ }
+    requires { ⌜ Apart (length (now words)) dst src (versionSize z) ⌝ }
+    ensures { λ _. ⌜ now (words .exit) ≡ putVersion z (now (words .entry)) dst
+        (larger (readVersion z (now (words .entry)) dst)
+        (readVersion z (now (words .entry)) src)) ⌝ }
+{
+    let n = z.version_size();
+    merge_into(words, dst, src, n);
+}
+
+// Copies key k of the place at src to the place at dst, if it is in the mask.
+fn copy_if(words: &mut [u32], z: Counts, dst: usize, src: usize, mask: u32, k: usize)
+    requires { ⌜ Areas (length (now words)) z dst src ⌝ }
+    requires { ⌜ k < z .keys ⌝ }
+    ensures { λ _. ⌜ now (words .exit) ≡ putKey z (now (words .entry)) dst (testBit mask) k
+        (readPlace z (now (words .entry)) src k) ⌝ }
+{
+    if has(mask, k as u32) {
+        let d = z.key_at(dst, k);
+        let s = z.key_at(src, k);
+        copy_version(words, z, d, s);
+    }
+}
+
+// Copies the keys of the mask from the place at src to the place at dst.
+pub fn copy_keys(words: &mut [u32], z: Counts, dst: usize, src: usize, mask: u32)
+    requires { ⌜ Areas (length (now words)) z dst src ⌝ }
+    ensures { λ _. ⌜ now (words .exit) ≡ putPlace z (now (words .entry)) dst
+        (choice (testBit mask) (readPlace z (now (words .entry)) src)
+        (readPlace z (now (words .entry)) dst)) ⌝ }
+{
+    let n = z.keys;
+    let mut k = 0;
+    while k < n {
+        copy_if(words, z, dst, src, mask, k);
+        k += 1;
+    }
+}
+
+// Clears key k of the place at an index, if it is in the mask.
+fn clear_if(words: &mut [u32], z: Counts, at: usize, mask: u32, k: usize)
+    requires { ⌜ Area (length (now words)) z at ⌝ }
+    requires { ⌜ k < z .keys ⌝ }
+    ensures { λ _. ⌜ now (words .exit)
+        ≡ putKey z (now (words .entry)) at (testBit mask) k unheld ⌝ }
+{
+    if has(mask, k as u32) {
+        let v = z.key_at(at, k);
+        clear_version(words, z, v);
+    }
+}
+
+// Clears the keys of the mask.
+pub fn clear_keys(words: &mut [u32], z: Counts, at: usize, mask: u32)
+    requires { ⌜ Area (length (now words)) z at ⌝ }
+    ensures { λ _. ⌜ now (words .exit) ≡ putPlace z (now (words .entry)) at
+        (choice (testBit mask) (λ k. unheld) (readPlace z (now (words .entry)) at)) ⌝ }
+{
+    let n = z.keys;
+    let mut k = 0;
+    while k < n {
+        clear_if(words, z, at, mask, k);
+        k += 1;
+    }
+}
+
+// Merges key k of the place at src into the place at dst, if it is in the mask.
+fn merge_if(words: &mut [u32], z: Counts, dst: usize, src: usize, mask: u32, k: usize)
+    requires { ⌜ Areas (length (now words)) z dst src ⌝ }
+    requires { ⌜ k < z .keys ⌝ }
+    ensures { λ _. ⌜ now (words .exit) ≡ putKey z (now (words .entry)) dst (testBit mask) k
+        (larger (readPlace z (now (words .entry)) dst k)
+        (readPlace z (now (words .entry)) src k)) ⌝ }
+{
+    if has(mask, k as u32) {
+        let d = z.key_at(dst, k);
+        let s = z.key_at(src, k);
+        merge_version(words, z, d, s);
+    }
+}
+
+// Merges the keys of the mask from the place at src into the place at dst.
+pub fn merge_keys(words: &mut [u32], z: Counts, dst: usize, src: usize, mask: u32)
+    requires { ⌜ Areas (length (now words)) z dst src ⌝ }
+    requires { ⌜ So (placeFormed z (readPlace z (now words) dst))
+        × So (placeFormed z (readPlace z (now words) src)) ⌝ }
+    ensures { λ _. ⌜ now (words .exit) ≡ putPlace z (now (words .entry)) dst
+        (choice (testBit mask) (λ k. merge (readPlace z (now (words .entry)) dst k)
+        (readPlace z (now (words .entry)) src k)) (readPlace z (now (words .entry)) dst)) ⌝ }
+{
+    let n = z.keys;
+    let mut k = 0;
+    while k < n {
+        merge_if(words, z, dst, src, mask, k);
+        k += 1;
+    }
 }

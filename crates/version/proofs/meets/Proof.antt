@@ -2,6 +2,7 @@
 -- Assumes nothing.
 use mathlib.Core.Path.{sym, _∙_}
 use borrow.Author.Needs.{needs}
+use native.Mathlib.Omega.{arith}
 use borrow.Author.Tests.{not-true, not-false}
 use lib.ListN.{length}
 use Rattle.model.specs.Version.{supersedes}
@@ -28,10 +29,9 @@ dominates-requires c κs =
     let a = s .args in
     let n = length (a .words .now) in
     let d = s .pre .1 .0 in
-    rw (c .row-of2 .ensures, c .before .row-of .ensures) (
-      row-in n (a .z) (a .target) (s .pre .0 .0) (a .d) (a .d) d d,
-      row-in n (a .z) (a .source) (s .pre .0 .1) (a .t) (a .d) (s .pre .1 .1) d,
-    )
+    let own = row-in n (a .z) (a .target) (s .pre .0 .0) (a .d) (a .d) d d in
+    let need = row-in n (a .z) (a .source) (s .pre .0 .1) (a .t) (a .d) (s .pre .1 .1) d in
+    rw (c .row-of2 .ensures, c .before .row-of .ensures) (omega arith, omega arith)
 
 returns-2 : tie.Need-returns-2
 unfolding supersedes

@@ -1,0 +1,81 @@
+-- Where the places of a store lie: the master, the caches and the snapshots, and one beside another.
+-- ..-area: one of them. site-master, snapshot-site: target and source.
+-- place-back, place-beside: a place that was stored is read, or another one.
+-- Assumes nothing.
+use mathlib.Core.Path.{_≡_}
+use mathlib.Core.List.{List}
+use mathlib.Core.Logic.{_⊎_, inl, inr, ⊎-elim}
+use Prim.Native.Nat.{ℕ, _+_, _≤_, _<_}
+use native.Mathlib.Omega.{arith}
+use lib.ListN.{length}
+use Rattle.sizes.specs.declared.Counts.{Counts}
+use Rattle.sizes.specs.Bounds.{Ranged, placeSize, siteSize, masterAt, siteAt, snapshotAt, totalOf}
+use Rattle.sizes.proofs.Offsets.{ordered, site-lies, run-lies, snapshot-lies}
+use Rattle.model.specs.Algebra.{Place}
+use Rattle.model.specs.Version.{Version}
+use Rattle.layout.specs.Words.{placeWords}
+use Rattle.layout.specs.Reading.{readPlace}
+use Rattle.layout.proofs.Parts.{FitPlace, place-laws}
+use Rattle.layout.proofs.Windows.{part-back, part-beside}
+use Rattle.version.specs.Places.{putPlace, Area, Areas}
+
+-- ---- a place that was stored
+
+pub place-back : (z : Counts) (l : List ℕ) (at : ℕ) (p : Place Version) → FitPlace z p
+    → at + placeSize z ≤ length l → readPlace z (putPlace z l at p) at ≡ p
+place-back z l at p F h = part-back (place-laws z) l at p F h
+
+pub place-beside : (z : Counts) (l : List ℕ) (at from : ℕ) (p : Place Version)
+    → (at + placeSize z ≤ from) ⊎ (from + placeSize z ≤ at)
+    → readPlace z (putPlace z l at p) from ≡ readPlace z l from
+place-beside z l at from p d =
+    let long = place-laws z .long p in
+    part-beside (place-laws z) l (placeWords z p) at from
+    (⊎-elim (λ h. inr (omega arith)) (λ h. inl (omega arith)) d)
+
+-- ---- the places of a store in a buffer of len words
+
+module _ (len : ℕ) (z : Counts) (R : Ranged z) (fits : totalOf z ≤ len) where
+  pub master-area : Area len z (masterAt z)
+  master-area =
+      let o = ordered z R in
+      record { ranged = R; low = omega arith; fits = omega arith }
+
+  -- The cache is all of its site.
+  pub site-area : (o : ℕ) → o < z .sites → Area len z (siteAt z o)
+  unfolding siteSize
+  site-area o h =
+      let q = ordered z R in
+      let s = site-lies z o h in
+      record { ranged = R; low = omega arith; fits = omega arith }
+
+  pub snapshot-area : (r : ℕ) → r < z .runs → Area len z (snapshotAt z r)
+  snapshot-area r h =
+      let q = ordered z R in
+      let s = run-lies z r h in
+      let t = snapshot-lies z r in
+      record { ranged = R; low = omega arith; fits = omega arith }
+
+  pub site-master : (o : ℕ) → o < z .sites → Areas len z (siteAt z o) (masterAt z)
+  site-master o h =
+      let q = ordered z R in
+      let s = site-lies z o h in
+      record {
+        target = site-area o h;
+        source = master-area;
+        apart = inr (inr (omega arith));
+      }
+
+  pub snapshot-site : (r o : ℕ) → r < z .runs → o < z .sites
+      → Areas len z (snapshotAt z r) (siteAt z o)
+  unfolding siteSize
+  snapshot-site r o h i =
+      let q = ordered z R in
+      let s = site-lies z o i in
+      let t = run-lies z r h in
+      let u = snapshot-lies z r in
+      record {
+        target = snapshot-area r h;
+        source = site-area o i;
+        apart = inr (inr (omega arith));
+      }

@@ -1,0 +1,72 @@
+-- A version copied, cleared and merged, word by word.
+-- ..-version: the words that a loop stores are those of a version.
+-- Assumes nothing.
+use mathlib.Core.Path.{_≡_, refl, sym, ap, _∙_, fun-ext}
+use mathlib.Core.Bool.{Bool, true, false, cond}
+use mathlib.Core.List.{List, [], _∷_, _++_}
+use Prim.Native.Nat.{ℕ, zero, suc, _+_}
+use native.Mathlib.Numerals.{add-one}
+use lib.Dec.{ltb}
+use lib.ListN.{getD}
+use lib.Seq.{sets}
+use Rattle.words.specs.Words.{put}
+use Rattle.words.specs.Lists.{window, upto}
+use Rattle.words.proofs.Lists.{window-add}
+use Rattle.clock.specs.Clock.{Clock, join, clockAt}
+use Rattle.sizes.specs.declared.Counts.{Counts}
+use Rattle.sizes.specs.Bounds.{versionSize}
+use Rattle.model.specs.Version.{unheld, zeroPast, larger}
+use Rattle.layout.specs.Reading.{readClock, readPast, readVersion}
+use Rattle.layout.proofs.Parts.{version-laws}
+use Rattle.layout.proofs.Merges.{table, put-table, larger-version}
+use Rattle.version.specs.Places.{putVersion}
+
+table-window : (l : List ℕ) (at n : ℕ) → table n (λ i. getD l (at + i) 0) ≡ window l at n
+unfolding table window
+table-window l at zero = refl
+table-window l at (suc n) =
+    ap (λ (t : List ℕ). t ++ (getD l (at + n) 0 ∷ [])) (table-window l at n)
+    ∙ sym (window-add l at n 1) ∙ ap (window l at) (add-one n)
+
+-- The words of a version of any buffer m, stored at an index of l.
+stored-version : (z : Counts) (l m : List ℕ) (at src : ℕ)
+    → put l at (versionSize z) (λ i. getD m (src + i) 0) ≡ putVersion z l at (readVersion z m src)
+stored-version z l m at src =
+    let n = versionSize z in
+    put-table l at n (λ i. getD m (src + i) 0)
+    ∙ ap (sets l at) (table-window m src n ∙ sym (version-laws z .round m src))
+
+pub copy-version : (z : Counts) (l : List ℕ) (dst src : ℕ)
+    → put l dst (versionSize z) (λ i. getD l (src + i) 0)
+    ≡ putVersion z l dst (readVersion z l src)
+copy-version z l dst src = stored-version z l l dst src
+
+-- A limit to what stands everywhere is none.
+upto-all : {A : Type 0} (n : ℕ) (x : A) (i : ℕ) → upto n x (λ j. x) i ≡ x
+unfolding upto
+upto-all n x i = go (ltb i n)
+  where
+    go : (b : Bool) → cond b x x ≡ x
+    go true = refl
+    go false = refl
+
+-- A buffer with no words holds nothing.
+nothing-read : (z : Counts) → readVersion z [] 0 ≡ unheld
+unfolding readVersion readPast readClock
+nothing-read z =
+    let none : Clock = λ w. 0 in
+    let row : upto (z .writers) 0 none ≡ none = fun-ext (λ w. upto-all (z .writers) 0 w) in
+    let past : upto (z .keys) none (λ d. upto (z .writers) 0 none) ≡ zeroPast =
+    rw row (fun-ext (λ d. upto-all (z .keys) none d)) in
+    λ i. record { issue = 0; past = past i }
+
+pub clear-version : (z : Counts) (l : List ℕ) (at : ℕ)
+    → put l at (versionSize z) (λ i. 0) ≡ putVersion z l at unheld
+clear-version z l at =
+    stored-version z l [] at 0 ∙ ap (putVersion z l at) (nothing-read z)
+
+pub merge-version : (z : Counts) (l : List ℕ) (dst src : ℕ)
+    → put l dst (versionSize z) (join (clockAt l dst) (clockAt l src))
+    ≡ putVersion z l dst (larger (readVersion z l dst) (readVersion z l src))
+unfolding join clockAt
+merge-version z l dst src = larger-version z l dst src

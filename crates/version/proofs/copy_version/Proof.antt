@@ -1,0 +1,26 @@
+-- `copy_version` stores the words that are read at the source.
+-- Assumes nothing.
+use borrow.Author.Needs.{needs}
+use Rattle.version.proofs.Versions.{copy-version}
+use Rattle.version.proofs.copy_version.Statement.{statement}
+use Rattle.version.proofs.copy_version.Tie as tie
+
+version-size-requires : tie.Need-version-size-requires
+version-size-requires c κs = search needs
+
+copy-requires : tie.Need-copy-requires
+copy-requires c κs = let b = c .before in rw (b .version-size .ensures) (b .before .before .pre .1)
+
+same-length : tie.Need-same-length
+same-length c = search needs
+
+returns : tie.Need-returns
+returns c =
+    let b = c .before .before .before .before in
+    let a = b .before .before .args in
+    rw (← copy-version (a .z) (a .words .now) (a .dst) (a .src), ← b .version-size .ensures)
+    (c .before .before .copy .ensures)
+
+pub copy-version-spec : {M : Type 1} → statement M
+copy-version-spec =
+    tie.close (tie.spec version-size-requires copy-requires same-length returns)
