@@ -67,7 +67,7 @@ pub record Jobs (z : Counts) (n : ℕ) (job : ℕ → Job) : Type 0 where
 abbrev jobTest : Counts → Run → ℕ → Bool
 jobTest z a i = cond (ltb i (a .jobs)) (validJob z i (a .job i)) (zeroJob (a .job i))
 
-jobs-out : (z : Counts) (a : Run) → So (jobsFormed z a) → Jobs z (a .jobs) (a .job)
+pub jobs-out : (z : Counts) (a : Run) → So (jobsFormed z a) → Jobs z (a .jobs) (a .job)
 unfolding jobsFormed
 jobs-out z a p =
     let b = between maxJobs (a .jobs) in
@@ -93,7 +93,7 @@ pub record Masks (z : Counts) (n : ℕ) (job : ℕ → Job) (done read : ℕ) : 
   pub low : done < 2 ^ n
   pub reads : read ≡ maskBelow (z .keys) (doneReads n job done)
 
-masks-out : (z : Counts) (a : Run) → So (masksFormed z a)
+pub masks-out : (z : Counts) (a : Run) → So (masksFormed z a)
     → Masks z (a .jobs) (a .job) (a .done) (a .read)
 unfolding masksFormed
 masks-out z a p =

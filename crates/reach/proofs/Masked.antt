@@ -27,7 +27,7 @@ use Rattle.reach.proofs.Closures.{round-grows, round-adds, round-within
 abbrev pub led : List ℕ → ℕ → ℕ → Items
 led l k m d = anyBelow k (λ t. testBit m t && edges l t d)
 
-test-when : (b : Bool) (x j : ℕ) → testBit (when b x) j ≡ b && testBit x j
+pub test-when : (b : Bool) (x j : ℕ) → testBit (when b x) j ≡ b && testBit x j
 unfolding when
 test-when true x j = refl
 test-when false x j = test-none j

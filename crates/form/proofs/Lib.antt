@@ -1,0 +1,6 @@
+pub mod Loops
+pub mod Places
+pub mod Runs
+pub mod Masks
+pub mod Snapshots
+pub mod Stores

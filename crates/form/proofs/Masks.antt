@@ -1,0 +1,77 @@
+-- What the jobs of a run read, as masks.
+-- reads-done: the reads of the done jobs. jobs-test, masks-test: the tests of the code.
+-- Assumes nothing.
+use mathlib.Core.Path.{_≡_, refl, sym, ap, _∙_}
+use mathlib.Core.Bool.{So, _&&_}
+use mathlib.Core.List.{List}
+use Prim.Native.Nat.{ℕ, _+_, _≤_, _<_, _^_}
+use native.Mathlib.Omega.{arith}
+use lib.Dec.{eqb, ltb}
+use lib.ListN.{getD}
+use Rattle.words.specs.Tests.{allBelow}
+use Rattle.words.specs.Numbers.{when}
+use Rattle.words.proofs.Tests.{any-same}
+use Rattle.words.proofs.Numbers.{when-le}
+use Rattle.masks.specs.Mask.{testBit, maskBelow, unionBelow}
+use Rattle.masks.proofs.Sets.{mask-lt, test-mask, mask-ext-below, union-lt, test-union}
+use Rattle.reach.proofs.Masked.{test-when}
+use Rattle.sizes.specs.declared.Counts.{Counts}
+use Rattle.sizes.specs.Bounds.{maxJobs, between}
+use Rattle.model.specs.Store.{Job, Run, doneReads}
+use Rattle.model.specs.Form.{jobsFormed, masksFormed}
+use Rattle.layout.specs.Reading.{readJobs, readRun}
+use Rattle.layout.proofs.Plans.{jobs-out, valid-out}
+use Rattle.form.specs.Parts.{jobFormed, readsOf}
+use Rattle.form.proofs.Runs.{run-done, run-read, run-jobs}
+
+-- The key k is read by a job of the mask.
+pub test-reads : (n : ℕ) (job : ℕ → Job) (mask k : ℕ)
+    → testBit (readsOf n job mask) k ≡ doneReads n job mask k
+unfolding readsOf doneReads
+test-reads n job mask k =
+    test-union n (λ j. when (testBit mask j) (job j .reads)) k
+    ∙ any-same n (λ j. testBit (when (testBit mask j) (job j .reads)) k)
+    (λ j. testBit mask j && testBit (job j .reads) k)
+    (λ j _. test-when (testBit mask j) (job j .reads) k)
+
+-- Valid jobs read keys below K only.
+pub reads-done : (z : Counts) (a : Run) → So (jobsFormed z a) → (mask : ℕ)
+    → readsOf (a .jobs) (a .job) mask ≡ maskBelow (z .keys) (doneReads (a .jobs) (a .job) mask)
+unfolding readsOf
+reads-done z a p mask =
+    let J = jobs-out z a p in
+    let all = doneReads (a .jobs) (a .job) mask in
+    mask-ext-below (z .keys) (readsOf (a .jobs) (a .job) mask) (maskBelow (z .keys) all)
+    (union-lt (a .jobs) (λ j. when (testBit mask j) (a .job j .reads)) (z .keys)
+    (λ j h. omega (
+      arith,
+      valid-out z j (a .job j) (J .valid j h) .reads,
+      when-le (testBit mask j) (a .job j .reads),
+    )))
+    (mask-lt (z .keys) all (z .keys) (omega arith))
+    (λ k h. test-reads (a .jobs) (a .job) mask k ∙ sym (test-mask (z .keys) all k h))
+
+-- ---- the tests of the code
+
+module _ (z : Counts) (l : List ℕ) (at : ℕ) where
+  pub jobs-test : let n = getD l (at + 1) 0 in
+      between maxJobs n && allBelow maxJobs (λ i. jobFormed z n i (readJobs l (at + 4) i))
+      ≡ jobsFormed z (readRun z l at)
+  unfolding jobsFormed jobFormed readRun
+  jobs-test = let e : at + 4 ≡ at + 1 + 1 + 1 + 1 = omega arith in rw e
+
+  -- There are 8 jobs at most.
+  pub jobs-most : So (jobsFormed z (readRun z l at)) → getD l (at + 1) 0 ≤ maxJobs
+  unfolding readRun
+  jobs-most p = jobs-out z (readRun z l at) p .high
+
+  pub masks-test : So (jobsFormed z (readRun z l at)) → let n = getD l (at + 1) 0 in
+      let done = getD l (at + 2) 0 in
+      ltb done (2 ^ n) && eqb (getD l (at + 3) 0) (readsOf n (readJobs l (at + 4)) done)
+      ≡ masksFormed z (readRun z l at)
+  unfolding masksFormed readRun
+  masks-test p =
+      let d : at + 2 ≡ at + 1 + 1 = omega arith in
+      let r : at + 3 ≡ at + 1 + 1 + 1 = omega arith in
+      let e : at + 4 ≡ at + 1 + 1 + 1 + 1 = omega arith in
+      rw (e, r, d, reads-done z (readRun z l at) p (getD l (at + 1 + 1) 0))

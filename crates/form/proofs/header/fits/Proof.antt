@@ -1,0 +1,16 @@
+-- `fits` compares the total with the length.
+-- Assumes nothing.
+use borrow.Author.Needs.{needs}
+use Rattle.sizes.specs.Bounds.{sizesOf}
+use Rattle.form.proofs.header.fits.Statement.{statement}
+use Rattle.form.proofs.header.fits.Tie as tie
+
+of-requires : tie.Need-of-requires
+of-requires c κs = search needs
+
+returns : tie.Need-returns
+unfolding sizesOf
+returns c = rw (c .of .ensures)
+
+pub fits-spec : {M : Type 1} → statement M
+fits-spec = tie.close (tie.spec of-requires returns)

@@ -1,0 +1,97 @@
+-- `reads_of` gives what the jobs of a mask read.
+-- The loop's invariant: the union over the jobs passed.
+-- Assumes nothing.
+use mathlib.Core.Path.{_≡_, refl, ap, _∙_}
+use Prim.Native.Nat.{ℕ, _≤_, _-_}
+use borrow.Author.Needs.{needs}
+use native.Mathlib.Omega.{arith}
+use Rattle.masks.specs.Mask.{unionBelow}
+use Rattle.layout.specs.Reading.{readJobs}
+use Rattle.form.specs.Parts.{readsOf}
+use Rattle.form.proofs.Runs.{reads-more}
+use Rattle.form.proofs.job.reads_of.Statement.{statement}
+use Rattle.form.proofs.job.reads_of.Tie as tie
+
+abbrev Inv-loop : tie.InvT-loop
+Inv-loop words at n mask all₀ j₀ all j =
+    (j ≤ n) × (all ≡ readsOf j (readJobs words at) mask)
+
+abbrev μ-loop : tie.MeasureT-loop
+μ-loop words at n mask all₀ j₀ all j = n - j
+
+loop-holds : tie.Need-loop-holds Inv-loop μ-loop
+unfolding unionBelow readsOf
+loop-holds c = (omega arith, refl)
+
+wide-requires : tie.Need-wide-requires Inv-loop μ-loop
+wide-requires c κs = search needs
+
+mul-job : tie.Need-mul-job Inv-loop μ-loop
+mul-job c = omega arith
+
+add-job : tie.Need-add-job Inv-loop μ-loop
+add-job c = omega arith
+
+has-requires : tie.Need-has-requires Inv-loop μ-loop
+has-requires c κs = omega arith
+
+add-mask-if : tie.Need-add-mask-if Inv-loop μ-loop
+add-mask-if c = omega arith
+
+mul-mask-if : tie.Need-mul-mask-if Inv-loop μ-loop
+mul-mask-if c = omega arith
+
+shared-slice-read-mask-if : tie.Need-shared-slice-read-mask-if Inv-loop μ-loop
+shared-slice-read-mask-if c = omega arith
+
+mask-if-requires : tie.Need-mask-if-requires Inv-loop μ-loop
+mask-if-requires c κs = search needs
+
+add-j : tie.Need-add-j Inv-loop μ-loop
+add-j c = omega arith
+
+loop-less : tie.Need-loop-less Inv-loop μ-loop
+loop-less c = omega arith
+
+loop-again : tie.Need-loop-again Inv-loop μ-loop
+loop-again c =
+    let h = c .before .before in
+    let w = h .before in
+    let l = w .before .before in
+    let a = l .before .before .args in (
+      omega arith,
+      rw (
+        reads-more (a .words .now) (a .at) (a .mask) (l .loop .j) (omega arith),
+        l .loop .inv .1,
+        c .mask-if .ensures,
+        h .has .ensures,
+        w .wide .ensures,
+      ),
+    )
+
+returns : tie.Need-returns Inv-loop μ-loop
+returns c =
+    let l = c .before in
+    let a = l .before .before .args in
+    let e : l .loop .j ≡ a .n = omega arith in
+    l .loop .inv .1 ∙ ap (λ (m : ℕ). readsOf m (readJobs (a .words .now) (a .at)) (a .mask)) e
+
+pub reads-of-spec : {M : Type 1} → statement M
+reads-of-spec =
+    tie.close
+    (tie.spec
+    Inv-loop
+    μ-loop
+    loop-holds
+    wide-requires
+    mul-job
+    add-job
+    has-requires
+    add-mask-if
+    mul-mask-if
+    shared-slice-read-mask-if
+    mask-if-requires
+    add-j
+    loop-less
+    loop-again
+    returns)

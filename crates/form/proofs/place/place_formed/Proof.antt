@@ -1,0 +1,85 @@
+use Rattle.form.proofs.Loops.{loop-fails, loop-turn, loop-ends}
+use Rattle.layout.specs.Reading.{readPlace}
+use Rattle.model.specs.Form.{versionFormed, placeFormed}
+use Rattle.sizes.specs.declared.Counts.{Counts}
+use Rattle.words.specs.Tests.{Items, allBelow}
+use Prim.Native.Nat.{ℕ, _≤_, _-_}
+use mathlib.Core.List.{List}
+use mathlib.Core.Bool.{So}
+use mathlib.Core.Path.{refl}
+use borrow.Author.Needs.{needs}
+use native.Mathlib.Omega.{arith}
+use Rattle.form.proofs.place.place_formed.Statement.{statement}
+use Rattle.form.proofs.place.place_formed.Tie as tie
+use Rattle.form.proofs.place.place_formed.Reads as reads
+use Rattle.form.proofs.place.place_formed.Lts as lts
+use Rattle.form.proofs.place.version_formed.Reads as version-formed-reads
+
+-- The test of key k.
+abbrev keyTest : List ℕ → Counts → ℕ → Items
+keyTest l z at k = versionFormed z k (readPlace z l at k)
+
+abbrev Inv-loop : tie.InvT-loop
+Inv-loop words z at keys k₀ k = (k ≤ keys) × So (allBelow k (keyTest words z at))
+
+abbrev μ-loop : tie.MeasureT-loop
+μ-loop words z at keys k₀ k = keys - k
+
+-- The tests that the loop makes.
+abbrev tests : tie.At-loop Inv-loop μ-loop → Items
+tests l = let a = l .before .before .args in keyTest (a .words .now) (a .z) (a .at)
+
+-- src/place.rt:73:5
+loop-holds : tie.Need-loop-holds Inv-loop μ-loop
+unfolding allBelow
+loop-holds c = (omega arith, refl)
+
+-- src/place.rt:74:13
+version-formed-requires : tie.Need-version-formed-requires Inv-loop μ-loop
+version-formed-requires c κs = search needs
+
+-- src/place.rt:75:13
+returns : tie.Need-returns Inv-loop μ-loop
+unfolding placeFormed
+returns c =
+    let l = c .before .before .before in
+    let z = l .before .before .args .z in
+    let e = c .before .version-formed .ensures in
+    loop-fails (z .keys) (tests l) (l .loop .k) _ (omega arith) e (c .if1 .taken)
+
+-- src/place.rt:77:9
+add-k : tie.Need-add-k Inv-loop μ-loop
+add-k c = omega arith
+
+-- src/place.rt:73:5
+loop-less : tie.Need-loop-less Inv-loop μ-loop
+loop-less c = omega arith
+
+-- src/place.rt:73:5
+loop-again : tie.Need-loop-again Inv-loop μ-loop
+loop-again c =
+    let l = c .before .before .before in
+    let e = c .before .version-formed .ensures in
+    (omega arith, loop-turn (tests l) (l .loop .k) _ (l .loop .inv .1) e (c .if1 .left))
+
+-- src/place.rt:67:1
+returns-2 : tie.Need-returns-2 Inv-loop μ-loop
+unfolding placeFormed
+returns-2 c =
+    let l = c .before in
+    let z = l .before .before .args .z in
+    loop-ends (z .keys) (tests l) (l .loop .k) (omega arith) (l .loop .inv .1)
+
+pub place-formed-spec : {M : Type 1} → statement M
+place-formed-spec =
+    tie.close
+    (tie.spec
+    Inv-loop
+    μ-loop
+    loop-holds
+    version-formed-requires
+    returns
+    add-k
+    loop-less
+    loop-again
+    returns-2)

@@ -1,0 +1,43 @@
+-- Parts of a store in a buffer, for the contracts of the tests.
+-- jobOf: a job of three numbers. jobFormed: what is asked of one job.
+-- readsOf: what some jobs read. Area, RunArea, StoreArea: where a part lies.
+-- Assumes nothing.
+use mathlib.Core.Bool.{Bool, cond}
+use Prim.Native.Nat.{ℕ, _+_, _≤_, _<_}
+use lib.Dec.{ltb}
+use Rattle.words.specs.Numbers.{when}
+use Rattle.masks.specs.Mask.{testBit, unionBelow}
+use Rattle.sizes.specs.Bounds.{Ranged, placeSize, totalOf}
+use Rattle.sizes.specs.declared.Counts.{Counts}
+use Rattle.model.specs.Store.{Job}
+use Rattle.model.specs.Form.{validJob, zeroJob}
+
+abbrev pub jobOf : ℕ → ℕ → ℕ → Job
+jobOf a b c = record { site = a; reads = b; upstream = c }
+
+-- Job i of a run of n jobs: valid, or beyond them and without words.
+unfoldable pub jobFormed : Counts → ℕ → ℕ → Job → Bool
+jobFormed z n i j = cond (ltb i n) (validJob z i j) (zeroJob j)
+
+-- The union of what the jobs of a mask read, of the first n.
+unfoldable pub readsOf : ℕ → (ℕ → Job) → ℕ → ℕ
+readsOf n job mask = unionBelow n (λ j. when (testBit mask j) (job j .reads))
+
+-- ---- where a part lies in a buffer of len words
+
+-- The place at an index.
+pub record Area (len : ℕ) (z : Counts) (at : ℕ) : Type 0 where
+  pub ranged : Ranged z
+  pub low : at < 1000000
+  pub fits : at + placeSize z ≤ len
+
+-- The run at an index: 28 words, and the snapshot.
+pub record RunArea (len : ℕ) (z : Counts) (at : ℕ) : Type 0 where
+  pub ranged : Ranged z
+  pub low : at + 28 < 1000000
+  pub fits : at + 28 + placeSize z ≤ len
+
+-- The whole store.
+pub record StoreArea (len : ℕ) (z : Counts) : Type 0 where
+  pub ranged : Ranged z
+  pub fits : totalOf z ≤ len

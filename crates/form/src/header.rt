@@ -1,0 +1,86 @@
+// Header and length of a buffer. The counts are tested before any size is computed from them.
+use sizes::Counts;
+use sizes::Sizes;
+use words::wide;
+ghost use mathlib.Core.Path.{_≡_};
+ghost use mathlib.Core.Bool.{_&&_};
+ghost use Prim.Native.Nat.{_≤_, _<_};
+ghost use lib.Dec.{eqb, leb};
+ghost use lib.ListN.{length};
+ghost use Rattle.sizes.specs.Bounds.{between, ranged, Ranged, totalOf};
+ghost use Rattle.layout.specs.Reading.{readWord, countsIn};
+ghost use Rattle.layout.specs.Buffer.{headerRight, shaped};
+
+// Whether a count is 1 to top.
+pub fn is_between(x: usize, top: usize) -> bool
+    ensures { λ r. ⌜ r ≡ between top x ⌝ }
+{
+    (1 <= x) & (x <= top)
+}
+
+// Whether the four counts are in range.
+pub fn is_ranged(z: Counts) -> bool
+    ensures { λ r. ⌜ r ≡ ranged z ⌝ }
+{
+    is_between(z.keys, Sizes::MAX_KEYS)
+        & (is_between(z.writers, Sizes::MAX_WRITERS)
+            & (is_between(z.sites, Sizes::MAX_SITES) & is_between(z.runs, Sizes::MAX_RUNS)))
+}
+
+// The counts in the header.
+pub fn counts(words: &[u32]) -> Counts
+    requires { ⌜ 10 ≤ length (now words) ⌝ }
+    ensures { λ r. ⌜ r ≡ countsIn (now (words .entry)) ⌝ }
+{
+    Counts {
+        keys: wide(words[0]),
+        writers: wide(words[1]),
+        sites: wide(words[2]),
+        runs: wide(words[3]),
+    }
+}
+
+// Whether word i is x.
+pub fn word_is(words: &[u32], i: usize, x: usize) -> bool
+    requires { ⌜ i < length (now words) ⌝ }
+    ensures { λ r. ⌜ r ≡ eqb (readWord (now (words .entry)) i) x ⌝ }
+{
+    wide(words[i]) == x
+}
+
+// Whether the offsets and the total in the header follow from the counts.
+pub fn header_right(words: &[u32], z: Counts) -> bool
+    requires { ⌜ Ranged z ⌝ }
+    requires { ⌜ 10 ≤ length (now words) ⌝ }
+    ensures { λ r. ⌜ r ≡ headerRight (now (words .entry)) z ⌝ }
+{
+    let s = Sizes::of(z.keys, z.writers, z.sites, z.runs);
+    word_is(words, 5, s.master)
+        & (word_is(words, 6, s.sites)
+            & (word_is(words, 7, s.writers)
+                & (word_is(words, 8, s.runs) & word_is(words, 9, s.total))))
+}
+
+// Whether the buffer has the words that the counts ask for.
+pub fn fits(words: &[u32], z: Counts) -> bool
+    requires { ⌜ Ranged z ⌝ }
+    ensures { λ r. ⌜ r ≡ leb (totalOf z) (length (now (words .entry))) ⌝ }
+{
+    let s = Sizes::of(z.keys, z.writers, z.sites, z.runs);
+    let total = s.total;
+    total <= words.len()
+}
+
+// Whether header and length are right.
+pub fn shaped(words: &[u32]) -> bool
+    ensures { λ r. ⌜ r ≡ shaped (now (words .entry)) ⌝ }
+{
+    if words.len() < 10 {
+        return false;
+    }
+    let z = counts(words);
+    if !is_ranged(z) {
+        return false;
+    }
+    header_right(words, z) & fits(words, z)
+}

@@ -1,0 +1,67 @@
+// Whether a buffer of words is in form (document 01: "A desk is in form if ..").
+// Tests joined by `&` are all made: none of them asks for another.
+pub mod header;
+pub mod place;
+pub mod job;
+pub mod run;
+
+use header::counts;
+use header::shaped;
+use place::place_formed;
+use run::run_formed;
+use sizes::Counts;
+ghost use mathlib.Core.Path.{_≡_};
+ghost use lib.ListN.{length};
+ghost use Rattle.words.specs.Tests.{allBelow};
+ghost use Rattle.sizes.specs.Bounds.{siteAt, runAt};
+ghost use Rattle.model.specs.Form.{placeFormed, runFormed};
+ghost use Rattle.layout.specs.Reading.{readPlace, readRun};
+ghost use Rattle.layout.specs.Buffer.{inForm};
+ghost use Rattle.form.specs.Parts.{StoreArea};
+
+// Whether every cache is in form.
+pub fn sites_formed(words: &[u32], z: Counts) -> bool
+    requires { ⌜ StoreArea (length (now words)) z ⌝ }
+    ensures { λ r. ⌜ r ≡ allBelow (z .sites)
+        (λ o. placeFormed z (readPlace z (now (words .entry)) (siteAt z o))) ⌝ }
+{
+    let sites = z.sites;
+    let mut o = 0;
+    while o < sites {
+        let at = z.site_at(o);
+        if !place_formed(words, z, at) {
+            return false;
+        }
+        o += 1;
+    }
+    true
+}
+
+// Whether every run is in form.
+pub fn runs_formed(words: &[u32], z: Counts) -> bool
+    requires { ⌜ StoreArea (length (now words)) z ⌝ }
+    ensures { λ r. ⌜ r ≡ allBelow (z .runs)
+        (λ i. runFormed z (readRun z (now (words .entry)) (runAt z i))) ⌝ }
+{
+    let runs = z.runs;
+    let mut i = 0;
+    while i < runs {
+        let at = z.run_at(i);
+        if !run_formed(words, z, at) {
+            return false;
+        }
+        i += 1;
+    }
+    true
+}
+
+// Whether the buffer is in form. It may be any buffer.
+pub fn in_form(words: &[u32]) -> bool
+    ensures { λ r. ⌜ r ≡ inForm (now (words .entry)) ⌝ }
+{
+    if !shaped(words) {
+        return false;
+    }
+    let z = counts(words);
+    place_formed(words, z, 10) & (sites_formed(words, z) & runs_formed(words, z))
+}

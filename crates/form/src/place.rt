@@ -1,0 +1,97 @@
+// The versions of a place (master, cache or snapshot) that begins at an index.
+use clock::present;
+use masks::with_if;
+use sizes::Counts;
+ghost use mathlib.Core.Path.{_≡_};
+ghost use Prim.Native.Nat.{_<_};
+ghost use lib.ListN.{length};
+ghost use Rattle.clock.specs.Clock.{present};
+ghost use Rattle.masks.specs.Mask.{maskBelow};
+ghost use Rattle.model.specs.Version.{held};
+ghost use Rattle.model.specs.Form.{zeroRows, versionFormed, placeFormed};
+ghost use Rattle.layout.specs.Reading.{readPlace};
+ghost use Rattle.form.specs.Parts.{Area};
+
+// Whether key k is held.
+pub fn held(words: &[u32], z: Counts, at: usize, k: usize) -> bool
+    requires { ⌜ Area (length (now words)) z at ⌝ }
+    requires { ⌜ k < z .keys ⌝ }
+    ensures { λ r. ⌜ r ≡ held (readPlace z (now (words .entry)) at k) ⌝ }
+{
+    let v = z.key_at(at, k);
+    1 <= words[v]
+}
+
+// Whether row d of the version of key k isn't all zero.
+pub fn has_row(words: &[u32], z: Counts, at: usize, k: usize, d: usize) -> bool
+    requires { ⌜ Area (length (now words)) z at ⌝ }
+    requires { ⌜ (k < z .keys) × (d < z .keys) ⌝ }
+    ensures { λ r. ⌜ r
+        ≡ present (z .writers) (readPlace z (now (words .entry)) at k .past d) ⌝ }
+{
+    let v = z.key_at(at, k);
+    let row = z.row_at(v, d);
+    let w = z.writers;
+    present(words, row, w)
+}
+
+// Whether the version of key k has only zero rows.
+pub fn zero_rows(words: &[u32], z: Counts, at: usize, k: usize) -> bool
+    requires { ⌜ Area (length (now words)) z at ⌝ }
+    requires { ⌜ k < z .keys ⌝ }
+    ensures { λ r. ⌜ r ≡ zeroRows z (readPlace z (now (words .entry)) at k) ⌝ }
+{
+    let keys = z.keys;
+    let mut d = 0;
+    while d < keys {
+        if has_row(words, z, at, k, d) {
+            return false;
+        }
+        d += 1;
+    }
+    true
+}
+
+// Whether the version of key k is in form: held with an own row that isn't zero, or all zero.
+pub fn version_formed(words: &[u32], z: Counts, at: usize, k: usize) -> bool
+    requires { ⌜ Area (length (now words)) z at ⌝ }
+    requires { ⌜ k < z .keys ⌝ }
+    ensures { λ r. ⌜ r ≡ versionFormed z k (readPlace z (now (words .entry)) at k) ⌝ }
+{
+    if held(words, z, at, k) {
+        has_row(words, z, at, k, k)
+    } else {
+        zero_rows(words, z, at, k)
+    }
+}
+
+// Whether every version of the place is in form.
+pub fn place_formed(words: &[u32], z: Counts, at: usize) -> bool
+    requires { ⌜ Area (length (now words)) z at ⌝ }
+    ensures { λ r. ⌜ r ≡ placeFormed z (readPlace z (now (words .entry)) at) ⌝ }
+{
+    let keys = z.keys;
+    let mut k = 0;
+    while k < keys {
+        if !version_formed(words, z, at, k) {
+            return false;
+        }
+        k += 1;
+    }
+    true
+}
+
+// The mask of the keys that the place holds.
+pub fn held_mask(words: &[u32], z: Counts, at: usize) -> u32
+    requires { ⌜ Area (length (now words)) z at ⌝ }
+    ensures { λ r. ⌜ r ≡ maskBelow (z .keys) (λ k. held (readPlace z (now (words .entry)) at k)) ⌝ }
+{
+    let n = z.keys;
+    let mut mask: u32 = 0;
+    let mut k = 0;
+    while k < n {
+        mask = with_if(held(words, z, at, k), mask, k as u32);
+        k += 1;
+    }
+    mask
+}
