@@ -1,4 +1,5 @@
 -- Open keeps a store fine.
+-- Listed, list-out: a list of jobs that is accepted. job-in, job-out: its jobs.
 -- Assumes nothing.
 use mathlib.Core.Path.{_≡_, refl, sym}
 use mathlib.Core.Bool.{So, _&&_}
@@ -9,7 +10,7 @@ use lib.Dec.{eqb}
 use lib.ListN.{length}
 use lib.Pow.{pow-pos}
 use Rattle.words.specs.Tests.{allBelow}
-use Rattle.words.proofs.Bools.{clash, and-left, and-right, leb-gt}
+use Rattle.words.proofs.Bools.{clash, and-left, and-right, leb-gt, eqb-eq}
 use Rattle.words.proofs.Tests.{all-at}
 use Rattle.words.proofs.Lists.{upto-in, upto-out}
 use Rattle.masks.proofs.Bits.{test-none}
@@ -29,29 +30,32 @@ use Rattle.layout.proofs.Follow.{Fine}
 use Rattle.layout.proofs.Kept.{Kept, kept-done, kept-unless, no-cause, no-lack}
 
 -- A list of jobs that is accepted.
-record Listed (z : Counts) (l : List ℕ) : Type 0 where
-  low : 1 ≤ listedCount l
-  high : listedCount l ≤ maxJobs
-  valid : (i : ℕ) → i < listedCount l → So (validJob z i (listedJob l i))
+pub record Listed (z : Counts) (l : List ℕ) : Type 0 where
+  pub whole : length l ≡ listedCount l * 3
+  pub low : 1 ≤ listedCount l
+  pub high : listedCount l ≤ maxJobs
+  pub valid : (i : ℕ) → i < listedCount l → So (validJob z i (listedJob l i))
 
-list-out : (z : Counts) (l : List ℕ) → So (listValid z l) → Listed z l
+pub list-out : (z : Counts) (l : List ℕ) → So (listValid z l) → Listed z l
 unfolding listValid
 list-out z l p =
     let n = listedCount l in
     let valid = allBelow n (λ i. validJob z i (listedJob l i)) in
-    let q = and-right (eqb (length l) (n * 3)) (between maxJobs n && valid) p in
+    let whole = eqb (length l) (n * 3) in
+    let q = and-right whole (between maxJobs n && valid) p in
     let range = between-out maxJobs n (and-left (between maxJobs n) valid q) in
     record {
+      whole = eqb-eq _ _ (and-left whole (between maxJobs n && valid) p);
       low = range .0;
       high = range .1;
       valid = all-at n (λ i. validJob z i (listedJob l i)) (and-right (between maxJobs n) valid q);
     }
 
-job-in : (l : List ℕ) (i : ℕ) → i < listedCount l → listedJobs l i ≡ listedJob l i
+pub job-in : (l : List ℕ) (i : ℕ) → i < listedCount l → listedJobs l i ≡ listedJob l i
 unfolding listedJobs
 job-in l i h = upto-in (listedCount l) noJob (listedJob l) i h
 
-job-out : (l : List ℕ) (i : ℕ) → listedCount l ≤ i → listedJobs l i ≡ noJob
+pub job-out : (l : List ℕ) (i : ℕ) → listedCount l ≤ i → listedJobs l i ≡ noJob
 unfolding listedJobs
 job-out l i h = upto-out (listedCount l) noJob (listedJob l) i h
 

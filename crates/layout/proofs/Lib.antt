@@ -21,4 +21,5 @@ pub mod KeptStep
 pub mod KeptIssue
 pub mod Rules
 pub mod Calls
+pub mod Forms
 pub mod Scripted

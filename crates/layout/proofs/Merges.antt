@@ -84,7 +84,7 @@ larger-blocks (suc n) v f g hf hg =
     ∙ ap (λ (t : List ℕ). largerWords (f 0) (g 0) ++ t)
     (larger-blocks n v (λ i. f (suc i)) (λ i. g (suc i)) (λ i. hf (suc i)) (λ i. hg (suc i)))
 
-window-more : (l : List ℕ) (at n : ℕ)
+pub window-more : (l : List ℕ) (at n : ℕ)
     → window l at (suc n) ≡ window l at n ++ (getD l (at + n) 0 ∷ [])
 unfolding window
 window-more l at n = ap (window l at) (sym (add-one n)) ∙ window-add l at n 1
