@@ -1,5 +1,6 @@
 -- Laws of views, and of the least set that grows over a table of rows.
 -- view-..: a view. table-..: the table of a relation. every-..: the scope of every key.
+-- chosen: what a mask of keys stores.
 -- Assumes nothing.
 use mathlib.Core.Path.{_≡_, refl, sym, ap, _∙_, fun-ext}
 use mathlib.Core.Bool.{Bool, true, false, cond, So}
@@ -20,7 +21,8 @@ use Rattle.model.specs.Algebra.{Algebra, Place, everything}
 use Rattle.model.specs.Version.{Version}
 use Rattle.model.specs.Sets.{draws, drawSet}
 use Rattle.layout.specs.Reading.{readPlace}
-use Rattle.version.specs.Places.{Area}
+use Rattle.layout.proofs.Places.{place-ext}
+use Rattle.version.specs.Places.{putPlace, choice, Area}
 use Rattle.sets.specs.declared.View.{View}
 use Rattle.sets.specs.Draws.{viewAt, viewed, DrawArea, noRows, rowsOf}
 
@@ -100,3 +102,14 @@ every-drawn alg K target source start h =
     (closure-same K (draws alg K (testBit 4294967295) target source)
     (draws alg K everything target source) start start
     (λ t d i j. rw (every-key d (omega arith))) (λ d i. refl))
+
+-- ---- what a set of keys leaves
+
+-- By the set's mask, or by the set.
+pub chosen : (z : Counts) (l : List ℕ) (at m : ℕ) (S : Items) (p q : Place Version)
+    → m ≡ maskBelow (z .keys) S
+    → putPlace z l at (choice (testBit m) p q) ≡ putPlace z l at (choice S p q)
+chosen z l at m S p q e =
+    place-ext z l at (choice (testBit m) p q) (choice S p q) (λ k i.
+    let same : testBit m k ≡ S k = rw e (test-mask (z .keys) S k i) in
+    ap (λ (b : Bool). cond b (p k) (q k)) same)

@@ -1,8 +1,11 @@
-// The least sets T, E and C as masks of keys, from the places of a buffer.
+// The least sets T, E and C as masks of keys, from the places of a buffer, and the caches that T
+// and E leave.
 use masks::has;
 use masks::with_if;
 use reach::grow;
 use sizes::Counts;
+use version::clear_keys;
+use version::copy_keys;
 use version::held;
 use version::meets;
 use version::needs;
@@ -11,9 +14,9 @@ ghost use Prim.Native.Nat.{_<_, _^_};
 ghost use lib.ListN.{length};
 ghost use Rattle.masks.specs.Mask.{testBit, maskBelow};
 ghost use Rattle.model.specs.Version.{versions};
-ghost use Rattle.model.specs.Sets.{drawSet, fetchSet, evictSet};
+ghost use Rattle.model.specs.Sets.{drawSet, fetchSet, fetched, evictSet, evicted};
 ghost use Rattle.layout.specs.Reading.{readPlace};
-ghost use Rattle.version.specs.Places.{Area};
+ghost use Rattle.version.specs.Places.{putPlace, Area, Areas};
 ghost use Rattle.sets.specs.Draws.{viewAt, viewed, DrawArea, drawsIn, evictsIn, rowsOf};
 
 // The mask of every key.
@@ -139,6 +142,22 @@ pub fn fetch_set(words: &[u32], z: Counts, master: usize, cache: usize, start: u
     draw_set(words, z, EVERY_KEY, cache, source, start)
 }
 
+// The cache takes the master's version of each key in T. Answers T.
+pub fn fetch_keys(words: &mut [u32], z: Counts, master: usize, cache: usize, start: u32) -> u32
+    requires { ⌜ Areas (length (now words)) z cache master ⌝ }
+    requires { ⌜ start < 2 ^ z .keys ⌝ }
+    ensures answers { λ r. ⌜ r ≡ maskBelow (z .keys)
+        (fetchSet (versions (z .writers)) (z .keys) (readPlace z (now (words .entry)) master)
+        (readPlace z (now (words .entry)) cache) (testBit start)) ⌝ }
+    ensures leaves { λ _. ⌜ now (words .exit) ≡ putPlace z (now (words .entry)) cache
+        (fetched (versions (z .writers)) (z .keys) (readPlace z (now (words .entry)) master)
+        (readPlace z (now (words .entry)) cache) (testBit start)) ⌝ }
+{
+    let taken = fetch_set(words, z, master, cache, start);
+    copy_keys(words, z, cache, master, taken);
+    taken
+}
+
 // Whether d leaves with t: d is held and needs t.
 pub fn evicts(words: &[u32], z: Counts, at: usize, t: usize, d: usize) -> bool
     requires { ⌜ Area (length (now words)) z at ⌝ }
@@ -190,4 +209,20 @@ pub fn evict_set(words: &[u32], z: Counts, at: usize, start: u32) -> u32
     let n = z.keys;
     let leaving = evict_table(words, z, at);
     grow(&leaving, n as u32, start)
+}
+
+// E leaves the cache. Answers E.
+pub fn evict_keys(words: &mut [u32], z: Counts, at: usize, start: u32) -> u32
+    requires { ⌜ Area (length (now words)) z at ⌝ }
+    requires { ⌜ start < 2 ^ z .keys ⌝ }
+    ensures answers { λ r. ⌜ r ≡ maskBelow (z .keys)
+        (evictSet (versions (z .writers)) (z .keys) (readPlace z (now (words .entry)) at)
+        (testBit start)) ⌝ }
+    ensures leaves { λ _. ⌜ now (words .exit) ≡ putPlace z (now (words .entry)) at
+        (evicted (versions (z .writers)) (z .keys) (readPlace z (now (words .entry)) at)
+        (testBit start)) ⌝ }
+{
+    let gone = evict_set(words, z, at, start);
+    clear_keys(words, z, at, gone);
+    gone
 }

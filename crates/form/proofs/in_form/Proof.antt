@@ -58,8 +58,13 @@ returns-2 c =
     let p = s .before in
     let n = p .before in
     let l = n .before .before .before .before .args .words .now in
-    rw (yes (n .before), p .place-formed .ensures, s .sites-formed .ensures, c .runs-formed .ensures,
-    n .counts .ensures) (store-test l)
+    rw (
+      yes (n .before),
+      p .place-formed .ensures,
+      s .sites-formed .ensures,
+      c .runs-formed .ensures,
+      n .counts .ensures,
+    ) (store-test l)
 
 pub in-form-spec : {M : Type 1} → statement M
 in-form-spec =

@@ -61,9 +61,9 @@ loop-less c = omega arith
 loop-again : tie.Need-loop-again Inv-loop μ-loop
 loop-again c =
     let l = c .before .before .before in (
-    omega arith,
-    all-yes (tests l) (l .loop .d) (l .loop .inv .1)
-    (ap not (sym (c .before .has-row .ensures) ∙ c .if1 .left)),
+      omega arith,
+      all-yes (tests l) (l .loop .d) (l .loop .inv .1)
+          (ap not (sym (c .before .has-row .ensures) ∙ c .if1 .left)),
     )
 
 -- src/place.rt:37:1

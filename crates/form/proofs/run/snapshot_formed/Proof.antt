@@ -81,8 +81,13 @@ returns c =
     let r = h .before in
     let s = r .before .before .before .before in
     let a = s .args in
-    rw (p .place-formed .ensures, w .without .ensures, c .without2 .ensures, r .reads-of .ensures,
-    h .held-mask .ensures)
+    rw (
+      p .place-formed .ensures,
+      w .without .ensures,
+      c .without2 .ensures,
+      r .reads-of .ensures,
+      h .held-mask .ensures,
+    )
     (snapshot-test (a .z) (a .words .now) (a .at) (s .pre .1 .0) (s .pre .1 .1))
 
 pub snapshot-formed-spec : {M : Type 1} → statement M
