@@ -1,16 +1,17 @@
 -- What fetch comes to on a buffer in form: refused by its cause, or done.
 -- fetch-cause, unfetchable-one: the cause as the code tests it. fetch-ready: what holds if there
--- is none. fetch-refused, fetch-done: answer and buffer.
+-- is none. fetch-refused, fetch-done: answer and buffer. fetch-told: the enum tells the whole
+-- answer.
 -- Assumes nothing.
 use mathlib.Core.Path.{_≡_, refl, sym, ap, _∙_}
-use mathlib.Core.Bool.{not, So, _&&_}
+use mathlib.Core.Bool.{Bool, true, false, cond, not, So, _&&_, _||_}
 use mathlib.Core.Logic.{_≢_}
 use mathlib.Core.List.{List, [], _∷_}
 use Prim.Native.Nat.{ℕ, _<_}
 use native.Mathlib.Omega.{arith}
 use lib.Dec.{leb, eqb}
 use Rattle.words.specs.Tests.{Items, only, anyBelow}
-use Rattle.words.proofs.Bools.{same-test, and-intro, and-left, and-right, leb-gt, eqb-eq, eq-eqb}
+use Rattle.words.proofs.Bools.{same-test, and-intro, and-left, and-right, eqb-eq, eq-eqb}
 use Rattle.words.proofs.Tests.{any-intro, any-some}
 use Rattle.masks.specs.Mask.{testBit, withBit, maskBelow}
 use Rattle.sizes.specs.declared.Counts.{Counts}
@@ -19,19 +20,19 @@ use Rattle.model.specs.Algebra.{Algebra, Place, lacking}
 use Rattle.model.specs.Version.{Version, versions}
 use Rattle.model.specs.Sets.{fetchSet, fetched, unfetchable}
 use Rattle.model.specs.Store.{Store, withCache}
-use Rattle.model.specs.Outcome.{refused, done, refuse, unless}
+use Rattle.model.specs.Outcome.{refused, done, answer, refuse, unless}
 use Rattle.model.specs.Caches.{fetchCause, fetchDone, fetchRule}
 use Rattle.model.specs.Calls.{fetch, ruleOf}
 use Rattle.layout.specs.Reading.{readPlace, countsIn, storeOf}
 use Rattle.layout.specs.Buffer.{inForm}
-use Rattle.layout.specs.Calls.{on, callOn, leaves}
+use Rattle.layout.specs.Calls.{on, onStore, callOn, leaves}
 use Rattle.layout.proofs.Readings.{counts-in, master-in, cache-in}
 use Rattle.layout.proofs.Kept.{no-cause}
 use Rattle.layout.proofs.Forms.{form-refused, form-done}
 use Rattle.version.specs.Places.{putPlace}
 use Rattle.caches.specs.declared.Fetched.{Fetched}
-use Rattle.caches.specs.Answers.{fetchedAs}
-use Rattle.caches.proofs.Known.{cache-stored, one-key, Ends, ends}
+use Rattle.caches.specs.Answers.{fetchedAs, fetchedWords}
+use Rattle.caches.proofs.Known.{cache-stored, range-cause, range-in, one-key, Ends, ends}
 
 -- ---- the cause
 
@@ -55,18 +56,17 @@ unfetchable-one alg K p k h = same-test there back
 
 module _ (l : List ℕ) (z : Counts) (e : z ≡ countsIn l) (o k : ℕ) where
   pub fetch-cause : fetchCause (storeOf l) o k
-      ≡ refuse (leb (z .sites) o) 3
-      (refuse (leb (z .keys) k) 3
+      ≡ refuse (leb (z .sites) o || leb (z .keys) k) 3
       (refuse (unfetchable (versions (z .writers)) (z .keys) (readPlace z l (masterAt z)) (only k))
-      7 0))
-  unfolding fetchCause storeOf
-  fetch-cause = rw e
+      7 0)
+  unfolding fetchCause
+  fetch-cause =
+      rw (counts-in l ∙ sym e, master-in l z e)
+      (range-cause (leb (z .sites) o) (leb (z .keys) k) 3 _)
 
   pub fetch-ready : fetchCause (storeOf l) o k ≡ 0 → (o < z .sites) × (k < z .keys)
   fetch-ready h =
-      let a = no-cause _ 3 _ (omega arith) (sym fetch-cause ∙ h) in
-      let b = no-cause _ 3 _ (omega arith) (a .1) in
-      (leb-gt _ _ (a .0), leb-gt _ _ (b .0))
+      range-in z o k (no-cause _ 3 _ (omega arith) (sym fetch-cause ∙ h) .0)
 
 -- ---- the outcome
 
@@ -120,3 +120,17 @@ module _ (l : List ℕ) (z : Counts) (F : So (inForm l)) (e : z ≡ countsIn l) 
       ends fetchedAs (fetch o k) l _ (Fetched.Done T) m F taken-as (ap Fetched.Done t)
       (n ∙ cache-stored l z F e o (cacheOf z l (masterAt z) (siteAt z o) (only k))
       (fetch-ready l z e o k free .0))
+
+-- ---- the answer
+
+pub fetch-told : (o k : ℕ) (l : List ℕ)
+    → fetchedWords (fetchedAs (callOn (on (fetch o k)) l)) ≡ answer (callOn (on (fetch o k)) l)
+unfolding callOn onStore ruleOf fetchRule unless fetchDone answer fetchedAs fetchedWords
+fetch-told o k l = go (inForm l) (eqb (fetchCause (storeOf l) o k) 0) _ _ _
+  where
+    go : (b c : Bool) (n T : ℕ) (s : Store) →
+        let x = cond b (cond c (done (T ∷ []) s) (refused n)) (refused 1) in
+        fetchedWords (fetchedAs x) ≡ answer x
+    go true true n T s = refl
+    go true false n T s = refl
+    go false c n T s = refl

@@ -1,18 +1,19 @@
 -- What is known of a buffer in form, and of a call on it.
 -- Known, known: its counts. form-long: its header. cache-stored: another cache stored.
--- master-found: where the master is. one-key: the set of one key, which is a mask of K keys.
+-- master-found: where the master is. range-..: site and key in range. one-..: the set of one key.
 -- Ends, ends: what a call answers and leaves.
 -- Assumes nothing.
-use mathlib.Core.Path.{_≡_, sym, ap, _∙_, fun-ext}
-use mathlib.Core.Bool.{So}
+use mathlib.Core.Path.{_≡_, refl, sym, ap, _∙_, fun-ext}
+use mathlib.Core.Bool.{Bool, true, false, So, _||_}
 use mathlib.Core.List.{List}
 use Prim.Native.Nat.{ℕ, _^_, _≤_, _<_}
 use native.Mathlib.Omega.{arith}
+use lib.Dec.{leb}
 use lib.ListN.{length}
 use lib.Pow.{pow-pos}
 use lib.Seq.{sets}
 use Rattle.words.specs.Tests.{only}
-use Rattle.words.proofs.Bools.{and-left}
+use Rattle.words.proofs.Bools.{and-left, or-none, leb-gt}
 use Rattle.masks.specs.Mask.{testBit, withBit}
 use Rattle.masks.proofs.Bits.{test-with, test-none, with-lt}
 use Rattle.sizes.specs.declared.Counts.{Counts}
@@ -23,7 +24,7 @@ use Rattle.model.specs.Algebra.{Place}
 use Rattle.model.specs.Version.{Version}
 use Rattle.model.specs.Store.{withCache}
 use Rattle.model.specs.Form.{wellFormed}
-use Rattle.model.specs.Outcome.{Outcome}
+use Rattle.model.specs.Outcome.{Outcome, refuse}
 use Rattle.model.specs.Calls.{StoreCall}
 use Rattle.layout.specs.Words.{placeWords}
 use Rattle.layout.specs.Reading.{countsIn, storeOf}
@@ -70,7 +71,18 @@ pub master-found : (z : Counts) (s : Sizes) → s ≡ sizesOf z → s .master �
 unfolding sizesOf
 master-found z s e = ap (λ (s : Sizes). s .master) e
 
--- ---- a call
+-- ---- a site and a key
+
+pub range-cause : (a b : Bool) (n rest : ℕ) → refuse a n (refuse b n rest) ≡ refuse (a || b) n rest
+unfolding refuse
+range-cause true b n rest = refl
+range-cause false b n rest = refl
+
+pub range-in : (z : Counts) (o k : ℕ) → leb (z .sites) o || leb (z .keys) k ≡ false
+    → (o < z .sites) × (k < z .keys)
+range-in z o k e =
+    let r = or-none (leb (z .sites) o) (leb (z .keys) k) e in
+    (leb-gt (z .sites) o (r .0), leb-gt (z .keys) k (r .1))
 
 pub one-key : (k : ℕ) → testBit (withBit 0 k) ≡ only k
 unfolding only
@@ -78,6 +90,8 @@ one-key k = fun-ext (λ j. test-with 0 k j ∙ rw (test-none j))
 
 pub one-low : (K k m : ℕ) → k < K → m ≡ withBit 0 k → m < 2 ^ K
 one-low K k m h e = rw e (with-lt 0 k K (pow-pos K) h)
+
+-- ---- a call
 
 -- The answer x of the call, told of its outcome, and the buffer m after it, which is in form.
 module _ {A : Type 0} (told : Outcome → A) (c : StoreCall) (l : List ℕ) where

@@ -7,7 +7,8 @@ use sets::fetch_keys;
 use sizes::Counts;
 use version::held;
 ghost use mathlib.Core.Path.{_≡_};
-ghost use mathlib.Core.Bool.{So};
+ghost use mathlib.Core.Bool.{So, _||_};
+ghost use lib.Dec.{leb};
 ghost use Rattle.model.specs.Caches.{fetchCause, evictCause};
 ghost use Rattle.model.specs.Calls.{fetch, evict};
 ghost use Rattle.layout.specs.Reading.{countsIn, storeOf};
@@ -25,6 +26,13 @@ pub enum Fetched {
 pub enum Evicted {
     Done(u32),
     Refused(u32),
+}
+
+// Whether there is no such site or no such key.
+fn out_of_range(z: Counts, site: usize, key: usize) -> bool
+    ensures { λ r. ⌜ r ≡ leb (z .sites) site || leb (z .keys) key ⌝ }
+{
+    (z.sites <= site) | (z.keys <= key)
 }
 
 // A site's cache takes a key from the master, and with it what its version needs.
@@ -57,8 +65,8 @@ pub fn fetch_in(words: &mut [u32], site: u32, key: u32) -> Fetched
     }
     let areas = z.areas();
     let at = z.site_at(o);
-    let start = with_item(0, key);
-    let taken = fetch_keys(words, z, areas.master, at, start);
+    let wanted = with_item(0, key);
+    let taken = fetch_keys(words, z, areas.master, at, wanted);
     Fetched::Done(taken)
 }
 
@@ -68,12 +76,7 @@ fn fetch_cause(words: &[u32], z: Counts, site: usize, key: usize) -> u32
     requires { ⌜ z ≡ countsIn (now words) ⌝ }
     ensures { λ r. ⌜ r ≡ fetchCause (storeOf (now (words .entry))) site key ⌝ }
 {
-    let sites = z.sites;
-    if sites <= site {
-        return 3;
-    }
-    let keys = z.keys;
-    if keys <= key {
+    if out_of_range(z, site, key) {
         return 3;
     }
     let areas = z.areas();
@@ -112,8 +115,8 @@ pub fn evict_in(words: &mut [u32], site: u32, key: u32) -> Evicted
         return Evicted::Refused(cause);
     }
     let at = z.site_at(o);
-    let start = with_item(0, key);
-    let gone = evict_keys(words, z, at, start);
+    let unwanted = with_item(0, key);
+    let gone = evict_keys(words, z, at, unwanted);
     Evicted::Done(gone)
 }
 
@@ -123,12 +126,7 @@ fn evict_cause(words: &[u32], z: Counts, site: usize, key: usize) -> u32
     requires { ⌜ z ≡ countsIn (now words) ⌝ }
     ensures { λ r. ⌜ r ≡ evictCause (storeOf (now (words .entry))) site key ⌝ }
 {
-    let sites = z.sites;
-    if sites <= site {
-        return 3;
-    }
-    let keys = z.keys;
-    if keys <= key {
+    if out_of_range(z, site, key) {
         return 3;
     }
     let at = z.site_at(site);
