@@ -1,7 +1,7 @@
 // The counts of a store, their limits, and the offsets and total that follow from them.
 ghost use mathlib.Core.Path.{_≡_};
 ghost use Prim.Native.Nat.{_<_};
-ghost use Rattle.sizes.specs.Bounds.{Ranged, countsOf, sizesOf, maxKeys, maxWriters, maxSites, maxRuns, maxJobs, pastSize, versionSize, placeSize, siteSize, writerSize, runSize, masterAt, siteAt, writerAt, runAt, snapshotAt, keyAt, rowAt};
+ghost use Rattle.sizes.specs.Bounds.{Ranged, countsOf, sizesOf, maxKeys, maxWriters, maxSites, maxRuns, maxJobs, pastSize, versionSize, placeSize, siteSize, writerSize, runSize, siteAt, writerAt, runAt, snapshotAt, keyAt, rowAt};
 
 // Sheets, writers, offices and runs (document 01: K, W, N, P).
 pub struct Counts {

@@ -1,5 +1,5 @@
 -- Where the versions and rows of a place lie, and what is read there.
--- key-..: the version of a key. row-in: a row. meets-word: a need and the row that meets it.
+-- key-..: the version of a key. row-in: a row. dominates-word: two rows compared.
 -- Assumes nothing.
 use mathlib.Core.Path.{_≡_, ap}
 use mathlib.Core.List.{List}

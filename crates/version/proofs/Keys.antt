@@ -2,7 +2,7 @@
 -- copyStep, clearStep, mergeStep: the step for one key. ..-keys: all of them.
 -- Assumes nothing.
 use mathlib.Core.Path.{_≡_, refl, sym, ap, ap₂, _∙_}
-use mathlib.Core.Bool.{Bool, cond, So}
+use mathlib.Core.Bool.{cond, So}
 use mathlib.Core.List.{List}
 use mathlib.Core.Logic.{inl, inr, ⊎-elim}
 use Prim.Native.Nat.{ℕ, _<_}
@@ -10,7 +10,6 @@ use lib.ListN.{length}
 use Rattle.words.specs.Tests.{Items}
 use Rattle.words.specs.Numbers.{foldBelow}
 use Rattle.sizes.specs.declared.Counts.{Counts}
-use Rattle.sizes.specs.Bounds.{keyAt}
 use Rattle.model.specs.Algebra.{Place}
 use Rattle.model.specs.Version.{Version, unheld, larger, merge}
 use Rattle.model.specs.Form.{placeFormed}
@@ -51,6 +50,7 @@ clear-keys z l at S A =
     place-run z l at S (λ k m. unheld) (λ k. unheld) (A .fits) (λ k q h F e. refl)
 
 module _ (z : Counts) (l : List ℕ) (dst src : ℕ) (S : Items) (A : Areas (length l) z dst src) where
+  -- The two places.
   abbrev p : Place Version
   p = readPlace z l dst
 

@@ -1,13 +1,12 @@
--- Where the places of a store lie: the master, the caches and the snapshots, and one beside another.
+-- Where the places of a store lie: the master, the caches and the snapshots.
 -- ..-area: one of them. site-master, snapshot-site: target and source.
--- place-back, place-beside: a place that was stored is read, or another one.
+-- place-beside: a place is read beside one that was stored.
 -- Assumes nothing.
 use mathlib.Core.Path.{_≡_}
 use mathlib.Core.List.{List}
 use mathlib.Core.Logic.{_⊎_, inl, inr, ⊎-elim}
 use Prim.Native.Nat.{ℕ, _+_, _≤_, _<_}
 use native.Mathlib.Omega.{arith}
-use lib.ListN.{length}
 use Rattle.sizes.specs.declared.Counts.{Counts}
 use Rattle.sizes.specs.Bounds.{Ranged, placeSize, siteSize, masterAt, siteAt, snapshotAt, totalOf}
 use Rattle.sizes.proofs.Offsets.{ordered, site-lies, run-lies, snapshot-lies}
@@ -15,15 +14,9 @@ use Rattle.model.specs.Algebra.{Place}
 use Rattle.model.specs.Version.{Version}
 use Rattle.layout.specs.Words.{placeWords}
 use Rattle.layout.specs.Reading.{readPlace}
-use Rattle.layout.proofs.Parts.{FitPlace, place-laws}
-use Rattle.layout.proofs.Windows.{part-back, part-beside}
+use Rattle.layout.proofs.Parts.{place-laws}
+use Rattle.layout.proofs.Windows.{part-beside}
 use Rattle.version.specs.Places.{putPlace, Area, Areas}
-
--- ---- a place that was stored
-
-pub place-back : (z : Counts) (l : List ℕ) (at : ℕ) (p : Place Version) → FitPlace z p
-    → at + placeSize z ≤ length l → readPlace z (putPlace z l at p) at ≡ p
-place-back z l at p F h = part-back (place-laws z) l at p F h
 
 pub place-beside : (z : Counts) (l : List ℕ) (at from : ℕ) (p : Place Version)
     → (at + placeSize z ≤ from) ⊎ (from + placeSize z ≤ at)

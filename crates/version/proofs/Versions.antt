@@ -29,17 +29,13 @@ table-window l at (suc n) =
     ∙ sym (window-add l at n 1) ∙ ap (window l at) (add-one n)
 
 -- The words of a version of any buffer m, stored at an index of l.
-stored-version : (z : Counts) (l m : List ℕ) (at src : ℕ)
-    → put l at (versionSize z) (λ i. getD m (src + i) 0) ≡ putVersion z l at (readVersion z m src)
-stored-version z l m at src =
+pub copy-version : (z : Counts) (l m : List ℕ) (dst src : ℕ)
+    → put l dst (versionSize z) (λ i. getD m (src + i) 0)
+    ≡ putVersion z l dst (readVersion z m src)
+copy-version z l m dst src =
     let n = versionSize z in
-    put-table l at n (λ i. getD m (src + i) 0)
-    ∙ ap (sets l at) (table-window m src n ∙ sym (version-laws z .round m src))
-
-pub copy-version : (z : Counts) (l : List ℕ) (dst src : ℕ)
-    → put l dst (versionSize z) (λ i. getD l (src + i) 0)
-    ≡ putVersion z l dst (readVersion z l src)
-copy-version z l dst src = stored-version z l l dst src
+    put-table l dst n (λ i. getD m (src + i) 0)
+    ∙ ap (sets l dst) (table-window m src n ∙ sym (version-laws z .round m src))
 
 -- A limit to what stands everywhere is none.
 upto-all : {A : Type 0} (n : ℕ) (x : A) (i : ℕ) → upto n x (λ j. x) i ≡ x
@@ -63,7 +59,7 @@ nothing-read z =
 pub clear-version : (z : Counts) (l : List ℕ) (at : ℕ)
     → put l at (versionSize z) (λ i. 0) ≡ putVersion z l at unheld
 clear-version z l at =
-    stored-version z l [] at 0 ∙ ap (putVersion z l at) (nothing-read z)
+    copy-version z l [] at 0 ∙ ap (putVersion z l at) (nothing-read z)
 
 pub merge-version : (z : Counts) (l : List ℕ) (dst src : ℕ)
     → put l dst (versionSize z) (join (clockAt l dst) (clockAt l src))

@@ -70,7 +70,8 @@ pub fn meets(words: &[u32], z: Counts, target: usize, d: usize, source: usize, t
 // The mask of the keys that the place holds.
 pub fn held_mask(words: &[u32], z: Counts, at: usize) -> u32
     requires { ⌜ Area (length (now words)) z at ⌝ }
-    ensures { λ r. ⌜ r ≡ maskBelow (z .keys) (λ k. held (readPlace z (now (words .entry)) at k)) ⌝ }
+    ensures { λ r. ⌜ r
+        ≡ maskBelow (z .keys) (λ k. held (readPlace z (now (words .entry)) at k)) ⌝ }
 {
     let n = z.keys;
     let mut mask: u32 = 0;
@@ -186,7 +187,8 @@ fn merge_if(words: &mut [u32], z: Counts, dst: usize, src: usize, mask: u32, k: 
     }
 }
 
-// Merges the keys of the mask from the place at src into the place at dst.
+// Merges the keys of the mask from the place at src into the place at dst. In a place that is
+// well formed an unheld version has only zero words: the larger words are the merge.
 pub fn merge_keys(words: &mut [u32], z: Counts, dst: usize, src: usize, mask: u32)
     requires { ⌜ Areas (length (now words)) z dst src ⌝ }
     requires { ⌜ So (placeFormed z (readPlace z (now words) dst))

@@ -9,7 +9,7 @@ version-size-requires : tie.Need-version-size-requires
 version-size-requires c κs = search needs
 
 zero-requires : tie.Need-zero-requires
-zero-requires c κs = let b = c .before in rw (b .version-size .ensures) (b .before .before .pre .1)
+zero-requires c κs = search needs
 
 same-length : tie.Need-same-length
 same-length c = search needs

@@ -18,7 +18,8 @@ returns : tie.Need-returns
 returns c =
     let b = c .before .before .before .before in
     let a = b .before .before .args in
-    rw (← copy-version (a .z) (a .words .now) (a .dst) (a .src), ← b .version-size .ensures)
+    let l = a .words .now in
+    rw (← copy-version (a .z) l l (a .dst) (a .src), ← b .version-size .ensures)
     (c .before .before .copy .ensures)
 
 pub copy-version-spec : {M : Type 1} → statement M

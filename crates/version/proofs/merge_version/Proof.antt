@@ -9,7 +9,9 @@ version-size-requires : tie.Need-version-size-requires
 version-size-requires c κs = search needs
 
 merge-into-requires : tie.Need-merge-into-requires
-merge-into-requires c κs = let b = c .before in rw (b .version-size .ensures) (b .before .before .pre .1)
+merge-into-requires c κs =
+    let b = c .before in
+    rw (b .version-size .ensures) (b .before .before .pre .1)
 
 same-length : tie.Need-same-length
 same-length c = search needs

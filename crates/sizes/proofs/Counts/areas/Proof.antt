@@ -1,6 +1,5 @@
 -- `areas` is `Sizes::of` the four counts.
 -- Assumes nothing.
-use borrow.Author.Needs.{needs}
 use Rattle.sizes.proofs.Counts.areas.Statement.{statement}
 use Rattle.sizes.proofs.Counts.areas.Tie as tie
 

@@ -13,7 +13,8 @@ place-size-requires c κs = search needs
 add-result : tie.Need-add-result
 unfolding runSize
 add-result c =
-    rw (c .place-size .ensures) (omega (arith, largest (c .before .args .self) (c .before .pre) .run))
+    let s = c .before in
+    rw (c .place-size .ensures) (omega (arith, largest (s .args .self) (s .pre) .run))
 
 returns : tie.Need-returns
 unfolding runSize

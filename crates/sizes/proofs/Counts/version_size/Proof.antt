@@ -13,7 +13,8 @@ past-size-requires c κs = search needs
 add-result : tie.Need-add-result
 unfolding versionSize
 add-result c =
-    rw (c .past-size .ensures) (omega (arith, largest (c .before .args .self) (c .before .pre) .version))
+    let s = c .before in
+    rw (c .past-size .ensures) (omega (arith, largest (s .args .self) (s .pre) .version))
 
 returns : tie.Need-returns
 unfolding versionSize
