@@ -1,5 +1,4 @@
 pub mod Loops
-pub mod Places
 pub mod Runs
 pub mod Masks
 pub mod Snapshots

@@ -4,9 +4,9 @@
 use mathlib.Core.Path.{_≡_, sym, ap, _∙_}
 use mathlib.Core.Bool.{Bool, true, false, not, So}
 use Prim.Native.Nat.{ℕ, _+_, _<_}
+use borrow.Author.Tests.{not-true, not-false}
 use Rattle.words.specs.Tests.{Items, allBelow}
 use Rattle.words.proofs.Tests.{all-yes, all-no}
-use borrow.Author.Tests.{not-true, not-false}
 
 pub loop-fails : (n : ℕ) (p : Items) (i : ℕ) (r : Bool) → i < n → r ≡ p i → not r ≡ true
     → false ≡ allBelow n p

@@ -1,28 +1,39 @@
 -- What the jobs of a run read, as masks.
--- reads-done: the reads of the done jobs. jobs-test, masks-test: the tests of the code.
+-- reads-..: the union that the code computes. jobs-test, masks-test: what the code tests.
 -- Assumes nothing.
-use mathlib.Core.Path.{_≡_, refl, sym, ap, _∙_}
+use mathlib.Core.Path.{_≡_, sym, ap, _∙_}
 use mathlib.Core.Bool.{So, _&&_}
 use mathlib.Core.List.{List}
-use Prim.Native.Nat.{ℕ, _+_, _≤_, _<_, _^_}
+use Prim.Native.Nat.{ℕ, _+_, _*_, _≤_, _<_, _^_}
 use native.Mathlib.Omega.{arith}
+use lib.Bits.{bitOr}
 use lib.Dec.{eqb, ltb}
 use lib.ListN.{getD}
-use Rattle.words.specs.Tests.{allBelow}
 use Rattle.words.specs.Numbers.{when}
-use Rattle.words.proofs.Tests.{any-same}
+use Rattle.words.specs.Tests.{allBelow}
 use Rattle.words.proofs.Numbers.{when-le}
+use Rattle.words.proofs.Tests.{any-same}
 use Rattle.masks.specs.Mask.{testBit, maskBelow, unionBelow}
-use Rattle.masks.proofs.Sets.{mask-lt, test-mask, mask-ext-below, union-lt, test-union}
-use Rattle.reach.proofs.Masked.{test-when}
-use Rattle.sizes.specs.declared.Counts.{Counts}
+use Rattle.masks.proofs.Sets.{union-more, mask-lt, test-mask, mask-ext-below, union-lt, test-union}
 use Rattle.sizes.specs.Bounds.{maxJobs, between}
-use Rattle.model.specs.Store.{Job, Run, doneReads}
+use Rattle.sizes.specs.declared.Counts.{Counts}
 use Rattle.model.specs.Form.{jobsFormed, masksFormed}
+use Rattle.model.specs.Store.{Job, Run, doneReads}
 use Rattle.layout.specs.Reading.{readJobs, readRun}
 use Rattle.layout.proofs.Plans.{jobs-out, valid-out}
 use Rattle.form.specs.Parts.{jobFormed, readsOf}
-use Rattle.form.proofs.Runs.{run-done, run-read, run-jobs}
+use Rattle.form.proofs.Runs.{job-words, wordsRun, run-words}
+use Rattle.reach.proofs.Masked.{test-when}
+
+-- One job more.
+pub reads-step : (l : List ℕ) (at mask j : ℕ) → j < maxJobs
+    → readsOf (j + 1) (readJobs l at) mask
+    ≡ bitOr (readsOf j (readJobs l at) mask) (when (testBit mask j) (getD l (at + j * 3 + 1) 0))
+unfolding readsOf
+reads-step l at mask j h =
+    let f : ℕ → ℕ = λ j. when (testBit mask j) (readJobs l at j .reads) in
+    union-more f j ∙ ap (λ (a : Job). bitOr (unionBelow j f) (when (testBit mask j) (a .reads)))
+    (job-words l at j h)
 
 -- The key k is read by a job of the mask.
 pub test-reads : (n : ℕ) (job : ℕ → Job) (mask k : ℕ)
@@ -51,14 +62,14 @@ reads-done z a p mask =
     (mask-lt (z .keys) all (z .keys) (omega arith))
     (λ k h. test-reads (a .jobs) (a .job) mask k ∙ sym (test-mask (z .keys) all k h))
 
--- ---- the tests of the code
+-- ---- what the code tests is what is asked
 
 module _ (z : Counts) (l : List ℕ) (at : ℕ) where
   pub jobs-test : let n = getD l (at + 1) 0 in
       between maxJobs n && allBelow maxJobs (λ i. jobFormed z n i (readJobs l (at + 4) i))
       ≡ jobsFormed z (readRun z l at)
-  unfolding jobsFormed jobFormed readRun
-  jobs-test = let e : at + 4 ≡ at + 1 + 1 + 1 + 1 = omega arith in rw e
+  unfolding jobsFormed jobFormed
+  jobs-test = rw (run-words z l at)
 
   -- There are 8 jobs at most.
   pub jobs-most : So (jobsFormed z (readRun z l at)) → getD l (at + 1) 0 ≤ maxJobs
@@ -69,9 +80,7 @@ module _ (z : Counts) (l : List ℕ) (at : ℕ) where
       let done = getD l (at + 2) 0 in
       ltb done (2 ^ n) && eqb (getD l (at + 3) 0) (readsOf n (readJobs l (at + 4)) done)
       ≡ masksFormed z (readRun z l at)
-  unfolding masksFormed readRun
+  unfolding masksFormed
   masks-test p =
-      let d : at + 2 ≡ at + 1 + 1 = omega arith in
-      let r : at + 3 ≡ at + 1 + 1 + 1 = omega arith in
-      let e : at + 4 ≡ at + 1 + 1 + 1 + 1 = omega arith in
-      rw (e, r, d, reads-done z (readRun z l at) p (getD l (at + 1 + 1) 0))
+      let a = wordsRun z l at in
+      rw (run-words z l at, reads-done z a (rw (run-words z l at) at p) (a .done))

@@ -1,7 +1,8 @@
 -- The snapshot of a run by masks: the keys that it holds, the plan's and those read.
--- without-none: one mask within another. snapshot-test, empty-test, free-test: the tests of the code.
+-- without-none: one mask within another.
+-- carried-test, empty-test, free-test: what the code tests is what is asked.
 -- Assumes nothing.
-use mathlib.Core.Path.{_≡_, refl, sym, ap, ap₂, _∙_}
+use mathlib.Core.Path.{_≡_, refl, ap, ap₂, _∙_}
 use mathlib.Core.Bool.{Bool, true, false, cond, not, So, _&&_, _||_, and-true, and-false}
 use mathlib.Core.List.{List}
 use Prim.Native.Nat.{ℕ, zero, suc, _+_, _≤_, _<_, _^_}
@@ -15,16 +16,17 @@ use Rattle.masks.specs.Mask.{testBit, maskBelow, without}
 use Rattle.masks.proofs.Bits.{test-without, without-lt}
 use Rattle.masks.proofs.Sets.{mask-lt, test-mask, mask-none, set-none}
 use Rattle.clock.specs.Clock.{present}
-use Rattle.sizes.specs.declared.Counts.{Counts}
 use Rattle.sizes.specs.Bounds.{maxJobs}
+use Rattle.sizes.specs.declared.Counts.{Counts}
 use Rattle.model.specs.Algebra.{Place, implies}
-use Rattle.model.specs.Version.{Version, held}
-use Rattle.model.specs.Store.{Job, Run, planned, doneReads}
 use Rattle.model.specs.Form.{zeroJob, zeroRows, versionFormed, placeFormed, freeFormed, jobsFormed, masksFormed, snapshotFormed}
+use Rattle.model.specs.Store.{Job, Run, planned, doneReads}
+use Rattle.model.specs.Version.{Version, held}
 use Rattle.layout.specs.Reading.{readJobs, readPlace, readRun}
 use Rattle.layout.proofs.Plans.{jobs-out, masks-out}
 use Rattle.form.specs.Parts.{jobFormed, readsOf}
 use Rattle.form.proofs.Masks.{test-reads}
+use Rattle.form.proofs.Runs.{wordsRun, run-words}
 
 -- ---- tests of every number
 
@@ -141,7 +143,7 @@ no-jobs z job =
     all-same maxJobs (λ i. jobFormed z 0 i (job i)) (λ i. zeroJob (job i))
     (λ i _. rw (ge-ltb i 0 (omega arith)))
 
--- ---- the same on words
+-- ---- what the code tests is what is asked
 
 module _ (z : Counts) (l : List ℕ) (at : ℕ) where
   pub snapshot-test : So (jobsFormed z (readRun z l at)) → So (masksFormed z (readRun z l at))
@@ -150,22 +152,14 @@ module _ (z : Counts) (l : List ℕ) (at : ℕ) where
       && (eqb (without (heldMask z p) (readsOf (getD l (at + 1) 0) (readJobs l (at + 4)) 255)) 0
       && eqb (without (getD l (at + 3) 0) (heldMask z p)) 0)
       ≡ snapshotFormed z (readRun z l at)
-  unfolding readRun
   snapshot-test J M =
-      let r : at + 3 ≡ at + 1 + 1 + 1 = omega arith in
-      let j : at + 4 ≡ at + 1 + 1 + 1 + 1 = omega arith in
-      let s : at + 28 ≡ at + 1 + 1 + 1 + 1 + 24 = omega arith in
-      rw (s, j, r) (carried-test z (readRun z l at) J M)
+      let e = run-words z l at in
+      rw e (carried-test z (wordsRun z l at) (rw e at J) (rw e at M))
 
   pub free-test : let p = readPlace z l (at + 28) in
       eqb (getD l (at + 1) 0) 0 && (eqb (getD l (at + 2) 0) 0 && (eqb (getD l (at + 3) 0) 0
       && (allBelow maxJobs (λ i. jobFormed z 0 i (readJobs l (at + 4) i))
       && allBelow (z .keys) (λ k. not (held (p k)) && zeroRows z (p k)))))
       ≡ freeFormed z (readRun z l at)
-  unfolding freeFormed readRun
-  free-test =
-      let d : at + 2 ≡ at + 1 + 1 = omega arith in
-      let r : at + 3 ≡ at + 1 + 1 + 1 = omega arith in
-      let j : at + 4 ≡ at + 1 + 1 + 1 + 1 = omega arith in
-      let s : at + 28 ≡ at + 1 + 1 + 1 + 1 + 24 = omega arith in
-      rw (s, j, r, d, no-jobs z (readJobs l (at + 1 + 1 + 1 + 1)))
+  unfolding freeFormed
+  free-test = rw (run-words z l at, no-jobs z (readJobs l (at + 4)))

@@ -1,54 +1,30 @@
--- Where the parts of a store lie, and the test of the store from those of its parts.
+-- Where the runs of a store lie, and the test of the store from those of its parts.
 -- Assumes nothing.
 use mathlib.Core.Path.{_≡_, refl, sym, ap, ap₂}
 use mathlib.Core.Bool.{Bool, So, _&&_}
 use mathlib.Core.List.{List}
-use Prim.Native.Nat.{ℕ, _+_, _≤_, _<_}
+use Prim.Native.Nat.{ℕ, _≤_, _<_}
 use native.Mathlib.Omega.{arith}
 use lib.ListN.{length}
 use Rattle.words.specs.Tests.{allBelow}
 use Rattle.words.proofs.Tests.{all-same}
+use Rattle.sizes.specs.Bounds.{runSize, masterAt, siteAt, runAt}
 use Rattle.sizes.specs.declared.Counts.{Counts}
-use Rattle.sizes.specs.Bounds.{siteSize, runSize, masterAt, siteAt, runAt}
-use Rattle.sizes.proofs.Offsets.{ordered, site-lies, run-lies}
+use Rattle.sizes.proofs.Offsets.{ordered, run-lies}
 use Rattle.model.specs.Form.{placeFormed, runFormed, wellFormed}
-use Rattle.layout.specs.Reading.{readPlace, readRun, countsIn, storeOf}
 use Rattle.layout.specs.Buffer.{shaped}
-use Rattle.layout.proofs.Shapes.{shaped-out}
+use Rattle.layout.specs.Reading.{readPlace, readRun, countsIn, storeOf}
 use Rattle.layout.proofs.Readings.{cache-in, run-in}
-use Rattle.form.specs.Parts.{Area, RunArea, StoreArea}
+use Rattle.layout.proofs.Shapes.{shaped-out}
+use Rattle.form.specs.Parts.{RunArea, StoreArea}
 
-module _ (z : Counts) (len : ℕ) (A : StoreArea len z) where
-  pub master-area : Area len z 10
-  master-area =
-      let q = ordered z (A .ranged) in
-      record { ranged = A .ranged; low = omega arith; fits = omega (arith, A .fits) }
-
-  pub site-area : (o : ℕ) → o < z .sites → Area len z (siteAt z o)
-  unfolding siteSize
-  site-area o h =
-      let q = ordered z (A .ranged) in
-      let e = site-lies z o h in
-      record {
-        ranged = A .ranged;
-        low = omega (arith, e .ends);
-        fits = omega (arith, e .ends, A .fits);
-      }
-
-  -- A run, and its snapshot.
-  pub run-area : (r : ℕ) → r < z .runs → RunArea len z (runAt z r)
-  unfolding runSize
-  run-area r h =
-      let q = ordered z (A .ranged) in
-      let e = run-lies z r h in
-      record {
-        ranged = A .ranged;
-        low = omega (arith, e .ends);
-        fits = omega (arith, e .ends, A .fits);
-      }
-
-pub snapshot-area : (z : Counts) (len at : ℕ) → RunArea len z at → Area len z (at + 28)
-snapshot-area z len at A = record { ranged = A .ranged; low = A .low; fits = A .fits }
+pub run-area : (len : ℕ) (z : Counts) → StoreArea len z → (r : ℕ) → r < z .runs
+    → RunArea len z (runAt z r)
+unfolding runSize
+run-area len z A r h =
+    let q = ordered z (A .ranged) in
+    let e = run-lies z r h in
+    record { ranged = A .ranged; low = omega arith; fits = omega arith }
 
 -- A buffer of the right shape holds its store.
 pub shaped-area : (l : List ℕ) → So (shaped l) → StoreArea (length l) (countsIn l)
@@ -60,14 +36,14 @@ shaped-long l p =
     let q = ordered (countsIn l) (S .counts) in omega (arith, S .fits)
 
 pub store-test : (l : List ℕ) → let z = countsIn l in
-    placeFormed z (readPlace z l 10)
+    placeFormed z (readPlace z l (masterAt z))
     && (allBelow (z .sites) (λ o. placeFormed z (readPlace z l (siteAt z o)))
     && allBelow (z .runs) (λ r. runFormed z (readRun z l (runAt z r))))
     ≡ wellFormed (storeOf l)
-unfolding wellFormed masterAt storeOf
+unfolding wellFormed storeOf
 store-test l =
     let z = countsIn l in
-    ap (λ (t : Bool). placeFormed z (readPlace z l 10) && t) (ap₂ _&&_
+    ap (λ (t : Bool). placeFormed z (readPlace z l (masterAt z)) && t) (ap₂ _&&_
     (all-same (z .sites) (λ o. placeFormed z (readPlace z l (siteAt z o)))
     (λ o. placeFormed z (storeOf l .site o .cache))
     (λ o h. ap (placeFormed z) (sym (cache-in l z refl o h))))

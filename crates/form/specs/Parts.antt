@@ -1,6 +1,6 @@
 -- Parts of a store in a buffer, for the contracts of the tests.
 -- jobOf: a job of three numbers. jobFormed: what is asked of one job.
--- readsOf: what some jobs read. Area, RunArea, StoreArea: where a part lies.
+-- readsOf: what some jobs read. RunArea, StoreArea: where a part lies.
 -- Assumes nothing.
 use mathlib.Core.Bool.{Bool, cond}
 use Prim.Native.Nat.{ℕ, _+_, _≤_, _<_}
@@ -24,12 +24,6 @@ unfoldable pub readsOf : ℕ → (ℕ → Job) → ℕ → ℕ
 readsOf n job mask = unionBelow n (λ j. when (testBit mask j) (job j .reads))
 
 -- ---- where a part lies in a buffer of len words
-
--- The place at an index.
-pub record Area (len : ℕ) (z : Counts) (at : ℕ) : Type 0 where
-  pub ranged : Ranged z
-  pub low : at < 1000000
-  pub fits : at + placeSize z ≤ len
 
 -- The run at an index: 28 words, and the snapshot.
 pub record RunArea (len : ℕ) (z : Counts) (at : ℕ) : Type 0 where

@@ -3,7 +3,6 @@ use sizes::Counts;
 use sizes::Sizes;
 use words::wide;
 ghost use mathlib.Core.Path.{_≡_};
-ghost use mathlib.Core.Bool.{_&&_};
 ghost use Prim.Native.Nat.{_≤_, _<_};
 ghost use lib.Dec.{eqb, leb};
 ghost use lib.ListN.{length};
@@ -54,7 +53,7 @@ pub fn header_right(words: &[u32], z: Counts) -> bool
     requires { ⌜ 10 ≤ length (now words) ⌝ }
     ensures { λ r. ⌜ r ≡ headerRight (now (words .entry)) z ⌝ }
 {
-    let s = Sizes::of(z.keys, z.writers, z.sites, z.runs);
+    let s = z.areas();
     word_is(words, 5, s.master)
         & (word_is(words, 6, s.sites)
             & (word_is(words, 7, s.writers)
@@ -66,7 +65,7 @@ pub fn fits(words: &[u32], z: Counts) -> bool
     requires { ⌜ Ranged z ⌝ }
     ensures { λ r. ⌜ r ≡ leb (totalOf z) (length (now (words .entry))) ⌝ }
 {
-    let s = Sizes::of(z.keys, z.writers, z.sites, z.runs);
+    let s = z.areas();
     let total = s.total;
     total <= words.len()
 }

@@ -2,6 +2,7 @@
 use masks::has;
 use masks::mask_if;
 use sizes::Counts;
+use sizes::Sizes;
 use words::wide;
 ghost use mathlib.Core.Path.{_≡_};
 ghost use Prim.Native.Nat.{_+_, _^_, _≤_, _<_};
@@ -62,7 +63,7 @@ pub fn each_job(words: &[u32], z: Counts, at: usize, n: usize) -> bool
         (λ i. jobFormed z n i (readJobs (now (words .entry)) at i)) ⌝ }
 {
     let mut i = 0;
-    while i < 8 {
+    while i < Sizes::MAX_JOBS {
         if !job_formed(words, z, at, n, i) {
             return false;
         }

@@ -63,5 +63,6 @@ pub fn in_form(words: &[u32]) -> bool
         return false;
     }
     let z = counts(words);
-    place_formed(words, z, 10) & (sites_formed(words, z) & runs_formed(words, z))
+    let areas = z.areas();
+    place_formed(words, z, areas.master) & (sites_formed(words, z) & runs_formed(words, z))
 }

@@ -1,26 +1,15 @@
 // The versions of a place (master, cache or snapshot) that begins at an index.
 use clock::present;
-use masks::with_if;
 use sizes::Counts;
+use version::held;
+use version::row_of;
 ghost use mathlib.Core.Path.{_≡_};
 ghost use Prim.Native.Nat.{_<_};
 ghost use lib.ListN.{length};
 ghost use Rattle.clock.specs.Clock.{present};
-ghost use Rattle.masks.specs.Mask.{maskBelow};
-ghost use Rattle.model.specs.Version.{held};
 ghost use Rattle.model.specs.Form.{zeroRows, versionFormed, placeFormed};
 ghost use Rattle.layout.specs.Reading.{readPlace};
-ghost use Rattle.form.specs.Parts.{Area};
-
-// Whether key k is held.
-pub fn held(words: &[u32], z: Counts, at: usize, k: usize) -> bool
-    requires { ⌜ Area (length (now words)) z at ⌝ }
-    requires { ⌜ k < z .keys ⌝ }
-    ensures { λ r. ⌜ r ≡ held (readPlace z (now (words .entry)) at k) ⌝ }
-{
-    let v = z.key_at(at, k);
-    1 <= words[v]
-}
+ghost use Rattle.version.specs.Places.{Area};
 
 // Whether row d of the version of key k isn't all zero.
 pub fn has_row(words: &[u32], z: Counts, at: usize, k: usize, d: usize) -> bool
@@ -29,10 +18,8 @@ pub fn has_row(words: &[u32], z: Counts, at: usize, k: usize, d: usize) -> bool
     ensures { λ r. ⌜ r
         ≡ present (z .writers) (readPlace z (now (words .entry)) at k .past d) ⌝ }
 {
-    let v = z.key_at(at, k);
-    let row = z.row_at(v, d);
-    let w = z.writers;
-    present(words, row, w)
+    let row = row_of(z, at, k, d);
+    present(words, row, z.writers)
 }
 
 // Whether the version of key k has only zero rows.
@@ -79,19 +66,4 @@ pub fn place_formed(words: &[u32], z: Counts, at: usize) -> bool
         k += 1;
     }
     true
-}
-
-// The mask of the keys that the place holds.
-pub fn held_mask(words: &[u32], z: Counts, at: usize) -> u32
-    requires { ⌜ Area (length (now words)) z at ⌝ }
-    ensures { λ r. ⌜ r ≡ maskBelow (z .keys) (λ k. held (readPlace z (now (words .entry)) at k)) ⌝ }
-{
-    let n = z.keys;
-    let mut mask: u32 = 0;
-    let mut k = 0;
-    while k < n {
-        mask = with_if(held(words, z, at, k), mask, k as u32);
-        k += 1;
-    }
-    mask
 }

@@ -1,13 +1,15 @@
 // A run that begins at an index: state, number of jobs, done mask, read mask, 8 jobs of
 // three words, the snapshot.
 use crate::header::is_between;
+use crate::header::word_is;
 use crate::job::each_job;
 use crate::job::is_below;
 use crate::job::reads_of;
-use crate::place::held_mask;
 use crate::place::place_formed;
 use masks::without;
 use sizes::Counts;
+use sizes::Sizes;
+use version::held_mask;
 use words::wide;
 ghost use mathlib.Core.Path.{_≡_};
 ghost use mathlib.Core.Bool.{So, not, _&&_};
@@ -16,7 +18,8 @@ ghost use Rattle.words.specs.Tests.{allBelow};
 ghost use Rattle.model.specs.Version.{held};
 ghost use Rattle.model.specs.Form.{zeroRows, freeFormed, jobsFormed, masksFormed, snapshotFormed, runFormed};
 ghost use Rattle.layout.specs.Reading.{readPlace, readRun};
-ghost use Rattle.form.specs.Parts.{Area, RunArea};
+ghost use Rattle.version.specs.Places.{Area};
+ghost use Rattle.form.specs.Parts.{RunArea};
 
 // Whether the run has 1 to 8 jobs, each in form.
 pub fn jobs_formed(words: &[u32], z: Counts, at: usize) -> bool
@@ -24,7 +27,7 @@ pub fn jobs_formed(words: &[u32], z: Counts, at: usize) -> bool
     ensures { λ r. ⌜ r ≡ jobsFormed z (readRun z (now (words .entry)) at) ⌝ }
 {
     let n = wide(words[at + 1]);
-    is_between(n, 8) & each_job(words, z, at + 4, n)
+    is_between(n, Sizes::MAX_JOBS) & each_job(words, z, at + 4, n)
 }
 
 // Whether the done mask is one of the run's jobs, and the read mask just what these read.
@@ -40,6 +43,7 @@ pub fn masks_formed(words: &[u32], z: Counts, at: usize) -> bool
 }
 
 // Whether the snapshot is in form, holds only keys of the plan, and each key that was read.
+// 255 is the mask of all jobs.
 pub fn snapshot_formed(words: &[u32], z: Counts, at: usize) -> bool
     requires { ⌜ RunArea (length (now words)) z at ⌝ }
     requires { ⌜ So (jobsFormed z (readRun z (now words) at)) ⌝ }
@@ -85,12 +89,10 @@ pub fn free_formed(words: &[u32], z: Counts, at: usize) -> bool
     requires { ⌜ RunArea (length (now words)) z at ⌝ }
     ensures { λ r. ⌜ r ≡ freeFormed z (readRun z (now (words .entry)) at) ⌝ }
 {
-    let jobs = words[at + 1];
-    let done = words[at + 2];
-    let read = words[at + 3];
-    (jobs == 0)
-        & ((done == 0)
-            & ((read == 0) & (each_job(words, z, at + 4, 0) & is_empty(words, z, at + 28))))
+    word_is(words, at + 1, 0)
+        & (word_is(words, at + 2, 0)
+            & (word_is(words, at + 3, 0)
+                & (each_job(words, z, at + 4, 0) & is_empty(words, z, at + 28))))
 }
 
 // Whether the run is in form.

@@ -20,7 +20,7 @@ ghost use Rattle.layout.specs.Reading.{readVersion, readPlace};
 ghost use Rattle.version.specs.Places.{putVersion, putPlace, putKey, choice, Area, Areas};
 
 // Where row d of key k begins in the place at an index.
-fn row_of(z: Counts, at: usize, k: usize, d: usize) -> usize
+pub fn row_of(z: Counts, at: usize, k: usize, d: usize) -> usize
     requires { ⌜ Ranged z ⌝ }
     requires { ⌜ (at < 1000000) × (k < z .keys) × (d < z .keys) ⌝ }
     ensures { λ r. ⌜ r ≡ rowAt z (keyAt z at k) d ⌝ }

@@ -1,22 +1,20 @@
-use Rattle.form.proofs.Stores.{run-area}
-use Rattle.form.proofs.Loops.{loop-fails, loop-turn, loop-ends}
-use Rattle.layout.specs.Reading.{readRun}
-use Rattle.model.specs.Form.{runFormed}
-use Rattle.sizes.specs.declared.Counts.{Counts}
-use Rattle.sizes.specs.Bounds.{runAt}
-use Rattle.words.specs.Tests.{Items, allBelow}
-use Prim.Native.Nat.{ℕ, _≤_, _-_}
+-- `runs_formed` answers whether every run is in form.
+-- The loop's invariant: the runs passed are.
+-- Assumes nothing.
+use mathlib.Core.Path.{_≡_, refl, _∙_}
+use mathlib.Core.Bool.{So}
 use mathlib.Core.List.{List}
-use mathlib.Core.Bool.{Bool, So}
-use mathlib.Core.Path.{_≡_, refl, ap, _∙_}
-use borrow.Author.Needs.{needs}
+use Prim.Native.Nat.{ℕ, _≤_, _-_}
 use native.Mathlib.Omega.{arith}
+use Rattle.words.specs.Tests.{Items, allBelow}
+use Rattle.sizes.specs.Bounds.{runAt}
+use Rattle.sizes.specs.declared.Counts.{Counts}
+use Rattle.model.specs.Form.{runFormed}
+use Rattle.layout.specs.Reading.{readRun}
+use Rattle.form.proofs.Loops.{loop-fails, loop-turn, loop-ends}
+use Rattle.form.proofs.Stores.{run-area}
 use Rattle.form.proofs.runs_formed.Statement.{statement}
 use Rattle.form.proofs.runs_formed.Tie as tie
-use Rattle.form.proofs.runs_formed.Reads as reads
-use Rattle.form.proofs.runs_formed.Lts as lts
-use Rattle.form.proofs.run.run_formed.Reads as run-formed-reads
-use Rattle.sizes.proofs.Counts.run_at.Reads as run-at-reads
 
 -- The test of run i.
 abbrev runTest : List ℕ → Counts → Items
@@ -32,53 +30,43 @@ abbrev μ-loop : tie.MeasureT-loop
 abbrev tests : tie.At-loop Inv-loop μ-loop → Items
 tests l = let a = l .before .before .args in runTest (a .words .now) (a .z)
 
--- src/lib.rt:48:5
 loop-holds : tie.Need-loop-holds Inv-loop μ-loop
 unfolding allBelow
 loop-holds c = (omega arith, refl)
 
--- src/lib.rt:49:13
 run-at-requires : tie.Need-run-at-requires Inv-loop μ-loop
 run-at-requires c κs = (c .before .before .before .pre .ranged, omega arith)
 
--- src/lib.rt:50:13
 run-formed-requires : tie.Need-run-formed-requires Inv-loop μ-loop
 run-formed-requires c κs =
     let l = c .before .before in
     let s = l .before .before in
-    rw (c .run-at .ensures) (run-area (s .args .z) _ (s .pre) (l .loop .i) (omega arith))
+    rw (c .run-at .ensures) (run-area _ (s .args .z) (s .pre) (l .loop .i) (omega arith))
 
 -- What the code finds is the test of run i.
 found : (c : tie.After-run-formed Inv-loop μ-loop) → let l = c .before .before .before in
     c .run-formed .result ≡ tests l (l .loop .i)
-found c =
-    let a = c .before .before .before .before .before .args in
-    c .run-formed .ensures
-    ∙ ap (λ (at : ℕ). runFormed (a .z) (readRun (a .z) (a .words .now) at)) (c .before .run-at .ensures)
+found c = c .run-formed .ensures ∙ rw (c .before .run-at .ensures)
 
--- src/lib.rt:51:13
 returns : tie.Need-returns Inv-loop μ-loop
 returns c =
     let l = c .before .before .before .before in
     let z = l .before .before .args .z in
-    loop-fails (z .runs) (tests l) (l .loop .i) _ (omega arith) (found (c .before)) (c .if1 .taken)
+    let e = found (c .before) in
+    loop-fails (z .runs) (tests l) (l .loop .i) _ (omega arith) e (c .if1 .taken)
 
--- src/lib.rt:53:9
 add-i : tie.Need-add-i Inv-loop μ-loop
 add-i c = omega arith
 
--- src/lib.rt:48:5
 loop-less : tie.Need-loop-less Inv-loop μ-loop
 loop-less c = omega arith
 
--- src/lib.rt:48:5
 loop-again : tie.Need-loop-again Inv-loop μ-loop
 loop-again c =
     let l = c .before .before .before .before in
     let e = found (c .before) in
     (omega arith, loop-turn (tests l) (l .loop .i) _ (l .loop .inv .1) e (c .if1 .left))
 
--- src/lib.rt:41:1
 returns-2 : tie.Need-returns-2 Inv-loop μ-loop
 returns-2 c =
     let l = c .before in

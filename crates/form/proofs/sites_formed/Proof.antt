@@ -1,22 +1,20 @@
-use Rattle.form.proofs.Stores.{site-area}
-use Rattle.form.proofs.Loops.{loop-fails, loop-turn, loop-ends}
-use Rattle.layout.specs.Reading.{readPlace}
-use Rattle.model.specs.Form.{placeFormed}
-use Rattle.sizes.specs.declared.Counts.{Counts}
-use Rattle.sizes.specs.Bounds.{siteAt}
-use Rattle.words.specs.Tests.{Items, allBelow}
-use Prim.Native.Nat.{ℕ, _≤_, _-_}
+-- `sites_formed` answers whether every cache is in form.
+-- The loop's invariant: the caches passed are.
+-- Assumes nothing.
+use mathlib.Core.Path.{_≡_, refl, _∙_}
+use mathlib.Core.Bool.{So}
 use mathlib.Core.List.{List}
-use mathlib.Core.Bool.{Bool, So}
-use mathlib.Core.Path.{_≡_, refl, ap, _∙_}
-use borrow.Author.Needs.{needs}
+use Prim.Native.Nat.{ℕ, _≤_, _-_}
 use native.Mathlib.Omega.{arith}
+use Rattle.words.specs.Tests.{Items, allBelow}
+use Rattle.sizes.specs.Bounds.{siteAt}
+use Rattle.sizes.specs.declared.Counts.{Counts}
+use Rattle.model.specs.Form.{placeFormed}
+use Rattle.layout.specs.Reading.{readPlace}
+use Rattle.form.proofs.Loops.{loop-fails, loop-turn, loop-ends}
+use Rattle.version.proofs.Stores.{site-area}
 use Rattle.form.proofs.sites_formed.Statement.{statement}
 use Rattle.form.proofs.sites_formed.Tie as tie
-use Rattle.form.proofs.sites_formed.Reads as reads
-use Rattle.form.proofs.sites_formed.Lts as lts
-use Rattle.form.proofs.place.place_formed.Reads as place-formed-reads
-use Rattle.sizes.proofs.Counts.site_at.Reads as site-at-reads
 
 -- The test of site o.
 abbrev siteTest : List ℕ → Counts → Items
@@ -32,52 +30,43 @@ abbrev μ-loop : tie.MeasureT-loop
 abbrev tests : tie.At-loop Inv-loop μ-loop → Items
 tests l = let a = l .before .before .args in siteTest (a .words .now) (a .z)
 
--- src/lib.rt:30:5
 loop-holds : tie.Need-loop-holds Inv-loop μ-loop
 unfolding allBelow
 loop-holds c = (omega arith, refl)
 
--- src/lib.rt:31:13
 site-at-requires : tie.Need-site-at-requires Inv-loop μ-loop
 site-at-requires c κs = (c .before .before .before .pre .ranged, omega arith)
 
--- src/lib.rt:32:13
 place-formed-requires : tie.Need-place-formed-requires Inv-loop μ-loop
 place-formed-requires c κs =
     let l = c .before .before in
     let s = l .before .before in
-    rw (c .site-at .ensures) (site-area (s .args .z) _ (s .pre) (l .loop .o) (omega arith))
+    rw (c .site-at .ensures) (site-area _ (s .args .z) (s .pre .ranged) (s .pre .fits) (l .loop .o) (omega arith))
 
 -- What the code finds is the test of site o.
 found : (c : tie.After-place-formed Inv-loop μ-loop) → let l = c .before .before .before in
     c .place-formed .result ≡ tests l (l .loop .o)
-found c =
-    let a = c .before .before .before .before .before .args in
-    c .place-formed .ensures
-    ∙ ap (λ (at : ℕ). placeFormed (a .z) (readPlace (a .z) (a .words .now) at)) (c .before .site-at .ensures)
+found c = c .place-formed .ensures ∙ rw (c .before .site-at .ensures)
 
--- src/lib.rt:33:13
 returns : tie.Need-returns Inv-loop μ-loop
 returns c =
     let l = c .before .before .before .before in
     let z = l .before .before .args .z in
-    loop-fails (z .sites) (tests l) (l .loop .o) _ (omega arith) (found (c .before)) (c .if1 .taken)
+    let e = found (c .before) in
+    loop-fails (z .sites) (tests l) (l .loop .o) _ (omega arith) e (c .if1 .taken)
 
--- src/lib.rt:35:9
 add-o : tie.Need-add-o Inv-loop μ-loop
 add-o c = omega arith
 
--- src/lib.rt:30:5
 loop-less : tie.Need-loop-less Inv-loop μ-loop
 loop-less c = omega arith
 
--- src/lib.rt:30:5
 loop-again : tie.Need-loop-again Inv-loop μ-loop
 loop-again c =
     let l = c .before .before .before .before in
-    (omega arith, loop-turn (tests l) (l .loop .o) _ (l .loop .inv .1) (found (c .before)) (c .if1 .left))
+    let e = found (c .before) in
+    (omega arith, loop-turn (tests l) (l .loop .o) _ (l .loop .inv .1) e (c .if1 .left))
 
--- src/lib.rt:23:1
 returns-2 : tie.Need-returns-2 Inv-loop μ-loop
 returns-2 c =
     let l = c .before in

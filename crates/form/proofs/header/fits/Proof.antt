@@ -5,12 +5,12 @@ use Rattle.sizes.specs.Bounds.{sizesOf}
 use Rattle.form.proofs.header.fits.Statement.{statement}
 use Rattle.form.proofs.header.fits.Tie as tie
 
-of-requires : tie.Need-of-requires
-of-requires c κs = search needs
+areas-requires : tie.Need-areas-requires
+areas-requires c κs = search needs
 
 returns : tie.Need-returns
 unfolding sizesOf
-returns c = rw (c .of .ensures)
+returns c = rw (c .areas .ensures)
 
 pub fits-spec : {M : Type 1} → statement M
-fits-spec = tie.close (tie.spec of-requires returns)
+fits-spec = tie.close (tie.spec areas-requires returns)

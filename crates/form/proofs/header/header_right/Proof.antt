@@ -6,8 +6,8 @@ use Rattle.layout.specs.Buffer.{headerRight}
 use Rattle.form.proofs.header.header_right.Statement.{statement}
 use Rattle.form.proofs.header.header_right.Tie as tie
 
-of-requires : tie.Need-of-requires
-of-requires c κs = search needs
+areas-requires : tie.Need-areas-requires
+areas-requires c κs = search needs
 
 word-is-requires : tie.Need-word-is-requires
 word-is-requires c κs = search needs
@@ -37,14 +37,14 @@ returns c =
       w3 .word-is3 .ensures,
       w4 .word-is4 .ensures,
       c .word-is5 .ensures,
-      w1 .before .of .ensures,
+      w1 .before .areas .ensures,
     )
 
 pub header-right-spec : {M : Type 1} → statement M
 header-right-spec =
     tie.close
     (tie.spec
-    of-requires
+    areas-requires
     word-is-requires
     word-is-requires-2
     word-is-requires-3

@@ -8,7 +8,7 @@ use native.Mathlib.Omega.{arith}
 use Rattle.masks.specs.Mask.{unionBelow}
 use Rattle.layout.specs.Reading.{readJobs}
 use Rattle.form.specs.Parts.{readsOf}
-use Rattle.form.proofs.Runs.{reads-more}
+use Rattle.form.proofs.Masks.{reads-step}
 use Rattle.form.proofs.job.reads_of.Statement.{statement}
 use Rattle.form.proofs.job.reads_of.Tie as tie
 
@@ -61,7 +61,7 @@ loop-again c =
     let a = l .before .before .args in (
       omega arith,
       rw (
-        reads-more (a .words .now) (a .at) (a .mask) (l .loop .j) (omega arith),
+        reads-step (a .words .now) (a .at) (a .mask) (l .loop .j) (omega arith),
         l .loop .inv .1,
         c .mask-if .ensures,
         h .has .ensures,

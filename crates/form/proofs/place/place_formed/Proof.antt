@@ -1,19 +1,19 @@
-use Rattle.form.proofs.Loops.{loop-fails, loop-turn, loop-ends}
-use Rattle.layout.specs.Reading.{readPlace}
-use Rattle.model.specs.Form.{versionFormed, placeFormed}
-use Rattle.sizes.specs.declared.Counts.{Counts}
-use Rattle.words.specs.Tests.{Items, allBelow}
-use Prim.Native.Nat.{ℕ, _≤_, _-_}
-use mathlib.Core.List.{List}
-use mathlib.Core.Bool.{So}
+-- `place_formed` answers whether every version is in form.
+-- The loop's invariant: the versions passed are.
+-- Assumes nothing.
 use mathlib.Core.Path.{refl}
+use mathlib.Core.Bool.{So}
+use mathlib.Core.List.{List}
+use Prim.Native.Nat.{ℕ, _≤_, _-_}
 use borrow.Author.Needs.{needs}
 use native.Mathlib.Omega.{arith}
+use Rattle.words.specs.Tests.{Items, allBelow}
+use Rattle.sizes.specs.declared.Counts.{Counts}
+use Rattle.model.specs.Form.{versionFormed, placeFormed}
+use Rattle.layout.specs.Reading.{readPlace}
+use Rattle.form.proofs.Loops.{loop-fails, loop-turn, loop-ends}
 use Rattle.form.proofs.place.place_formed.Statement.{statement}
 use Rattle.form.proofs.place.place_formed.Tie as tie
-use Rattle.form.proofs.place.place_formed.Reads as reads
-use Rattle.form.proofs.place.place_formed.Lts as lts
-use Rattle.form.proofs.place.version_formed.Reads as version-formed-reads
 
 -- The test of key k.
 abbrev keyTest : List ℕ → Counts → ℕ → Items
@@ -29,16 +29,13 @@ abbrev μ-loop : tie.MeasureT-loop
 abbrev tests : tie.At-loop Inv-loop μ-loop → Items
 tests l = let a = l .before .before .args in keyTest (a .words .now) (a .z) (a .at)
 
--- src/place.rt:73:5
 loop-holds : tie.Need-loop-holds Inv-loop μ-loop
 unfolding allBelow
 loop-holds c = (omega arith, refl)
 
--- src/place.rt:74:13
 version-formed-requires : tie.Need-version-formed-requires Inv-loop μ-loop
 version-formed-requires c κs = search needs
 
--- src/place.rt:75:13
 returns : tie.Need-returns Inv-loop μ-loop
 unfolding placeFormed
 returns c =
@@ -47,22 +44,18 @@ returns c =
     let e = c .before .version-formed .ensures in
     loop-fails (z .keys) (tests l) (l .loop .k) _ (omega arith) e (c .if1 .taken)
 
--- src/place.rt:77:9
 add-k : tie.Need-add-k Inv-loop μ-loop
 add-k c = omega arith
 
--- src/place.rt:73:5
 loop-less : tie.Need-loop-less Inv-loop μ-loop
 loop-less c = omega arith
 
--- src/place.rt:73:5
 loop-again : tie.Need-loop-again Inv-loop μ-loop
 loop-again c =
     let l = c .before .before .before in
     let e = c .before .version-formed .ensures in
     (omega arith, loop-turn (tests l) (l .loop .k) _ (l .loop .inv .1) e (c .if1 .left))
 
--- src/place.rt:67:1
 returns-2 : tie.Need-returns-2 Inv-loop μ-loop
 unfolding placeFormed
 returns-2 c =

@@ -1,21 +1,21 @@
-use Rattle.form.proofs.Loops.{loop-ends}
-use Rattle.layout.specs.Reading.{readPlace}
-use Rattle.model.specs.Form.{zeroRows}
-use Rattle.sizes.specs.declared.Counts.{Counts}
-use Rattle.clock.specs.Clock.{present}
-use Rattle.words.proofs.Tests.{all-yes, all-no}
-use Rattle.words.specs.Tests.{Items, allBelow}
-use Prim.Native.Nat.{ℕ, _≤_, _-_}
-use mathlib.Core.List.{List}
+-- `zero_rows` answers whether every row is all zero.
+-- The loop's invariant: the rows passed are.
+-- Assumes nothing.
+use mathlib.Core.Path.{refl, sym, _∙_, ap}
 use mathlib.Core.Bool.{So, not}
-use mathlib.Core.Path.{refl, sym, _∙_, ap, _≡_}
+use mathlib.Core.List.{List}
+use Prim.Native.Nat.{ℕ, _≤_, _-_}
 use borrow.Author.Needs.{needs}
 use native.Mathlib.Omega.{arith}
+use Rattle.words.specs.Tests.{Items, allBelow}
+use Rattle.words.proofs.Tests.{all-yes, all-no}
+use Rattle.clock.specs.Clock.{present}
+use Rattle.sizes.specs.declared.Counts.{Counts}
+use Rattle.model.specs.Form.{zeroRows}
+use Rattle.layout.specs.Reading.{readPlace}
+use Rattle.form.proofs.Loops.{loop-ends}
 use Rattle.form.proofs.place.zero_rows.Statement.{statement}
 use Rattle.form.proofs.place.zero_rows.Tie as tie
-use Rattle.form.proofs.place.zero_rows.Reads as reads
-use Rattle.form.proofs.place.zero_rows.Lts as lts
-use Rattle.form.proofs.place.has_row.Reads as has-row-reads
 
 -- Row d is all zero.
 abbrev zeroRow : List ℕ → Counts → ℕ → ℕ → Items
@@ -31,16 +31,13 @@ abbrev μ-loop : tie.MeasureT-loop
 abbrev tests : tie.At-loop Inv-loop μ-loop → Items
 tests l = let a = l .before .before .args in zeroRow (a .words .now) (a .z) (a .at) (a .k)
 
--- src/place.rt:44:5
 loop-holds : tie.Need-loop-holds Inv-loop μ-loop
 unfolding allBelow
 loop-holds c = (omega arith, refl)
 
--- src/place.rt:45:12
 has-row-requires : tie.Need-has-row-requires Inv-loop μ-loop
 has-row-requires c κs = search needs
 
--- src/place.rt:46:13
 returns : tie.Need-returns Inv-loop μ-loop
 unfolding zeroRows
 returns c =
@@ -49,15 +46,12 @@ returns c =
     sym (all-no (z .keys) (tests l) (l .loop .d) (omega arith)
     (ap not (sym (c .before .has-row .ensures) ∙ c .if1 .taken)))
 
--- src/place.rt:48:9
 add-d : tie.Need-add-d Inv-loop μ-loop
 add-d c = omega arith
 
--- src/place.rt:44:5
 loop-less : tie.Need-loop-less Inv-loop μ-loop
 loop-less c = omega arith
 
--- src/place.rt:44:5
 loop-again : tie.Need-loop-again Inv-loop μ-loop
 loop-again c =
     let l = c .before .before .before in (
@@ -66,7 +60,6 @@ loop-again c =
           (ap not (sym (c .before .has-row .ensures) ∙ c .if1 .left)),
     )
 
--- src/place.rt:37:1
 returns-2 : tie.Need-returns-2 Inv-loop μ-loop
 unfolding zeroRows
 returns-2 c =

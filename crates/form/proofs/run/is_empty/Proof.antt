@@ -1,23 +1,17 @@
-use Rattle.form.proofs.Snapshots.{empty-test}
-use Rattle.layout.specs.Reading.{readPlace}
-use native.Mathlib.Omega.{arith}
+-- `is_empty` finds a place in form that holds nothing.
+-- Assumes nothing.
 use borrow.Author.Needs.{needs}
+use Rattle.layout.specs.Reading.{readPlace}
+use Rattle.form.proofs.Snapshots.{empty-test}
 use Rattle.form.proofs.run.is_empty.Statement.{statement}
 use Rattle.form.proofs.run.is_empty.Tie as tie
-use Rattle.form.proofs.run.is_empty.Reads as reads
-use Rattle.form.proofs.run.is_empty.Lts as lts
-use Rattle.form.proofs.place.held_mask.Reads as held-mask-reads
-use Rattle.form.proofs.place.place_formed.Reads as place-formed-reads
 
--- src/run.rt:80:5
 place-formed-requires : tie.Need-place-formed-requires
 place-formed-requires c κs = search needs
 
--- src/run.rt:80:35
 held-mask-requires : tie.Need-held-mask-requires
 held-mask-requires c κs = search needs
 
--- src/run.rt:74:1
 returns : tie.Need-returns
 returns c =
     let a = c .before .before .before .args in
