@@ -1,5 +1,5 @@
 -- What is known of a buffer in form, and of a call on it.
--- Known, known: its counts. form-long: its header. cache-stored: another cache stored.
+-- form-long: its header. form-area: where it lies. cache-stored: another cache stored.
 -- master-found: where the master is. range-..: site and key in range. one-..: the set of one key.
 -- Ends, ends: what a call answers and leaves.
 -- Assumes nothing.
@@ -7,7 +7,6 @@ use mathlib.Core.Path.{_≡_, refl, sym, ap, _∙_, fun-ext}
 use mathlib.Core.Bool.{Bool, true, false, So, _||_}
 use mathlib.Core.List.{List}
 use Prim.Native.Nat.{ℕ, _^_, _≤_, _<_}
-use native.Mathlib.Omega.{arith}
 use lib.Dec.{leb}
 use lib.ListN.{length}
 use lib.Pow.{pow-pos}
@@ -18,8 +17,7 @@ use Rattle.masks.specs.Mask.{testBit, withBit}
 use Rattle.masks.proofs.Bits.{test-with, test-none, with-lt}
 use Rattle.sizes.specs.declared.Counts.{Counts}
 use Rattle.sizes.specs.declared.Sizes.{Sizes}
-use Rattle.sizes.specs.Bounds.{Ranged, sizesOf, masterAt, siteAt, totalOf}
-use Rattle.sizes.proofs.Offsets.{ordered}
+use Rattle.sizes.specs.Bounds.{sizesOf, masterAt, siteAt}
 use Rattle.model.specs.Algebra.{Place}
 use Rattle.model.specs.Version.{Version}
 use Rattle.model.specs.Store.{withCache}
@@ -30,12 +28,13 @@ use Rattle.layout.specs.Words.{placeWords}
 use Rattle.layout.specs.Reading.{countsIn, storeOf}
 use Rattle.layout.specs.Buffer.{written, shaped, inForm}
 use Rattle.layout.specs.Calls.{on, callOn, leaves}
-use Rattle.layout.proofs.Shapes.{shaped-out}
 use Rattle.layout.proofs.Whole.{store-kept}
 use Rattle.layout.proofs.Updates.{put-cache}
 use Rattle.layout.proofs.Readings.{counts-in}
 use Rattle.layout.proofs.Forms.{form-kept}
 use Rattle.version.specs.Places.{putPlace}
+use Rattle.form.specs.Parts.{StoreArea}
+use Rattle.form.proofs.Stores.{shaped-area, shaped-long}
 
 -- ---- a buffer in form
 
@@ -44,19 +43,11 @@ unfolding inForm
 in-shape l F = and-left (shaped l) (wellFormed (storeOf l)) F
 
 pub form-long : (l : List ℕ) → So (inForm l) → 10 ≤ length l
-form-long l F =
-    let S = shaped-out l (in-shape l F) in
-    omega (arith, S .fits, ordered (countsIn l) (S .counts))
+form-long l F = shaped-long l (in-shape l F)
 
 module _ (l : List ℕ) (z : Counts) (F : So (inForm l)) (e : z ≡ countsIn l) where
-  pub record Known : Type 0 where
-    pub ranged : Ranged z
-    pub fits : totalOf z ≤ length l
-
-  pub known : Known
-  known =
-      let S = shaped-out l (in-shape l F) in
-      record { ranged = rw e (S .counts); fits = rw e (S .fits) }
+  pub form-area : StoreArea (length l) z
+  form-area = rw e (shaped-area l (in-shape l F))
 
   pub cache-stored : (o : ℕ) (p : Place Version) → o < z .sites
       → putPlace z l (siteAt z o) p ≡ written (withCache (storeOf l) o p) l

@@ -11,7 +11,7 @@ use Rattle.model.specs.Caches.{evictCause}
 use Rattle.layout.specs.Reading.{storeOf}
 use Rattle.layout.proofs.Readings.{cache-in}
 use Rattle.version.proofs.Stores.{site-area}
-use Rattle.caches.proofs.Known.{known, range-in}
+use Rattle.caches.proofs.Known.{form-area, range-in}
 use Rattle.caches.proofs.Evicts.{evict-cause}
 use Rattle.caches.proofs.evict_cause.Statement.{statement}
 use Rattle.caches.proofs.evict_cause.Tie as tie
@@ -39,14 +39,14 @@ site-at-requires : tie.Need-site-at-requires
 site-at-requires c κs =
     let s = c .before .before .before in
     let a = s .args in
-    (known (a .words .now) (a .z) (s .pre .0) (s .pre .1) .ranged, low c .0)
+    (form-area (a .words .now) (a .z) (s .pre .0) (s .pre .1) .ranged, low c .0)
 
 held-requires : tie.Need-held-requires
 held-requires c κs =
     let s = c .before .before .before .before in
     let a = s .args in
     let l = a .words .now in
-    let R = known l (a .z) (s .pre .0) (s .pre .1) in (
+    let R = form-area l (a .z) (s .pre .0) (s .pre .1) in (
       rw (c .site-at .ensures)
           (site-area (length l) (a .z) (R .ranged) (R .fits) (a .site) (low (c .before) .0)),
       low (c .before) .1,

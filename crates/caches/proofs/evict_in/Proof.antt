@@ -8,7 +8,8 @@ use lib.ListN.{length}
 use Rattle.layout.specs.Reading.{storeOf}
 use Rattle.model.specs.Caches.{evictCause}
 use Rattle.version.proofs.Stores.{site-area}
-use Rattle.caches.proofs.Known.{Known, known, form-long, one-low}
+use Rattle.form.specs.Parts.{StoreArea}
+use Rattle.caches.proofs.Known.{form-long, form-area, one-low}
 use Rattle.caches.proofs.Evicts.{evict-ready, evict-refused, evict-done}
 use Rattle.caches.proofs.evict_in.Statement.{statement}
 use Rattle.caches.proofs.evict_in.Tie as tie
@@ -35,11 +36,11 @@ free : (c : tie.Else1) → let a = c .before .before .before .before .before .be
 free c = sym (c .before .evict-cause .ensures) ∙ c .if1 .left
 
 counted : (c : tie.Else1)
-    → Known (c .before .before .before .before .before .before .args .words .now)
+    → StoreArea (length (c .before .before .before .before .before .before .args .words .now))
     (c .before .before .before .counts .result)
-    (c .before .before .before .before .before .before .pre)
+counted c =
+    form-area _ _ (c .before .before .before .before .before .before .pre)
     (c .before .before .before .counts .ensures)
-counted c = known _ _ _ _
 
 ready : (c : tie.Else1) → let a = c .before .before .before .before .before .before .args in
     let z = c .before .before .before .counts .result in

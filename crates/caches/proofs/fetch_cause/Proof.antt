@@ -12,7 +12,7 @@ use Rattle.model.specs.Outcome.{refuse}
 use Rattle.model.specs.Caches.{fetchCause}
 use Rattle.layout.specs.Reading.{readPlace, storeOf}
 use Rattle.version.proofs.Stores.{master-area}
-use Rattle.caches.proofs.Known.{known, master-found, range-in}
+use Rattle.caches.proofs.Known.{form-area, master-found, range-in}
 use Rattle.caches.proofs.Fetches.{fetch-cause, unfetchable-one}
 use Rattle.caches.proofs.fetch_cause.Statement.{statement}
 use Rattle.caches.proofs.fetch_cause.Tie as tie
@@ -38,14 +38,14 @@ low c =
 areas-requires : tie.Need-areas-requires
 areas-requires c κs =
     let s = c .before .before .before in
-    known (s .args .words .now) (s .args .z) (s .pre .0) (s .pre .1) .ranged
+    form-area (s .args .words .now) (s .args .z) (s .pre .0) (s .pre .1) .ranged
 
 held-requires : tie.Need-held-requires
 held-requires c κs =
     let s = c .before .before .before .before in
     let a = s .args in
     let l = a .words .now in
-    let R = known l (a .z) (s .pre .0) (s .pre .1) in (
+    let R = form-area l (a .z) (s .pre .0) (s .pre .1) in (
       rw (master-found (a .z) (c .areas .result) (c .areas .ensures))
           (master-area (length l) (a .z) (R .ranged) (R .fits)),
       low (c .before),

@@ -8,7 +8,8 @@ use lib.ListN.{length}
 use Rattle.layout.specs.Reading.{storeOf}
 use Rattle.model.specs.Caches.{fetchCause}
 use Rattle.version.proofs.Stores.{site-master}
-use Rattle.caches.proofs.Known.{Known, known, form-long, master-found, one-low}
+use Rattle.form.specs.Parts.{StoreArea}
+use Rattle.caches.proofs.Known.{form-long, form-area, master-found, one-low}
 use Rattle.caches.proofs.Fetches.{fetch-ready, fetch-refused, fetch-done}
 use Rattle.caches.proofs.fetch_in.Statement.{statement}
 use Rattle.caches.proofs.fetch_in.Tie as tie
@@ -35,11 +36,11 @@ free : (c : tie.Else1) → let a = c .before .before .before .before .before .be
 free c = sym (c .before .fetch-cause .ensures) ∙ c .if1 .left
 
 counted : (c : tie.Else1)
-    → Known (c .before .before .before .before .before .before .args .words .now)
+    → StoreArea (length (c .before .before .before .before .before .before .args .words .now))
     (c .before .before .before .counts .result)
-    (c .before .before .before .before .before .before .pre)
+counted c =
+    form-area _ _ (c .before .before .before .before .before .before .pre)
     (c .before .before .before .counts .ensures)
-counted c = known _ _ _ _
 
 ready : (c : tie.Else1) → let a = c .before .before .before .before .before .before .args in
     let z = c .before .before .before .counts .result in
