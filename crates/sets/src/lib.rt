@@ -1,0 +1,228 @@
+// The least sets T, E and C as masks of keys, from the places of a buffer, and the caches that T
+// and E leave.
+use masks::has;
+use masks::with_if;
+use reach::grow;
+use sizes::Counts;
+use version::clear_keys;
+use version::copy_keys;
+use version::held;
+use version::meets;
+use version::needs;
+ghost use mathlib.Core.Path.{_≡_};
+ghost use Prim.Native.Nat.{_<_, _^_};
+ghost use lib.ListN.{length};
+ghost use Rattle.masks.specs.Mask.{testBit, maskBelow};
+ghost use Rattle.model.specs.Version.{versions};
+ghost use Rattle.model.specs.Sets.{drawSet, fetchSet, fetched, evictSet, evicted};
+ghost use Rattle.layout.specs.Reading.{readPlace};
+ghost use Rattle.version.specs.Places.{putPlace, Area, Areas};
+ghost use Rattle.sets.specs.Draws.{viewAt, viewed, DrawArea, drawsIn, evictsIn, rowsOf};
+
+// The mask of every key.
+const EVERY_KEY: u32 = 4294967295;
+
+// A place seen through a mask: the first for the keys of the mask, the second for the others.
+pub struct View {
+    pub mask: u32,
+    pub first: usize,
+    pub second: usize,
+}
+
+impl View {
+    // The place that begins at an index, as it is.
+    pub fn of(at: usize) -> View
+        ensures { λ r. ⌜ r ≡ record { mask = 0; first = at; second = at } ⌝ }
+    {
+        View {
+            mask: 0,
+            first: at,
+            second: at,
+        }
+    }
+
+    // Where the place begins from which key k is read.
+    pub fn place(self, k: usize) -> usize
+        requires { ⌜ k < 32 ⌝ }
+        ensures { λ r. ⌜ r ≡ viewAt self k ⌝ }
+    {
+        if has(self.mask, k as u32) {
+            self.first
+        } else {
+            self.second
+        }
+    }
+}
+
+// Whether t draws in d: d is in the scope, needed by the source's t, the target does not meet that
+// need and the source holds d.
+pub fn draws(
+    words: &[u32],
+    z: Counts,
+    scope: u32,
+    target: usize,
+    source: View,
+    t: usize,
+    d: usize,
+) -> bool
+    requires { ⌜ DrawArea (length (now words)) z target source ⌝ }
+    requires { ⌜ (t < z .keys) × (d < z .keys) ⌝ }
+    ensures { λ r. ⌜ r ≡ drawsIn z (now (words .entry)) scope target source t d ⌝ }
+{
+    let from = source.place(t);
+    let other = source.place(d);
+    has(scope, d as u32)
+        & (needs(words, z, from, t, d)
+            & (!meets(words, z, target, d, from, t) & held(words, z, other, d)))
+}
+
+// The keys that t draws in.
+pub fn draw_row(words: &[u32], z: Counts, scope: u32, target: usize, source: View, t: usize) -> u32
+    requires { ⌜ DrawArea (length (now words)) z target source ⌝ }
+    requires { ⌜ t < z .keys ⌝ }
+    ensures { λ r. ⌜ r ≡ maskBelow (z .keys)
+        (drawsIn z (now (words .entry)) scope target source t) ⌝ }
+{
+    let n = z.keys;
+    let mut mask: u32 = 0;
+    let mut d = 0;
+    while d < n {
+        mask = with_if(draws(words, z, scope, target, source, t, d), mask, d as u32);
+        d += 1;
+    }
+    mask
+}
+
+// For each key, the keys that it draws in.
+pub fn draw_table(words: &[u32], z: Counts, scope: u32, target: usize, source: View) -> [u32; 32]
+    requires { ⌜ DrawArea (length (now words)) z target source ⌝ }
+    ensures { λ r. ⌜ r ≡ rowsOf (z .keys)
+        (drawsIn z (now (words .entry)) scope target source) ⌝ }
+{
+    let n = z.keys;
+    let mut rows = [0u32; 32];
+    let mut t = 0;
+    while t < n {
+        rows[t] = draw_row(words, z, scope, target, source, t);
+        t += 1;
+    }
+    rows
+}
+
+// The least set that holds the start and what its members draw in.
+pub fn draw_set(
+    words: &[u32],
+    z: Counts,
+    scope: u32,
+    target: usize,
+    source: View,
+    start: u32,
+) -> u32
+    requires { ⌜ DrawArea (length (now words)) z target source ⌝ }
+    requires { ⌜ start < 2 ^ z .keys ⌝ }
+    ensures { λ r. ⌜ r ≡ maskBelow (z .keys)
+        (drawSet (versions (z .writers)) (z .keys) (testBit scope)
+        (readPlace z (now (words .entry)) target) (viewed z (now (words .entry)) source)
+        (testBit start)) ⌝ }
+{
+    let n = z.keys;
+    let drawn = draw_table(words, z, scope, target, source);
+    grow(&drawn, n as u32, start)
+}
+
+// T: the keys that a cache takes from the master.
+pub fn fetch_set(words: &[u32], z: Counts, master: usize, cache: usize, start: u32) -> u32
+    requires { ⌜ Area (length (now words)) z master × Area (length (now words)) z cache ⌝ }
+    requires { ⌜ start < 2 ^ z .keys ⌝ }
+    ensures { λ r. ⌜ r ≡ maskBelow (z .keys)
+        (fetchSet (versions (z .writers)) (z .keys) (readPlace z (now (words .entry)) master)
+        (readPlace z (now (words .entry)) cache) (testBit start)) ⌝ }
+{
+    let source = View::of(master);
+    draw_set(words, z, EVERY_KEY, cache, source, start)
+}
+
+// The cache takes the master's version of each key in T. Answers T.
+pub fn fetch_keys(words: &mut [u32], z: Counts, master: usize, cache: usize, start: u32) -> u32
+    requires { ⌜ Areas (length (now words)) z cache master ⌝ }
+    requires { ⌜ start < 2 ^ z .keys ⌝ }
+    ensures answers { λ r. ⌜ r ≡ maskBelow (z .keys)
+        (fetchSet (versions (z .writers)) (z .keys) (readPlace z (now (words .entry)) master)
+        (readPlace z (now (words .entry)) cache) (testBit start)) ⌝ }
+    ensures leaves { λ _. ⌜ now (words .exit) ≡ putPlace z (now (words .entry)) cache
+        (fetched (versions (z .writers)) (z .keys) (readPlace z (now (words .entry)) master)
+        (readPlace z (now (words .entry)) cache) (testBit start)) ⌝ }
+{
+    let taken = fetch_set(words, z, master, cache, start);
+    copy_keys(words, z, cache, master, taken);
+    taken
+}
+
+// Whether d leaves with t: d is held and needs t.
+pub fn evicts(words: &[u32], z: Counts, at: usize, t: usize, d: usize) -> bool
+    requires { ⌜ Area (length (now words)) z at ⌝ }
+    requires { ⌜ (t < z .keys) × (d < z .keys) ⌝ }
+    ensures { λ r. ⌜ r ≡ evictsIn z (now (words .entry)) at t d ⌝ }
+{
+    held(words, z, at, d) & needs(words, z, at, d, t)
+}
+
+// The keys that leave with t.
+pub fn evict_row(words: &[u32], z: Counts, at: usize, t: usize) -> u32
+    requires { ⌜ Area (length (now words)) z at ⌝ }
+    requires { ⌜ t < z .keys ⌝ }
+    ensures { λ r. ⌜ r ≡ maskBelow (z .keys) (evictsIn z (now (words .entry)) at t) ⌝ }
+{
+    let n = z.keys;
+    let mut mask: u32 = 0;
+    let mut d = 0;
+    while d < n {
+        mask = with_if(evicts(words, z, at, t, d), mask, d as u32);
+        d += 1;
+    }
+    mask
+}
+
+// For each key, the keys that leave with it.
+pub fn evict_table(words: &[u32], z: Counts, at: usize) -> [u32; 32]
+    requires { ⌜ Area (length (now words)) z at ⌝ }
+    ensures { λ r. ⌜ r ≡ rowsOf (z .keys) (evictsIn z (now (words .entry)) at) ⌝ }
+{
+    let n = z.keys;
+    let mut rows = [0u32; 32];
+    let mut t = 0;
+    while t < n {
+        rows[t] = evict_row(words, z, at, t);
+        t += 1;
+    }
+    rows
+}
+
+// E: the keys of the start, and the held ones that need a member.
+pub fn evict_set(words: &[u32], z: Counts, at: usize, start: u32) -> u32
+    requires { ⌜ Area (length (now words)) z at ⌝ }
+    requires { ⌜ start < 2 ^ z .keys ⌝ }
+    ensures { λ r. ⌜ r ≡ maskBelow (z .keys)
+        (evictSet (versions (z .writers)) (z .keys) (readPlace z (now (words .entry)) at)
+        (testBit start)) ⌝ }
+{
+    let n = z.keys;
+    let leaving = evict_table(words, z, at);
+    grow(&leaving, n as u32, start)
+}
+
+// E leaves the cache. Answers E.
+pub fn evict_keys(words: &mut [u32], z: Counts, at: usize, start: u32) -> u32
+    requires { ⌜ Area (length (now words)) z at ⌝ }
+    requires { ⌜ start < 2 ^ z .keys ⌝ }
+    ensures answers { λ r. ⌜ r ≡ maskBelow (z .keys)
+        (evictSet (versions (z .writers)) (z .keys) (readPlace z (now (words .entry)) at)
+        (testBit start)) ⌝ }
+    ensures leaves { λ _. ⌜ now (words .exit) ≡ putPlace z (now (words .entry)) at
+        (evicted (versions (z .writers)) (z .keys) (readPlace z (now (words .entry)) at)
+        (testBit start)) ⌝ }
+{
+    let gone = evict_set(words, z, at, start);
+    clear_keys(words, z, at, gone);
+    gone
+}
