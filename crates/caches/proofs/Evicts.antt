@@ -24,7 +24,7 @@ use Rattle.layout.specs.Reading.{readPlace, countsIn, storeOf}
 use Rattle.layout.specs.Buffer.{inForm}
 use Rattle.layout.specs.Calls.{on, onStore, callOn, leaves}
 use Rattle.layout.proofs.Readings.{counts-in, cache-in}
-use Rattle.layout.proofs.Kept.{no-cause}
+use Rattle.model.proofs.Outcomes.{no-cause}
 use Rattle.layout.proofs.Forms.{form-refused, form-done}
 use Rattle.version.specs.Places.{putPlace}
 use Rattle.caches.specs.declared.Evicted.{Evicted}
