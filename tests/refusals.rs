@@ -137,7 +137,7 @@ fn of_form(t: &mut Trials) {
 }
 
 fn of_runs(t: &mut Trials) {
-    let mut d = Desk::of(120, 0);
+    let mut d = Desk::of(130, 0);
     d.call(&Call::New(2, 2, 2, 2));
     let nine = [0u32; 27];
     t.refused("open 3", &mut d, Call::Open(2, &[0, 0, 0]), 3);
