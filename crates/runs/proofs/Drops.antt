@@ -17,7 +17,7 @@ use Rattle.layout.specs.Calls.{on, callOn, leaves}
 use Rattle.layout.proofs.Forms.{no-form, form-refused, form-done}
 use Rattle.runs.specs.declared.Dropped.{Dropped}
 use Rattle.runs.specs.Runs.{dropped, runCause, FormWith, putRun}
-use Rattle.runs.proofs.Known.{cause-none, run-stored}
+use Rattle.runs.proofs.Known.{cause-below, run-stored}
 
 drop-rule : (r : ℕ) (s : Store)
     → ruleOf (dropRun r) s ≡ unless (runCause s dropRow r) (dropDone s r)
@@ -47,6 +47,6 @@ pub drop-done : (l : List ℕ) (z : Counts) (r : ℕ) (m : List ℕ) → FormWit
 unfolding dropped leaves dropDone
 drop-done l z r m H e f =
     let s = storeOf l in
-    let h = cause-none l z dropRow r H e .0 in
+    let h = cause-below l z dropRow r H e in
     rw (form-done (dropRun r) l _ (dropDone s r) (H .form) (drop-rule r s) e)
     (refl, f ∙ run-stored l z r freeRun H h)

@@ -7,7 +7,7 @@ use mathlib.Core.Bool.{Bool, So, not}
 use mathlib.Core.List.{List}
 use Prim.Native.Nat.{ℕ, _+_, _≤_, _<_}
 use native.Mathlib.Omega.{arith}
-use lib.Dec.{eqb, leb}
+use lib.Dec.{eqb}
 use lib.ListN.{length, getD}
 use Rattle.words.proofs.Bools.{test, and-left, le-leb, gt-leb, leb-gt, eqb-eq, eqb-ne}
 use Rattle.sizes.specs.declared.Counts.{Counts}
@@ -23,7 +23,7 @@ use Rattle.layout.proofs.Readings.{counts-in, run-in}
 use Rattle.layout.proofs.Formed.{well-out}
 use Rattle.layout.proofs.Plans.{plan-out}
 use Rattle.layout.proofs.Follow.{form-fine}
-use Rattle.model.proofs.Outcomes.{no-cause, no-lack}
+use Rattle.model.proofs.Outcomes.{no-cause}
 use Rattle.form.specs.Parts.{RunArea, StoreArea}
 use Rattle.form.proofs.Stores.{run-area, shaped-area, shaped-long}
 use Rattle.runs.specs.Runs.{FormWith, putRun, runCause}
@@ -39,6 +39,9 @@ form-long l p = shaped-long l (in-shape l p)
 
 pub form-area : (l : List ℕ) (z : Counts) → FormWith l z → StoreArea (length l) z
 form-area l z H = rw (H .counts) (shaped-area l (in-shape l (H .form)))
+
+pub form-counts : (l : List ℕ) (z : Counts) → FormWith l z → storeOf l .counts ≡ z
+form-counts l z H = counts-in l ∙ sym (H .counts)
 
 -- ---- one run
 
@@ -87,8 +90,7 @@ run-stored l z r a H h =
 pub cause-high : (l : List ℕ) (z : Counts) (row r : ℕ) → FormWith l z → z .runs ≤ r
     → 3 ≡ runCause (storeOf l) row r
 unfolding runCause refuse
-cause-high l z row r H h =
-    let e : storeOf l .counts ≡ z = counts-in l ∙ sym (H .counts) in rw (e, le-leb _ _ h)
+cause-high l z row r H h = rw (form-counts l z H, le-leb _ _ h)
 
 -- b: what the code finds of the word at the run's index.
 pub cause-state : (l : List ℕ) (z : Counts) (row r : ℕ) → FormWith l z → r < z .runs
@@ -96,15 +98,11 @@ pub cause-state : (l : List ℕ) (z : Counts) (row r : ℕ) → FormWith l z →
     → refuse (not b) 4 0 ≡ runCause (storeOf l) row r
 unfolding runCause refuse readRun
 cause-state l z row r H h at b e f =
-    let c : storeOf l .counts ≡ z = counts-in l ∙ sym (H .counts) in
-    rw (c, gt-leb _ _ h, run-known l z r H h .run, ← e, ← f)
+    rw (form-counts l z H, gt-leb _ _ h, run-known l z r H h .run, ← e, ← f)
 
--- Where they do not hold, run r is one of the runs and in a state that the call allows.
-pub cause-none : (l : List ℕ) (z : Counts) (row r : ℕ) → FormWith l z
-    → runCause (storeOf l) row r ≡ 0 → (r < z .runs) × So (allowed row (storeOf l .run r .state))
+-- Where they do not hold, run r is one of the runs.
+pub cause-below : (l : List ℕ) (z : Counts) (row r : ℕ) → FormWith l z
+    → runCause (storeOf l) row r ≡ 0 → r < z .runs
 unfolding runCause
-cause-none l z row r H e =
-    let c : storeOf l .counts ≡ z = counts-in l ∙ sym (H .counts) in
-    let a = no-cause (leb (storeOf l .counts .runs) r) 3 _ (omega arith) e in
-    let b = no-lack (allowed row (storeOf l .run r .state)) 4 0 (omega arith) (a .1) in
-    (rw (← c) (leb-gt _ _ (a .0)), b .0)
+cause-below l z row r H e =
+    rw (← form-counts l z H) (leb-gt _ _ (no-cause _ 3 _ (omega arith) e .0))

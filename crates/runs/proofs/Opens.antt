@@ -1,7 +1,7 @@
 -- What open comes to: refused on a buffer not in form, refused by its cause, or done.
 -- cause-run, cause-list: its cause, as the code tests it. OpenReady, open-ready: no cause.
 -- Assumes nothing.
-use mathlib.Core.Path.{_≡_, refl, sym, _∙_}
+use mathlib.Core.Path.{_≡_, refl, _∙_}
 use mathlib.Core.Bool.{Bool, true, false, cond, not, So, false≢true}
 use mathlib.Core.Logic.{_≢_}
 use mathlib.Core.List.{List}
@@ -20,14 +20,13 @@ use Rattle.layout.specs.Reading.{storeOf, readRun}
 use Rattle.layout.specs.Buffer.{inForm}
 use Rattle.layout.specs.Calls.{on, callOn, leaves}
 use Rattle.layout.proofs.Parts.{run-laws}
-use Rattle.layout.proofs.Readings.{counts-in}
 use Rattle.model.proofs.Outcomes.{no-cause, no-lack}
 use Rattle.layout.proofs.KeptOpen.{Listed, list-out}
 use Rattle.layout.proofs.Forms.{no-form, form-refused, form-done}
 use Rattle.runs.specs.declared.Opened.{Opened}
 use Rattle.runs.specs.Runs.{opened, runCause, FormWith, putJobs}
 use Rattle.runs.proofs.Freed.{free-is}
-use Rattle.runs.proofs.Known.{area-ends, run-known, run-stored}
+use Rattle.runs.proofs.Known.{form-counts, area-ends, run-known, run-stored}
 use Rattle.runs.proofs.Started.{jobs-stored}
 
 -- ---- its cause
@@ -56,8 +55,7 @@ pub cause-list : (l : List ℕ) (z : Counts) (r : ℕ) (jobs : List ℕ) (b : Bo
     → runCause (storeOf l) openRow r ≡ 0 → b ≡ listValid z jobs
     → refuse (not b) 5 0 ≡ openCause (storeOf l) r jobs
 cause-list l z r jobs b H e f =
-    let c : storeOf l .counts ≡ z = counts-in l ∙ sym (H .counts) in
-    rw (open-cause (storeOf l) r jobs, e, c, ← f)
+    rw (open-cause (storeOf l) r jobs, e, form-counts l z H, ← f)
 
 -- Only a free run may be opened.
 free-state : (n : ℕ) → n < 3 → So (allowed openRow n) → n ≡ 0
@@ -77,7 +75,7 @@ pub open-ready : (l : List ℕ) (z : Counts) (r : ℕ) (jobs : List ℕ) → For
 unfolding openCause readRun
 open-ready l z r jobs H e =
     let s = storeOf l in
-    let c : s .counts ≡ z = counts-in l ∙ sym (H .counts) in
+    let c = form-counts l z H in
     let a = no-cause (leb (s .counts .runs) r) 3 _ (omega arith) e in
     let b = no-lack (allowed openRow (s .run r .state)) 4 _ (omega arith) (a .1) in
     let d = no-lack (listValid (s .counts) jobs) 5 0 (omega arith) (b .1) in

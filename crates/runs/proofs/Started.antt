@@ -1,5 +1,5 @@
 -- What open stores over a free run are the words of the run that it opens.
--- length-jobs: they leave the length. jobs-stored: they make the opened run of a free one.
+-- jobs-stored: they make the opened run of a free one.
 -- Assumes nothing.
 use mathlib.Core.Path.{_≡_, refl, sym, ap, _∙_, fun-ext}
 use mathlib.Core.Logic.{⊎-elim}
@@ -8,11 +8,10 @@ use Prim.Native.Nat.{ℕ, _+_, _*_, _≤_, _<_}
 use native.Mathlib.Nat.{add-zero}
 use native.Mathlib.Numerals.{add-one}
 use native.Mathlib.Omega.{arith}
-use lib.ListN.{length, set, length-append, length-set, List·getD-eq-default}
+use lib.ListN.{length, set, length-append, List·getD-eq-default}
 use lib.Seq.{sets}
 use Rattle.words.proofs.Tests.{below-or-not}
 use Rattle.words.proofs.Lists.{upto-out}
-use Rattle.words.proofs.Words.{length-put}
 use Rattle.words.proofs.Stores.{sets-left, sets-behind}
 use Rattle.sizes.specs.declared.Counts.{Counts}
 use Rattle.sizes.specs.Bounds.{maxJobs, runSize}
@@ -103,10 +102,6 @@ opened-words z l L =
     ∙ ap (λ (t : List ℕ). t ++ snapshot) (jobs-listed z l L))
 
 -- ---- in a buffer
-
-pub length-jobs : (l : List ℕ) (at : ℕ) (jobs : List ℕ) → length (putJobs l at jobs) ≡ length l
-unfolding putJobs
-length-jobs l at jobs = rw (length-put, length-set, length-set)
 
 long-run : (z : Counts) → 28 ≤ runSize z
 unfolding runSize

@@ -7,7 +7,7 @@ use Rattle.model.specs.Store.{freeRun}
 use Rattle.model.specs.Outcome.{dropRow}
 use Rattle.layout.specs.Reading.{storeOf}
 use Rattle.runs.specs.Runs.{FormWith, putRun, runCause}
-use Rattle.runs.proofs.Known.{form-long, RunKnown, run-known, cause-none}
+use Rattle.runs.proofs.Known.{form-long, RunKnown, run-known, cause-below}
 use Rattle.runs.proofs.Drops.{drop-refused, drop-done}
 use Rattle.runs.proofs.drop_in.Statement.{statement}
 use Rattle.runs.proofs.drop_in.Tie as tie
@@ -47,7 +47,7 @@ free c = sym (c .before .run-cause .ensures) ∙ c .if1 .left
 below : (c : tie.Else1)
     → c .before .before .before .before .before .wide .result
     < c .before .before .before .counts .result .runs
-below c = cause-none _ _ dropRow _ (holds c) (free c) .0
+below c = cause-below _ _ dropRow _ (holds c) (free c)
 
 known : (c : tie.Else1) → let n = c .before .before .before in
     RunKnown (n .before .before .before .before .args .words .now) (n .counts .result)

@@ -4,9 +4,9 @@ use mathlib.Core.Path.{refl, ap, _∙_}
 use borrow.Author.Needs.{needs}
 use native.Mathlib.Omega.{arith}
 use lib.ListN.{length, length-set}
+use Rattle.words.proofs.Words.{length-put}
 use Rattle.model.specs.Runs.{listedCount}
 use Rattle.runs.specs.Runs.{putJobs}
-use Rattle.runs.proofs.Started.{length-jobs}
 use Rattle.runs.proofs.jobs.put_jobs.Statement.{statement}
 use Rattle.runs.proofs.jobs.put_jobs.Tie as tie
 
@@ -35,11 +35,8 @@ copy-list-requires : tie.Need-copy-list-requires
 copy-list-requires c κs = rw (length-set, length-set) (omega arith)
 
 same-length : tie.Need-same-length
-unfolding putJobs listedCount
 same-length c =
-    let p = c .before .before in
-    let a = p .before .before .before .before .args in
-    ap length (p .copy-list .ensures) ∙ length-jobs (a .words .now) (a .at) (a .jobs .now)
+    ap length (c .before .before .copy-list .ensures) ∙ rw (length-put, length-set, length-set)
 
 returns : tie.Need-returns
 unfolding putJobs listedCount
