@@ -1,14 +1,14 @@
 -- What evict comes to on a buffer in form: refused by its cause, or done.
 -- evict-cause: the cause as the code tests it. evict-ready: what holds if there is none.
--- evict-refused, evict-done: answer and buffer. evict-told: the enum tells the whole answer.
+-- evict-refused, evict-done: answer and buffer.
 -- Assumes nothing.
 use mathlib.Core.Path.{_≡_, refl, sym, ap, _∙_}
-use mathlib.Core.Bool.{Bool, true, false, cond, not, So, _||_}
+use mathlib.Core.Bool.{not, So, _||_}
 use mathlib.Core.Logic.{_≢_}
 use mathlib.Core.List.{List, [], _∷_}
 use Prim.Native.Nat.{ℕ, _<_}
 use native.Mathlib.Omega.{arith}
-use lib.Dec.{leb, eqb}
+use lib.Dec.{leb}
 use Rattle.words.specs.Tests.{Items, only}
 use Rattle.masks.specs.Mask.{testBit, withBit, maskBelow}
 use Rattle.sizes.specs.declared.Counts.{Counts}
@@ -17,19 +17,18 @@ use Rattle.model.specs.Algebra.{Place}
 use Rattle.model.specs.Version.{Version, held, versions}
 use Rattle.model.specs.Sets.{evictSet, evicted}
 use Rattle.model.specs.Store.{Store, withCache}
-use Rattle.model.specs.Outcome.{refused, done, answer, refuse, unless}
+use Rattle.model.specs.Outcome.{done, answer, refuse, unless}
 use Rattle.model.specs.Caches.{evictCause, evictDone, evictRule}
 use Rattle.model.specs.Calls.{evict, ruleOf}
 use Rattle.layout.specs.Reading.{readPlace, countsIn, storeOf}
 use Rattle.layout.specs.Buffer.{inForm}
-use Rattle.layout.specs.Calls.{on, onStore, callOn, leaves}
+use Rattle.layout.specs.Calls.{on, callOn, leaves}
 use Rattle.layout.proofs.Readings.{counts-in, cache-in}
 use Rattle.model.proofs.Outcomes.{no-cause}
-use Rattle.layout.proofs.Forms.{form-refused, form-done}
-use Rattle.version.specs.Places.{putPlace}
-use Rattle.caches.specs.declared.Evicted.{Evicted}
-use Rattle.caches.specs.Answers.{evictedAs, evictedWords}
-use Rattle.caches.proofs.Known.{cache-stored, range-cause, range-in, one-key, Ends, ends}
+use Rattle.layout.proofs.Forms.{form-done}
+use Rattle.layout.specs.Stored.{putPlace}
+use Rattle.form.proofs.Known.{cache-stored, Ends, ends, ends-refused}
+use Rattle.caches.proofs.Known.{range-cause, range-in, one-key}
 
 -- ---- the cause
 
@@ -53,13 +52,11 @@ unfolding ruleOf evictRule
 evict-rule o k s = refl
 
 pub evict-refused : (l : List ℕ) (o k n : ℕ) → So (inForm l) → n ≡ evictCause (storeOf l) o k
-    → n ≢ 0 → Ends evictedAs (evict o k) l (Evicted.Refused n) l
-unfolding evictedAs leaves
+    → n ≢ 0 → Ends (evict o k) l (2 ∷ n ∷ []) l
 evict-refused l o k n F e h =
     let s = storeOf l in
     let rule : ruleOf (evict o k) s ≡ unless n (evictDone s o k) = rw e (evict-rule o k s) in
-    ends evictedAs (evict o k) l (refused n) (Evicted.Refused n) l F
-    (form-refused (evict o k) l n (evictDone s o k) F rule h) refl refl
+    ends-refused (evict o k) l n (evictDone s o k) F rule h
 
 -- E of one key, and the cache without it, as the code reads them.
 abbrev goneOf : Counts → List ℕ → ℕ → Items → ℕ
@@ -83,26 +80,12 @@ module _ (l : List ℕ) (z : Counts) (F : So (inForm l)) (e : z ≡ countsIn l) 
 
   pub evict-done : (at start E : ℕ) (m : List ℕ) → at ≡ siteAt z o → start ≡ withBit 0 k
       → E ≡ goneOf z l at (testBit start) → m ≡ putPlace z l at (cacheOf z l at (testBit start))
-      → Ends evictedAs (evict o k) l (Evicted.Done E) m
-  unfolding evictedAs leaves
+      → Ends (evict o k) l (0 ∷ E ∷ []) m
+  unfolding answer leaves
   evict-done at start E m b d p q =
       let g : E ≡ goneOf z l (siteAt z o) (only k) = rw (← b, ← one-key k, ← d) p in
       let n : m ≡ putPlace z l (siteAt z o) (cacheOf z l (siteAt z o) (only k)) =
       rw (← b, ← one-key k, ← d) q in
-      ends evictedAs (evict o k) l _ (Evicted.Done E) m F gone-as (ap Evicted.Done g)
-      (n ∙ cache-stored l z F e o (cacheOf z l (siteAt z o) (only k))
+      ends (evict o k) l _ (0 ∷ E ∷ []) m gone-as (ap (λ (E : ℕ). 0 ∷ E ∷ []) g)
+      (n ∙ cache-stored l z (record { form = F; counts = e }) o (cacheOf z l (siteAt z o) (only k))
       (evict-ready l z e o k free .0))
-
--- ---- the answer
-
-pub evict-told : (o k : ℕ) (l : List ℕ)
-    → evictedWords (evictedAs (callOn (on (evict o k)) l)) ≡ answer (callOn (on (evict o k)) l)
-unfolding callOn onStore ruleOf evictRule unless evictDone answer evictedAs evictedWords
-evict-told o k l = go (inForm l) (eqb (evictCause (storeOf l) o k) 0) _ _ _
-  where
-    go : (b c : Bool) (n E : ℕ) (s : Store) →
-        let x = cond b (cond c (done (E ∷ []) s) (refused n)) (refused 1) in
-        evictedWords (evictedAs x) ≡ answer x
-    go true true n E s = refl
-    go true false n E s = refl
-    go false c n E s = refl

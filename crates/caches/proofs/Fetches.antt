@@ -1,10 +1,9 @@
 -- What fetch comes to on a buffer in form: refused by its cause, or done.
 -- fetch-cause, unfetchable-one: the cause as the code tests it. fetch-ready: what holds if there
--- is none. fetch-refused, fetch-done: answer and buffer. fetch-told: the enum tells the whole
--- answer.
+-- is none. fetch-refused, fetch-done: answer and buffer.
 -- Assumes nothing.
 use mathlib.Core.Path.{_≡_, refl, sym, ap, _∙_}
-use mathlib.Core.Bool.{Bool, true, false, cond, not, So, _&&_, _||_}
+use mathlib.Core.Bool.{not, So, _&&_, _||_}
 use mathlib.Core.Logic.{_≢_}
 use mathlib.Core.List.{List, [], _∷_}
 use Prim.Native.Nat.{ℕ, _<_}
@@ -20,19 +19,18 @@ use Rattle.model.specs.Algebra.{Algebra, Place, lacking}
 use Rattle.model.specs.Version.{Version, versions}
 use Rattle.model.specs.Sets.{fetchSet, fetched, unfetchable}
 use Rattle.model.specs.Store.{Store, withCache}
-use Rattle.model.specs.Outcome.{refused, done, answer, refuse, unless}
+use Rattle.model.specs.Outcome.{done, answer, refuse, unless}
 use Rattle.model.specs.Caches.{fetchCause, fetchDone, fetchRule}
 use Rattle.model.specs.Calls.{fetch, ruleOf}
 use Rattle.layout.specs.Reading.{readPlace, countsIn, storeOf}
 use Rattle.layout.specs.Buffer.{inForm}
-use Rattle.layout.specs.Calls.{on, onStore, callOn, leaves}
+use Rattle.layout.specs.Calls.{on, callOn, leaves}
 use Rattle.layout.proofs.Readings.{counts-in, master-in, cache-in}
 use Rattle.model.proofs.Outcomes.{no-cause}
-use Rattle.layout.proofs.Forms.{form-refused, form-done}
-use Rattle.version.specs.Places.{putPlace}
-use Rattle.caches.specs.declared.Fetched.{Fetched}
-use Rattle.caches.specs.Answers.{fetchedAs, fetchedWords}
-use Rattle.caches.proofs.Known.{cache-stored, range-cause, range-in, one-key, Ends, ends}
+use Rattle.layout.proofs.Forms.{form-done}
+use Rattle.layout.specs.Stored.{putPlace}
+use Rattle.form.proofs.Known.{cache-stored, Ends, ends, ends-refused}
+use Rattle.caches.proofs.Known.{range-cause, range-in, one-key}
 
 -- ---- the cause
 
@@ -76,13 +74,11 @@ unfolding ruleOf fetchRule
 fetch-rule o k s = refl
 
 pub fetch-refused : (l : List ℕ) (o k n : ℕ) → So (inForm l) → n ≡ fetchCause (storeOf l) o k
-    → n ≢ 0 → Ends fetchedAs (fetch o k) l (Fetched.Refused n) l
-unfolding fetchedAs leaves
+    → n ≢ 0 → Ends (fetch o k) l (2 ∷ n ∷ []) l
 fetch-refused l o k n F e h =
     let s = storeOf l in
     let rule : ruleOf (fetch o k) s ≡ unless n (fetchDone s o k) = rw e (fetch-rule o k s) in
-    ends fetchedAs (fetch o k) l (refused n) (Fetched.Refused n) l F
-    (form-refused (fetch o k) l n (fetchDone s o k) F rule h) refl refl
+    ends-refused (fetch o k) l n (fetchDone s o k) F rule h
 
 -- T of one key, and the cache with it, as the code reads them.
 abbrev takenOf : Counts → List ℕ → ℕ → ℕ → Items → ℕ
@@ -110,27 +106,13 @@ module _ (l : List ℕ) (z : Counts) (F : So (inForm l)) (e : z ≡ countsIn l) 
       → cache ≡ siteAt z o → start ≡ withBit 0 k
       → T ≡ takenOf z l master cache (testBit start)
       → m ≡ putPlace z l cache (cacheOf z l master cache (testBit start))
-      → Ends fetchedAs (fetch o k) l (Fetched.Done T) m
-  unfolding fetchedAs leaves
+      → Ends (fetch o k) l (0 ∷ T ∷ []) m
+  unfolding answer leaves
   fetch-done master cache start T m a b d p q =
       let t : T ≡ takenOf z l (masterAt z) (siteAt z o) (only k) =
       rw (← a, ← b, ← one-key k, ← d) p in
       let n : m ≡ putPlace z l (siteAt z o) (cacheOf z l (masterAt z) (siteAt z o) (only k)) =
       rw (← a, ← b, ← one-key k, ← d) q in
-      ends fetchedAs (fetch o k) l _ (Fetched.Done T) m F taken-as (ap Fetched.Done t)
-      (n ∙ cache-stored l z F e o (cacheOf z l (masterAt z) (siteAt z o) (only k))
+      ends (fetch o k) l _ (0 ∷ T ∷ []) m taken-as (ap (λ (T : ℕ). 0 ∷ T ∷ []) t)
+      (n ∙ cache-stored l z (record { form = F; counts = e }) o (cacheOf z l (masterAt z) (siteAt z o) (only k))
       (fetch-ready l z e o k free .0))
-
--- ---- the answer
-
-pub fetch-told : (o k : ℕ) (l : List ℕ)
-    → fetchedWords (fetchedAs (callOn (on (fetch o k)) l)) ≡ answer (callOn (on (fetch o k)) l)
-unfolding callOn onStore ruleOf fetchRule unless fetchDone answer fetchedAs fetchedWords
-fetch-told o k l = go (inForm l) (eqb (fetchCause (storeOf l) o k) 0) _ _ _
-  where
-    go : (b c : Bool) (n T : ℕ) (s : Store) →
-        let x = cond b (cond c (done (T ∷ []) s) (refused n)) (refused 1) in
-        fetchedWords (fetchedAs x) ≡ answer x
-    go true true n T s = refl
-    go true false n T s = refl
-    go false c n T s = refl

@@ -9,12 +9,14 @@ use version::held;
 ghost use mathlib.Core.Path.{_≡_};
 ghost use mathlib.Core.Bool.{So, _||_};
 ghost use lib.Dec.{leb};
+ghost use Rattle.model.specs.Outcome.{answer};
 ghost use Rattle.model.specs.Caches.{fetchCause, evictCause};
 ghost use Rattle.model.specs.Calls.{fetch, evict};
-ghost use Rattle.layout.specs.Reading.{countsIn, storeOf};
+ghost use Rattle.layout.specs.Reading.{storeOf};
 ghost use Rattle.layout.specs.Buffer.{inForm};
 ghost use Rattle.layout.specs.Calls.{on, callOn, leaves};
-ghost use Rattle.caches.specs.Answers.{fetchedAs, evictedAs};
+ghost use Rattle.form.specs.Parts.{FormWith};
+ghost use Rattle.caches.specs.Answers.{fetchedWords, evictedWords};
 
 // The mask of the keys that the cache took, or the cause's number.
 pub enum Fetched {
@@ -37,7 +39,8 @@ fn out_of_range(z: Counts, site: usize, key: usize) -> bool
 
 // A site's cache takes a key from the master, and with it what its version needs.
 pub fn fetch(words: &mut [u32], site: u32, key: u32) -> Fetched
-    ensures answers { λ r. ⌜ r ≡ fetchedAs (callOn (on (fetch site key)) (now (words .entry))) ⌝ }
+    ensures answers { λ r. ⌜ fetchedWords r
+        ≡ answer (callOn (on (fetch site key)) (now (words .entry))) ⌝ }
     ensures leaves { λ _. ⌜ now (words .exit)
         ≡ leaves (callOn (on (fetch site key)) (now (words .entry))) (now (words .entry)) ⌝ }
     ensures form { λ _. ⌜ (So (inForm (now (words .entry))) → So (inForm (now (words .exit)))) ⌝ }
@@ -51,10 +54,11 @@ pub fn fetch(words: &mut [u32], site: u32, key: u32) -> Fetched
 // Fetch on a buffer in form.
 pub fn fetch_in(words: &mut [u32], site: u32, key: u32) -> Fetched
     requires { ⌜ So (inForm (now words)) ⌝ }
-    ensures answers { λ r. ⌜ r ≡ fetchedAs (callOn (on (fetch site key)) (now (words .entry))) ⌝ }
+    ensures answers { λ r. ⌜ fetchedWords r
+        ≡ answer (callOn (on (fetch site key)) (now (words .entry))) ⌝ }
     ensures leaves { λ _. ⌜ now (words .exit)
         ≡ leaves (callOn (on (fetch site key)) (now (words .entry))) (now (words .entry)) ⌝ }
-    ensures form { λ _. ⌜ So (inForm (now (words .exit))) ⌝ }
+    ensures form { λ _. ⌜ (So (inForm (now (words .entry))) → So (inForm (now (words .exit)))) ⌝ }
 {
     let z = counts(words);
     let o = site as usize;
@@ -72,8 +76,7 @@ pub fn fetch_in(words: &mut [u32], site: u32, key: u32) -> Fetched
 
 // The first cause for which a fetch is refused, or 0.
 fn fetch_cause(words: &[u32], z: Counts, site: usize, key: usize) -> u32
-    requires { ⌜ So (inForm (now words)) ⌝ }
-    requires { ⌜ z ≡ countsIn (now words) ⌝ }
+    requires { ⌜ FormWith (now words) z ⌝ }
     ensures { λ r. ⌜ r ≡ fetchCause (storeOf (now (words .entry))) site key ⌝ }
 {
     if out_of_range(z, site, key) {
@@ -88,7 +91,8 @@ fn fetch_cause(words: &[u32], z: Counts, site: usize, key: usize) -> u32
 
 // A key leaves a site's cache, and with it the keys whose versions need it.
 pub fn evict(words: &mut [u32], site: u32, key: u32) -> Evicted
-    ensures answers { λ r. ⌜ r ≡ evictedAs (callOn (on (evict site key)) (now (words .entry))) ⌝ }
+    ensures answers { λ r. ⌜ evictedWords r
+        ≡ answer (callOn (on (evict site key)) (now (words .entry))) ⌝ }
     ensures leaves { λ _. ⌜ now (words .exit)
         ≡ leaves (callOn (on (evict site key)) (now (words .entry))) (now (words .entry)) ⌝ }
     ensures form { λ _. ⌜ (So (inForm (now (words .entry))) → So (inForm (now (words .exit)))) ⌝ }
@@ -102,10 +106,11 @@ pub fn evict(words: &mut [u32], site: u32, key: u32) -> Evicted
 // Evict on a buffer in form.
 pub fn evict_in(words: &mut [u32], site: u32, key: u32) -> Evicted
     requires { ⌜ So (inForm (now words)) ⌝ }
-    ensures answers { λ r. ⌜ r ≡ evictedAs (callOn (on (evict site key)) (now (words .entry))) ⌝ }
+    ensures answers { λ r. ⌜ evictedWords r
+        ≡ answer (callOn (on (evict site key)) (now (words .entry))) ⌝ }
     ensures leaves { λ _. ⌜ now (words .exit)
         ≡ leaves (callOn (on (evict site key)) (now (words .entry))) (now (words .entry)) ⌝ }
-    ensures form { λ _. ⌜ So (inForm (now (words .exit))) ⌝ }
+    ensures form { λ _. ⌜ (So (inForm (now (words .entry))) → So (inForm (now (words .exit)))) ⌝ }
 {
     let z = counts(words);
     let o = site as usize;
@@ -122,8 +127,7 @@ pub fn evict_in(words: &mut [u32], site: u32, key: u32) -> Evicted
 
 // The first cause for which an evict is refused, or 0.
 fn evict_cause(words: &[u32], z: Counts, site: usize, key: usize) -> u32
-    requires { ⌜ So (inForm (now words)) ⌝ }
-    requires { ⌜ z ≡ countsIn (now words) ⌝ }
+    requires { ⌜ FormWith (now words) z ⌝ }
     ensures { λ r. ⌜ r ≡ evictCause (storeOf (now (words .entry))) site key ⌝ }
 {
     if out_of_range(z, site, key) {

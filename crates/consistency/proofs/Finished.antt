@@ -14,8 +14,8 @@ use Rattle.history.specs.Book.{Book, BookRun}
 use Rattle.history.proofs.Notions.{Sound}
 use Rattle.history.proofs.Behind.{before-past}
 use Rattle.layout.proofs.Follow.{Fine}
-use Rattle.layout.proofs.Formed.{well-out}
-use Rattle.layout.proofs.Plans.{read-planned}
+use Rattle.model.proofs.Formed.{well-out}
+use Rattle.model.proofs.Plans.{read-planned}
 use Rattle.consistency.specs.Trace.{ReadSet}
 use Rattle.consistency.specs.Claim.{Snapshot, Among}
 use Rattle.consistency.proofs.Invariant.{RunFollows, ReadAs, Inv}

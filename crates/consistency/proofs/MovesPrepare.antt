@@ -11,7 +11,7 @@ use Rattle.model.specs.Algebra.{Place}
 use Rattle.model.specs.Store.{Run, Site, Store, planned, withSites, withSnapshot}
 use Rattle.model.specs.Prepare.{preparedCaches, usesSite, sitesMerged, siteCaches, prepareCause, prepareCaches, prepareSnapshot, prepareDone, prepareRule}
 use Rattle.model.specs.Calls.{prepare}
-use Rattle.layout.proofs.Plans.{valid-out}
+use Rattle.model.proofs.Plans.{valid-out}
 use Rattle.layout.proofs.KeptPrepare.{Accepted, accepted, was, unread}
 use Rattle.layout.proofs.Follow.{Fine}
 use Rattle.history.specs.Copies.{Copy, copies}

@@ -6,7 +6,7 @@ ghost use mathlib.Core.Path.{_≡_};
 ghost use Prim.Native.Nat.{_<_};
 ghost use lib.ListN.{length};
 ghost use lib.Seq.{sets};
-ghost use Rattle.sizes.specs.Bounds.{Ranged, between, ranged, countsOf, sizesOf, totalOf};
+ghost use Rattle.sizes.specs.Bounds.{Ranged, countsOf, sizesOf, totalOf};
 ghost use Rattle.model.specs.Store.{fresh};
 ghost use Rattle.layout.specs.Words.{headerWords};
 ghost use Rattle.layout.specs.Buffer.{written};
@@ -41,7 +41,7 @@ pub fn new(words: &mut [u32], keys: u32, writers: u32, sites: u32, runs: u32) ->
 fn cause(words: &[u32], z: Counts) -> u32
     ensures { λ r. ⌜ r ≡ newCause (now (words .entry)) z ⌝ }
 {
-    if !is_ranged(z) {
+    if !z.is_ranged() {
         return 2;
     }
     let at = sizes_of(z);
@@ -78,22 +78,6 @@ fn store_header(words: &mut [u32], z: Counts, at: Sizes)
     words[7] = narrow(at.writers);
     words[8] = narrow(at.runs);
     words[9] = narrow(at.total);
-}
-
-// Are the four counts in range?
-fn is_ranged(z: Counts) -> bool
-    ensures { λ r. ⌜ r ≡ ranged z ⌝ }
-{
-    is_between(Sizes::MAX_KEYS, z.keys)
-        && (is_between(Sizes::MAX_WRITERS, z.writers)
-            && (is_between(Sizes::MAX_SITES, z.sites) && is_between(Sizes::MAX_RUNS, z.runs)))
-}
-
-// 1 to top.
-fn is_between(top: usize, x: usize) -> bool
-    ensures { λ r. ⌜ r ≡ between top x ⌝ }
-{
-    1 <= x && x <= top
 }
 
 // Four words as counts.

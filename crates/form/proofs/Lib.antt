@@ -3,3 +3,4 @@ pub mod Runs
 pub mod Masks
 pub mod Snapshots
 pub mod Stores
+pub mod Known

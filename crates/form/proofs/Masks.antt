@@ -20,7 +20,7 @@ use Rattle.sizes.specs.declared.Counts.{Counts}
 use Rattle.model.specs.Form.{jobsFormed, masksFormed}
 use Rattle.model.specs.Store.{Job, Run, doneReads}
 use Rattle.layout.specs.Reading.{readJobs, readRun}
-use Rattle.layout.proofs.Plans.{jobs-out, valid-out}
+use Rattle.model.proofs.Plans.{jobs-out, valid-out}
 use Rattle.form.specs.Parts.{jobFormed, readsOf}
 use Rattle.form.proofs.Runs.{job-words, wordsRun, run-words}
 use Rattle.reach.proofs.Masked.{test-when}

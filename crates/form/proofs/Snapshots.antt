@@ -23,7 +23,7 @@ use Rattle.model.specs.Form.{zeroJob, zeroRows, versionFormed, placeFormed, fre
 use Rattle.model.specs.Store.{Job, Run, planned, doneReads}
 use Rattle.model.specs.Version.{Version, held}
 use Rattle.layout.specs.Reading.{readJobs, readPlace, readRun}
-use Rattle.layout.proofs.Plans.{jobs-out, masks-out}
+use Rattle.model.proofs.Plans.{jobs-out, masks-out}
 use Rattle.form.specs.Parts.{jobFormed, readsOf}
 use Rattle.form.proofs.Masks.{test-reads}
 use Rattle.form.proofs.Runs.{wordsRun, run-words}

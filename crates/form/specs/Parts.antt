@@ -1,8 +1,10 @@
 -- Parts of a store in a buffer, for the contracts of the tests.
 -- jobOf: a job of three numbers. jobFormed: what is asked of one job.
--- readsOf: what some jobs read. RunArea, StoreArea: where a part lies.
+-- readsOf: what some jobs read. RunArea, StoreArea: where a part lies. FormWith: a buffer in form.
 -- Assumes nothing.
-use mathlib.Core.Bool.{Bool, cond}
+use mathlib.Core.Path.{_≡_}
+use mathlib.Core.Bool.{Bool, cond, So}
+use mathlib.Core.List.{List}
 use Prim.Native.Nat.{ℕ, _+_, _≤_, _<_}
 use lib.Dec.{ltb}
 use Rattle.words.specs.Numbers.{when}
@@ -11,6 +13,8 @@ use Rattle.sizes.specs.Bounds.{Ranged, placeSize, totalOf}
 use Rattle.sizes.specs.declared.Counts.{Counts}
 use Rattle.model.specs.Store.{Job}
 use Rattle.model.specs.Form.{validJob, zeroJob}
+use Rattle.layout.specs.Reading.{countsIn}
+use Rattle.layout.specs.Buffer.{inForm}
 
 abbrev pub jobOf : ℕ → ℕ → ℕ → Job
 jobOf a b c = record { site = a; reads = b; upstream = c }
@@ -35,3 +39,8 @@ pub record RunArea (len : ℕ) (z : Counts) (at : ℕ) : Type 0 where
 pub record StoreArea (len : ℕ) (z : Counts) : Type 0 where
   pub ranged : Ranged z
   pub fits : totalOf z ≤ len
+
+-- A buffer in form, and the counts in its header.
+pub record FormWith (l : List ℕ) (z : Counts) : Type 0 where
+  pub form : So (inForm l)
+  pub counts : z ≡ countsIn l

@@ -1,30 +1,13 @@
 // Header and length of a buffer. The counts are tested before any size is computed from them.
 use sizes::Counts;
-use sizes::Sizes;
 use words::wide;
 ghost use mathlib.Core.Path.{_≡_};
 ghost use Prim.Native.Nat.{_≤_, _<_};
 ghost use lib.Dec.{eqb, leb};
 ghost use lib.ListN.{length};
-ghost use Rattle.sizes.specs.Bounds.{between, ranged, Ranged, totalOf};
+ghost use Rattle.sizes.specs.Bounds.{Ranged, totalOf};
 ghost use Rattle.layout.specs.Reading.{readWord, countsIn};
 ghost use Rattle.layout.specs.Buffer.{headerRight, shaped};
-
-// Whether a count is 1 to top.
-pub fn is_between(x: usize, top: usize) -> bool
-    ensures { λ r. ⌜ r ≡ between top x ⌝ }
-{
-    (1 <= x) & (x <= top)
-}
-
-// Whether the four counts are in range.
-pub fn is_ranged(z: Counts) -> bool
-    ensures { λ r. ⌜ r ≡ ranged z ⌝ }
-{
-    is_between(z.keys, Sizes::MAX_KEYS)
-        & (is_between(z.writers, Sizes::MAX_WRITERS)
-            & (is_between(z.sites, Sizes::MAX_SITES) & is_between(z.runs, Sizes::MAX_RUNS)))
-}
 
 // The counts in the header.
 pub fn counts(words: &[u32]) -> Counts
@@ -78,7 +61,7 @@ pub fn shaped(words: &[u32]) -> bool
         return false;
     }
     let z = counts(words);
-    if !is_ranged(z) {
+    if !z.is_ranged() {
         return false;
     }
     header_right(words, z) & fits(words, z)

@@ -1,6 +1,5 @@
 // A run that begins at an index: state, number of jobs, done mask, read mask, 8 jobs of
 // three words, the snapshot.
-use crate::header::is_between;
 use crate::header::word_is;
 use crate::job::each_job;
 use crate::job::is_below;
@@ -9,6 +8,7 @@ use crate::place::place_formed;
 use masks::without;
 use sizes::Counts;
 use sizes::Sizes;
+use sizes::is_between;
 use version::held_mask;
 use words::wide;
 ghost use mathlib.Core.Path.{_≡_};

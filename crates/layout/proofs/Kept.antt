@@ -22,8 +22,8 @@ use Rattle.model.proofs.Outcomes.{no-cause, unless-cases, nextStore}
 use Rattle.layout.proofs.Parts.{FitPlace}
 use Rattle.layout.proofs.Whole.{FitStore}
 use Rattle.layout.proofs.Fit.{fit-empty, fit-free, fit-choice, fit-cache, fit-run, fresh-fits}
-use Rattle.layout.proofs.Formed.{PlaceFormed, formed-empty, formed-choice, Formed, well-out, well-in, formed-cache, formed-run}
-use Rattle.layout.proofs.Plans.{free-formed}
+use Rattle.model.proofs.Formed.{PlaceFormed, formed-empty, formed-choice, Formed, well-out, well-in, formed-cache, formed-run}
+use Rattle.model.proofs.Plans.{free-formed}
 use Rattle.layout.proofs.Follow.{Fine}
 
 pub record Kept (s : Store) (x : Outcome) : Type 0 where

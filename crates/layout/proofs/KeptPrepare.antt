@@ -26,8 +26,8 @@ use Rattle.model.proofs.DoneReads.{doneReads-none}
 use Rattle.layout.proofs.Codec.{FitMany}
 use Rattle.layout.proofs.Parts.{FitVersion, FitPlace, FitSites, FitRun}
 use Rattle.layout.proofs.Fit.{fit-unheld, fit-put, fit-merge, fit-sites, fit-run}
-use Rattle.layout.proofs.Formed.{VersionFormed, version-unheld, version-merge, PlaceFormed, well-out, formed-sites, formed-run}
-use Rattle.layout.proofs.Plans.{valid-out, Jobs, Plan, plan-out, plan-in}
+use Rattle.model.proofs.Formed.{VersionFormed, version-unheld, version-merge, PlaceFormed, well-out, formed-sites, formed-run}
+use Rattle.model.proofs.Plans.{valid-out, Jobs, Plan, plan-out, plan-in}
 use Rattle.layout.proofs.Follow.{Fine}
 use Rattle.layout.proofs.Kept.{Kept, kept-done, kept-unless, fetched-fits, fetched-formed}
 

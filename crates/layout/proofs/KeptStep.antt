@@ -24,8 +24,8 @@ use Rattle.model.proofs.Steps.{Accepted, accepted, accepted-used, stepSnapshot-
 use Rattle.model.proofs.DoneReads.{doneReads-mask}
 use Rattle.layout.proofs.Parts.{FitPlace, FitRun}
 use Rattle.layout.proofs.Fit.{fit-choice, fit-merged, fit-cache, fit-run}
-use Rattle.layout.proofs.Formed.{VersionFormed, version-merge, PlaceFormed, Formed, well-out, formed-cache, formed-run}
-use Rattle.layout.proofs.Plans.{Valid, valid-out, Plan, plan-out, plan-in}
+use Rattle.model.proofs.Formed.{VersionFormed, version-merge, PlaceFormed, Formed, well-out, formed-cache, formed-run}
+use Rattle.model.proofs.Plans.{Valid, valid-out, Plan, plan-out, plan-in}
 use Rattle.layout.proofs.Follow.{Fine}
 use Rattle.layout.proofs.Kept.{Kept, kept-done, kept-broken, kept-unless, fetched-fits, fetched-formed}
 

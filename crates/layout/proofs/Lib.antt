@@ -8,8 +8,6 @@ pub mod Windows
 pub mod Places
 pub mod Merges
 pub mod Readings
-pub mod Formed
-pub mod Plans
 pub mod Follow
 pub mod Kept
 pub mod KeptOpen

@@ -31,8 +31,9 @@ use Rattle.layout.specs.Words.{clockWords, pastWords, versionWords}
 use Rattle.layout.specs.Reading.{readVersion, readPlace}
 use Rattle.layout.proofs.Parts.{FitVersion, clock-laws, version-laws}
 use Rattle.layout.proofs.Fit.{past-out}
-use Rattle.layout.proofs.Formed.{VersionFormed}
-use Rattle.layout.proofs.Places.{putVersion, putPlace, keyStep, place-run, key-back, key-beside}
+use Rattle.model.proofs.Formed.{VersionFormed}
+use Rattle.layout.proofs.Places.{keyStep, place-run, key-back, key-beside}
+use Rattle.layout.specs.Stored.{putVersion, putPlace}
 
 -- ---- the stores of a loop as one
 

@@ -23,16 +23,10 @@ use Rattle.model.specs.Algebra.{Place}
 use Rattle.model.specs.Version.{Version, unheld}
 use Rattle.layout.specs.Words.{versionWords, placeWords}
 use Rattle.layout.specs.Reading.{readVersion, readPlace}
+use Rattle.layout.specs.Stored.{putVersion, putPlace}
 use Rattle.layout.proofs.Codec.{many-put}
 use Rattle.layout.proofs.Parts.{FitVersion, version-laws, place-laws}
 use Rattle.layout.proofs.Windows.{part-back, part-beside, part-again, part-twice}
-
--- A version, a place, stored from an index on.
-abbrev pub putVersion : Counts → List ℕ → ℕ → Version → List ℕ
-putVersion z l at v = sets l at (versionWords z v)
-
-abbrev pub putPlace : Counts → List ℕ → ℕ → Place Version → List ℕ
-putPlace z l at p = sets l at (placeWords z p)
 
 -- One turn of a loop over keys: key k of the place, if it is in the set, becomes what G says.
 abbrev pub keyStep : Counts → ℕ → Items → (ℕ → List ℕ → Version) → ℕ → List ℕ → List ℕ

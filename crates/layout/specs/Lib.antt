@@ -1,4 +1,5 @@
 pub mod Words
 pub mod Reading
+pub mod Stored
 pub mod Buffer
 pub mod Calls

@@ -31,7 +31,7 @@ use Rattle.version.proofs.Areas.{row-in}
 use Rattle.form.proofs.Stores.{shaped-area, shaped-long}
 use Rattle.look.specs.declared.Looked.{Looked}
 use Rattle.look.specs.declared.Looked.the-variants.{Done, Refused}
-use Rattle.look.specs.Places.{limitOf, placeAt, ownRowAt}
+use Rattle.look.specs.Places.{placeAt, ownRowAt}
 use Rattle.look.specs.Answer.{shown, RowIn, looked, lookedOn}
 use Rattle.look.proofs.Places.{place-in, place-area, row-window}
 
@@ -45,30 +45,30 @@ pub form-long : (l : List ℕ) → So (inForm l) → 10 ≤ length l
 form-long l F = shaped-long l (form-shaped l F)
 
 module _ (l : List ℕ) (z : Counts) (d : z ≡ countsIn l) (p i : ℕ) where
-  pub area-in : So (inForm l) → i < limitOf z p → Area (length l) z (placeAt z p i)
+  pub area-in : So (inForm l) → i < lookLimit z p → Area (length l) z (placeAt z p i)
   area-in F h =
       let S = shaped-area l (form-shaped l F) in
       place-area (length l) z (rw d (S .ranged)) (rw d (S .fits)) p i h
 
-  pub held-in : (k : ℕ) → i < limitOf z p
+  pub held-in : (k : ℕ) → i < lookLimit z p
       → held (lookPlace (storeOf l) p i k) ≡ held (readPlace z l (placeAt z p i) k)
   held-in k h = rw (place-in l z d p i h)
 
   -- The cause, with the counts in the header.
   pub cause-in : (k : ℕ) → lookCause (storeOf l) p i k
       ≡ refuse (leb 3 p) 3
-      (refuse (leb (limitOf z p) i) 3
+      (refuse (leb (lookLimit z p) i) 3
       (refuse (leb (z .keys) k) 3
       (refuse (not (held (lookPlace (storeOf l) p i k))) 8
       0)))
-  unfolding lookCause lookLimit limitOf storeOf
+  unfolding lookCause lookLimit storeOf
   cause-in k = rw d
 
 -- ---- the answer
 
 -- No cause: the version is there.
 pub record Found (l : List ℕ) (z : Counts) (p i k : ℕ) : Type 0 where
-  pub number : i < limitOf z p
+  pub number : i < lookLimit z p
   pub key : k < z .keys
   pub result : callOn (on (look p i k)) l ≡ lookDone (storeOf l) p i k
 

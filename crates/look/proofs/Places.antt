@@ -21,20 +21,21 @@ use Rattle.layout.proofs.Places.{place-at}
 use Rattle.layout.proofs.Readings.{master-in, cache-in, snapshot-in}
 use Rattle.version.specs.Places.{Area}
 use Rattle.version.proofs.Stores.{master-area, site-area, snapshot-area}
-use Rattle.look.specs.Places.{limitOf, placeAt}
+use Rattle.model.specs.Look.{lookLimit}
+use Rattle.look.specs.Places.{placeAt}
 
 -- ---- the three kinds
 
 module _ (z : Counts) (p : ℕ) (a : eqb p 0 ≡ false) where
-  pub limit-sites : So (eqb p 1) → limitOf z p ≡ z .sites
-  unfolding limitOf
+  pub limit-sites : So (eqb p 1) → lookLimit z p ≡ z .sites
+  unfolding lookLimit
   limit-sites b = rw (a, b)
 
-  pub limit-runs : eqb p 1 ≡ false → limitOf z p ≡ z .runs
-  unfolding limitOf
+  pub limit-runs : eqb p 1 ≡ false → lookLimit z p ≡ z .runs
+  unfolding lookLimit
   limit-runs b = rw (a, b)
 
-pub place-in : (l : List ℕ) (z : Counts) → z ≡ countsIn l → (p i : ℕ) → i < limitOf z p
+pub place-in : (l : List ℕ) (z : Counts) → z ≡ countsIn l → (p i : ℕ) → i < lookLimit z p
     → lookPlace (storeOf l) p i ≡ readPlace z l (placeAt z p i)
 unfolding lookPlace placeAt
 place-in l z e p i h =
@@ -44,7 +45,7 @@ place-in l z e p i h =
     (λ b. rw (a, b) (snapshot-in l z e i (omega (arith, limit-runs z p a b)))))
 
 pub place-area : (len : ℕ) (z : Counts) → Ranged z → totalOf z ≤ len
-    → (p i : ℕ) → i < limitOf z p → Area len z (placeAt z p i)
+    → (p i : ℕ) → i < lookLimit z p → Area len z (placeAt z p i)
 unfolding placeAt
 place-area len z R f p i h =
     test (eqb p 0) (λ a. rw a (master-area len z R f))

@@ -1,5 +1,5 @@
 -- The places that a look names (0 master, 1 cache, 2 snapshot) in a buffer with given counts.
--- limitOf: how many there are. placeAt: where one begins. ownRowAt: where a version's own row
+-- placeAt: where one begins. ownRowAt: where a version's own row
 -- begins.
 -- Assumes nothing.
 use mathlib.Core.Bool.{cond}
@@ -7,10 +7,6 @@ use Prim.Native.Nat.{ℕ}
 use lib.Dec.{eqb}
 use Rattle.sizes.specs.declared.Counts.{Counts}
 use Rattle.sizes.specs.Bounds.{masterAt, siteAt, snapshotAt, keyAt, rowAt}
-
--- `lookLimit` of a store with these counts.
-unfoldable pub limitOf : Counts → ℕ → ℕ
-limitOf z p = cond (eqb p 0) 1 (cond (eqb p 1) (z .sites) (z .runs))
 
 unfoldable pub placeAt : Counts → ℕ → ℕ → ℕ
 placeAt z p i = cond (eqb p 0) (masterAt z) (cond (eqb p 1) (siteAt z i) (snapshotAt z i))

@@ -10,12 +10,12 @@ ghost use mathlib.Core.Bool.{So};
 ghost use Prim.Native.Nat.{_<_};
 ghost use Rattle.sizes.specs.Bounds.{Ranged};
 ghost use Rattle.model.specs.Outcome.{answer};
-ghost use Rattle.model.specs.Look.{lookCause};
+ghost use Rattle.model.specs.Look.{lookLimit, lookCause};
 ghost use Rattle.model.specs.Calls.{look};
 ghost use Rattle.layout.specs.Reading.{countsIn, storeOf};
 ghost use Rattle.layout.specs.Buffer.{inForm};
 ghost use Rattle.layout.specs.Calls.{on, callOn};
-ghost use Rattle.look.specs.Places.{limitOf, placeAt};
+ghost use Rattle.look.specs.Places.{placeAt};
 ghost use Rattle.look.specs.Answer.{shown, RowIn, lookedOn};
 
 // The issue number, and the index at which the own row's W counts begin; or the number of the
@@ -27,7 +27,7 @@ pub enum Looked {
 
 // How many places of the kind there are.
 fn limit(z: Counts, place: u32) -> usize
-    ensures { λ r. ⌜ r ≡ limitOf z place ⌝ }
+    ensures { λ r. ⌜ r ≡ lookLimit z place ⌝ }
 {
     if place == 0 {
         return 1;
@@ -41,7 +41,7 @@ fn limit(z: Counts, place: u32) -> usize
 // Where place i of the kind begins.
 fn place_at(z: Counts, place: u32, i: usize) -> usize
     requires { ⌜ Ranged z ⌝ }
-    requires { ⌜ i < limitOf z place ⌝ }
+    requires { ⌜ i < lookLimit z place ⌝ }
     ensures { λ r. ⌜ r ≡ placeAt z place i ⌝ }
 {
     if place == 0 {

@@ -9,3 +9,5 @@ pub mod Draws
 pub mod Pulls
 pub mod Steps
 pub mod DoneReads
+pub mod Formed
+pub mod Plans

@@ -6,6 +6,7 @@ use Prim.Native.Nat.{ℕ}
 use lib.Dec.{eqb, leb}
 use Rattle.words.specs.Lists.{blocks}
 use Rattle.clock.specs.Clock.{Clock}
+use Rattle.sizes.specs.declared.Counts.{Counts}
 use Rattle.model.specs.Algebra.{Place}
 use Rattle.model.specs.Version.{Version, held}
 use Rattle.model.specs.Store.{Store}
@@ -17,13 +18,13 @@ lookPlace s p i =
     cond (eqb p 0) (s .master) (cond (eqb p 1) (s .site i .cache) (s .run i .snapshot))
 
 -- How many places there are of each kind.
-unfoldable pub lookLimit : Store → ℕ → ℕ
-lookLimit s p = cond (eqb p 0) 1 (cond (eqb p 1) (s .counts .sites) (s .counts .runs))
+unfoldable pub lookLimit : Counts → ℕ → ℕ
+lookLimit z p = cond (eqb p 0) 1 (cond (eqb p 1) (z .sites) (z .runs))
 
 unfoldable pub lookCause : Store → ℕ → ℕ → ℕ → ℕ
 lookCause s p i k =
     refuse (leb 3 p) 3
-    (refuse (leb (lookLimit s p) i) 3
+    (refuse (leb (lookLimit (s .counts) p) i) 3
     (refuse (leb (s .counts .keys) k) 3
     (refuse (not (held (lookPlace s p i k))) 8
     0)))

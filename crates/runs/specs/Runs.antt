@@ -34,21 +34,6 @@ dropped (refused n) = Dropped.Refused n
 dropped (broken m s) = Dropped.Refused 0
 dropped (done a s) = Dropped.Done
 
--- "run .. out of range" is 3, and 4 a state that the call, a row of the table, does not allow.
-unfoldable pub runCause : Store → ℕ → ℕ → ℕ
-runCause s row r =
-    refuse (leb (s .counts .runs) r) 3
-    (refuse (not (allowed row (s .run r .state))) 4
-    0)
-
--- A buffer in form, and the counts in its header.
-pub record FormWith (l : List ℕ) (z : Counts) : Type 0 where
-  pub form : So (inForm l)
-  pub counts : z ≡ countsIn l
-
-abbrev pub putRun : Counts → List ℕ → ℕ → Run → List ℕ
-putRun z l at a = sets l at (runWords z a)
-
 -- State, number of jobs, and the words of the list, over a free run.
 unfoldable pub putJobs : List ℕ → ℕ → List ℕ → List ℕ
 putJobs l at jobs =

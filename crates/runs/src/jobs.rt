@@ -1,7 +1,8 @@
 // The list of jobs that open is given: three words for each job.
-use form::header::is_between;
 use form::job::valid_job;
 use sizes::Counts;
+use sizes::Sizes;
+use sizes::is_between;
 use states::OPEN_STATE;
 ghost use mathlib.Core.Path.{_≡_};
 ghost use Prim.Native.Nat.{_+_, _*_, _≤_};
@@ -39,7 +40,7 @@ pub fn list_valid(z: Counts, jobs: &[u32]) -> bool
     if jobs.len() != n * 3 {
         return false;
     }
-    if !is_between(n, 8) {
+    if !is_between(n, Sizes::MAX_JOBS) {
         return false;
     }
     each_valid(z, jobs, n)

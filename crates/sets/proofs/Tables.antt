@@ -22,7 +22,8 @@ use Rattle.model.specs.Version.{Version}
 use Rattle.model.specs.Sets.{draws, drawSet}
 use Rattle.layout.specs.Reading.{readPlace}
 use Rattle.layout.proofs.Places.{place-ext}
-use Rattle.version.specs.Places.{putPlace, choice, Area}
+use Rattle.version.specs.Places.{choice, Area}
+use Rattle.layout.specs.Stored.{putPlace}
 use Rattle.sets.specs.declared.View.{View}
 use Rattle.sets.specs.Draws.{viewAt, viewed, DrawArea, noRows, rowsOf}
 

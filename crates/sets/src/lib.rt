@@ -16,7 +16,8 @@ ghost use Rattle.masks.specs.Mask.{testBit, maskBelow};
 ghost use Rattle.model.specs.Version.{versions};
 ghost use Rattle.model.specs.Sets.{drawSet, fetchSet, fetched, evictSet, evicted};
 ghost use Rattle.layout.specs.Reading.{readPlace};
-ghost use Rattle.version.specs.Places.{putPlace, Area, Areas};
+ghost use Rattle.version.specs.Places.{Area, Areas};
+ghost use Rattle.layout.specs.Stored.{putPlace};
 ghost use Rattle.sets.specs.Draws.{viewAt, viewed, DrawArea, drawsIn, evictsIn, rowsOf};
 
 // The mask of every key.

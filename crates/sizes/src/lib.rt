@@ -1,7 +1,7 @@
 // The counts of a store, their limits, and the offsets and total that follow from them.
 ghost use mathlib.Core.Path.{_≡_};
 ghost use Prim.Native.Nat.{_<_};
-ghost use Rattle.sizes.specs.Bounds.{Ranged, countsOf, sizesOf, maxKeys, maxWriters, maxSites, maxRuns, maxJobs, pastSize, versionSize, placeSize, siteSize, writerSize, runSize, siteAt, writerAt, runAt, snapshotAt, keyAt, rowAt};
+ghost use Rattle.sizes.specs.Bounds.{between, ranged, Ranged, countsOf, sizesOf, maxKeys, maxWriters, maxSites, maxRuns, maxJobs, pastSize, versionSize, placeSize, siteSize, writerSize, runSize, siteAt, writerAt, runAt, snapshotAt, keyAt, rowAt};
 
 // Sheets, writers, offices and runs (document 01: K, W, N, P).
 pub struct Counts {
@@ -61,7 +61,24 @@ impl Sizes {
     {}
 }
 
+// Whether a count is 1 to top.
+pub fn is_between(x: usize, top: usize) -> bool
+    ensures { λ r. ⌜ r ≡ between top x ⌝ }
+{
+    (1 <= x) & (x <= top)
+}
+
 impl Counts {
+    // Whether the four counts are in range.
+    pub fn is_ranged(self) -> bool
+        ensures { λ r. ⌜ r ≡ ranged self ⌝ }
+    {
+        is_between(self.keys, Sizes::MAX_KEYS)
+            & (is_between(self.writers, Sizes::MAX_WRITERS)
+                & (is_between(self.sites, Sizes::MAX_SITES)
+                    & is_between(self.runs, Sizes::MAX_RUNS)))
+    }
+
     // Where each area begins, and the total.
     pub fn areas(self) -> Sizes
         requires { ⌜ Ranged self ⌝ }

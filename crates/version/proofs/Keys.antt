@@ -15,10 +15,11 @@ use Rattle.model.specs.Version.{Version, unheld, larger, merge}
 use Rattle.model.specs.Form.{placeFormed}
 use Rattle.layout.specs.Reading.{readPlace}
 use Rattle.layout.proofs.Parts.{FitVersion, place-laws}
-use Rattle.layout.proofs.Formed.{place-out}
+use Rattle.model.proofs.Formed.{place-out}
 use Rattle.layout.proofs.Places.{place-at, place-ext, place-run, key-back, key-beside}
 use Rattle.layout.proofs.Merges.{merge-larger}
-use Rattle.version.specs.Places.{putPlace, putKey, choice, Area, Areas}
+use Rattle.version.specs.Places.{putKey, choice, Area, Areas}
+use Rattle.layout.specs.Stored.{putPlace}
 
 abbrev pub copyStep : Counts → ℕ → ℕ → Items → ℕ → List ℕ → List ℕ
 copyStep z dst src S k l = putKey z l dst S k (readPlace z l src k)

@@ -16,7 +16,8 @@ use Rattle.layout.specs.Words.{placeWords}
 use Rattle.layout.specs.Reading.{readPlace}
 use Rattle.layout.proofs.Parts.{place-laws}
 use Rattle.layout.proofs.Windows.{part-beside}
-use Rattle.version.specs.Places.{putPlace, Area, Areas}
+use Rattle.version.specs.Places.{Area, Areas}
+use Rattle.layout.specs.Stored.{putPlace}
 
 pub place-beside : (z : Counts) (l : List ℕ) (at from : ℕ) (p : Place Version)
     → (at + placeSize z ≤ from) ⊎ (from + placeSize z ≤ at)

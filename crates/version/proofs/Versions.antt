@@ -20,7 +20,7 @@ use Rattle.model.specs.Version.{unheld, zeroPast, larger}
 use Rattle.layout.specs.Reading.{readClock, readPast, readVersion}
 use Rattle.layout.proofs.Parts.{version-laws}
 use Rattle.layout.proofs.Merges.{table, put-table, larger-version}
-use Rattle.version.specs.Places.{putVersion}
+use Rattle.layout.specs.Stored.{putVersion}
 
 pub table-window : (l : List ℕ) (at n : ℕ) → table n (λ i. getD l (at + i) 0) ≡ window l at n
 unfolding table window

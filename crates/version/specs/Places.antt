@@ -1,5 +1,5 @@
 -- Versions and places in the words of a buffer: stored at an index, and where they lie.
--- putVersion, putPlace, putKey: stored. choice: a place by a set of keys.
+-- putKey: one key stored. choice: a place by a set of keys.
 -- Area, Areas: where places lie.
 -- Assumes nothing.
 use mathlib.Core.Path.{_≡_}
@@ -7,20 +7,12 @@ use mathlib.Core.Bool.{cond}
 use mathlib.Core.List.{List}
 use mathlib.Core.Logic.{_⊎_}
 use Prim.Native.Nat.{ℕ, _+_, _≤_, _<_}
-use lib.Seq.{sets}
 use Rattle.words.specs.Tests.{Items}
 use Rattle.sizes.specs.declared.Counts.{Counts}
 use Rattle.sizes.specs.Bounds.{Ranged, placeSize, keyAt}
 use Rattle.model.specs.Algebra.{Place}
 use Rattle.model.specs.Version.{Version}
-use Rattle.layout.specs.Words.{versionWords, placeWords}
-
--- The words l with a version, a place, stored from index at on.
-abbrev pub putVersion : Counts → List ℕ → ℕ → Version → List ℕ
-putVersion z l at v = sets l at (versionWords z v)
-
-abbrev pub putPlace : Counts → List ℕ → ℕ → Place Version → List ℕ
-putPlace z l at p = sets l at (placeWords z p)
+use Rattle.layout.specs.Stored.{putVersion}
 
 -- The words l with version v stored for key k of the place at an index, if k is in the set.
 abbrev pub putKey : Counts → List ℕ → ℕ → Items → ℕ → Version → List ℕ

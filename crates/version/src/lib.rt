@@ -17,7 +17,8 @@ ghost use Rattle.sizes.specs.Bounds.{Ranged, versionSize, keyAt, rowAt};
 ghost use Rattle.model.specs.Version.{unheld, held, dependency, supersedes, larger, merge};
 ghost use Rattle.model.specs.Form.{placeFormed};
 ghost use Rattle.layout.specs.Reading.{readVersion, readPlace};
-ghost use Rattle.version.specs.Places.{putVersion, putPlace, putKey, choice, Area, Areas};
+ghost use Rattle.version.specs.Places.{putKey, choice, Area, Areas};
+ghost use Rattle.layout.specs.Stored.{putVersion, putPlace};
 
 // Where row d of key k begins in the place at an index.
 pub fn row_of(z: Counts, at: usize, k: usize, d: usize) -> usize

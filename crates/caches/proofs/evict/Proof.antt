@@ -1,15 +1,11 @@
 -- `evict` is refused on a buffer that is not in form.
 -- Assumes nothing.
-use mathlib.Core.Path.{_≡_, refl, sym, _∙_}
-use mathlib.Core.Bool.{false}
+use mathlib.Core.Path.{sym, _∙_}
 use borrow.Author.Needs.{needs}
 use borrow.Author.Tests.{not-true, not-false}
-use Rattle.words.proofs.Bools.{clash}
 use Rattle.model.specs.Calls.{evict}
-use Rattle.layout.specs.Buffer.{inForm}
-use Rattle.layout.specs.Calls.{leaves}
-use Rattle.layout.proofs.Forms.{no-form}
-use Rattle.caches.specs.Answers.{evictedAs}
+use Rattle.form.proofs.Known.{ends-unformed}
+use Rattle.caches.specs.Answers.{evictedWords}
 use Rattle.caches.proofs.evict.Statement.{statement}
 use Rattle.caches.proofs.evict.Tie as tie
 
@@ -20,12 +16,11 @@ same-length : tie.Need-same-length
 same-length c = search needs
 
 returns : tie.Need-returns
-unfolding evictedAs leaves
+unfolding evictedWords
 returns c =
     let a = c .before .before .before .before .args in
-    let l = a .words .now in
-    let no : inForm l ≡ false = sym (c .before .in-form .ensures) ∙ not-true _ (c .if1 .taken) in
-    rw (no-form (evict (a .site) (a .key)) l no) (refl, (refl, λ yes. clash yes no))
+    ends-unformed (evict (a .site) (a .key)) (a .words .now)
+    (sym (c .before .in-form .ensures) ∙ not-true _ (c .if1 .taken))
 
 evict-in-requires : tie.Need-evict-in-requires
 evict-in-requires c κs =
@@ -35,8 +30,7 @@ same-length-2 : tie.Need-same-length-2
 same-length-2 c = search needs
 
 returns-2 : tie.Need-returns-2
-returns-2 c =
-    let e = c .before .before .evict-in .ensures in (e .0, (e .1 .0, λ yes. e .1 .1))
+returns-2 c = c .before .before .evict-in .ensures
 
 pub evict-spec : {M : Type 1} → statement M
 evict-spec =

@@ -11,7 +11,8 @@ use Rattle.model.specs.Caches.{evictCause}
 use Rattle.layout.specs.Reading.{storeOf}
 use Rattle.layout.proofs.Readings.{cache-in}
 use Rattle.version.proofs.Stores.{site-area}
-use Rattle.caches.proofs.Known.{form-area, range-in}
+use Rattle.form.proofs.Known.{form-area}
+use Rattle.caches.proofs.Known.{range-in}
 use Rattle.caches.proofs.Evicts.{evict-cause}
 use Rattle.caches.proofs.evict_cause.Statement.{statement}
 use Rattle.caches.proofs.evict_cause.Tie as tie
@@ -25,7 +26,7 @@ returns c =
     let s = c .before .before .before in
     let a = s .args in
     rw (
-      evict-cause (a .words .now) (a .z) (s .pre .1) (a .site) (a .key),
+      evict-cause (a .words .now) (a .z) (s .pre .counts) (a .site) (a .key),
       sym (c .before .out-of-range .ensures) ∙ c .if1 .taken,
     )
 
@@ -39,14 +40,14 @@ site-at-requires : tie.Need-site-at-requires
 site-at-requires c κs =
     let s = c .before .before .before in
     let a = s .args in
-    (form-area (a .words .now) (a .z) (s .pre .0) (s .pre .1) .ranged, low c .0)
+    (form-area (a .words .now) (a .z) (s .pre) .ranged, low c .0)
 
 held-requires : tie.Need-held-requires
 held-requires c κs =
     let s = c .before .before .before .before in
     let a = s .args in
     let l = a .words .now in
-    let R = form-area l (a .z) (s .pre .0) (s .pre .1) in (
+    let R = form-area l (a .z) (s .pre) in (
       rw (c .site-at .ensures)
           (site-area (length l) (a .z) (R .ranged) (R .fits) (a .site) (low (c .before) .0)),
       low (c .before) .1,
@@ -63,9 +64,9 @@ tested c =
     let a = s .args in
     let l = a .words .now in
     rw (
-      evict-cause l (a .z) (s .pre .1) (a .site) (a .key),
+      evict-cause l (a .z) (s .pre .counts) (a .site) (a .key),
       sym (e .before .out-of-range .ensures) ∙ e .if1 .left,
-      cache-in l (a .z) (s .pre .1) (a .site) (low e .0),
+      cache-in l (a .z) (s .pre .counts) (a .site) (low e .0),
       ← n .site-at .ensures,
       ← c .held .ensures,
     )

@@ -12,7 +12,8 @@ use Rattle.model.specs.Outcome.{refuse}
 use Rattle.model.specs.Caches.{fetchCause}
 use Rattle.layout.specs.Reading.{readPlace, storeOf}
 use Rattle.version.proofs.Stores.{master-area}
-use Rattle.caches.proofs.Known.{form-area, master-found, range-in}
+use Rattle.form.proofs.Known.{form-area, master-found}
+use Rattle.caches.proofs.Known.{range-in}
 use Rattle.caches.proofs.Fetches.{fetch-cause, unfetchable-one}
 use Rattle.caches.proofs.fetch_cause.Statement.{statement}
 use Rattle.caches.proofs.fetch_cause.Tie as tie
@@ -26,7 +27,7 @@ returns c =
     let s = c .before .before .before in
     let a = s .args in
     rw (
-      fetch-cause (a .words .now) (a .z) (s .pre .1) (a .site) (a .key),
+      fetch-cause (a .words .now) (a .z) (s .pre .counts) (a .site) (a .key),
       sym (c .before .out-of-range .ensures) ∙ c .if1 .taken,
     )
 
@@ -38,14 +39,14 @@ low c =
 areas-requires : tie.Need-areas-requires
 areas-requires c κs =
     let s = c .before .before .before in
-    form-area (s .args .words .now) (s .args .z) (s .pre .0) (s .pre .1) .ranged
+    form-area (s .args .words .now) (s .args .z) (s .pre) .ranged
 
 held-requires : tie.Need-held-requires
 held-requires c κs =
     let s = c .before .before .before .before in
     let a = s .args in
     let l = a .words .now in
-    let R = form-area l (a .z) (s .pre .0) (s .pre .1) in (
+    let R = form-area l (a .z) (s .pre) in (
       rw (master-found (a .z) (c .areas .result) (c .areas .ensures))
           (master-area (length l) (a .z) (R .ranged) (R .fits)),
       low (c .before),
@@ -63,7 +64,7 @@ tested c =
     let l = a .words .now in
     let master = readPlace (a .z) l (masterAt (a .z)) in
     rw (
-      fetch-cause l (a .z) (s .pre .1) (a .site) (a .key),
+      fetch-cause l (a .z) (s .pre .counts) (a .site) (a .key),
       sym (e .before .out-of-range .ensures) ∙ e .if1 .left,
       unfetchable-one (versions (a .z .writers)) (a .z .keys) master (a .key) (low e),
       ← master-found (a .z) (n .areas .result) (n .areas .ensures),

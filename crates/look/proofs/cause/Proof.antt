@@ -11,7 +11,8 @@ use Rattle.model.specs.Outcome.{refuse}
 use Rattle.model.specs.Look.{lookCause}
 use Rattle.layout.specs.Reading.{storeOf}
 use Rattle.version.specs.Places.{Area}
-use Rattle.look.specs.Places.{limitOf, placeAt}
+use Rattle.model.specs.Look.{lookLimit}
+use Rattle.look.specs.Places.{placeAt}
 use Rattle.look.proofs.Answers.{area-in, held-in, cause-in}
 use Rattle.look.proofs.cause.Statement.{statement}
 use Rattle.look.proofs.cause.Tie as tie
@@ -48,7 +49,7 @@ returns-2 c =
 
 -- There is such a place.
 number : (c : tie.Else2) → let a = c .before .before .before .before .args in
-    a .i < limitOf (a .z) (a .place)
+    a .i < lookLimit (a .z) (a .place)
 number c = rw (← c .before .limit .ensures) (omega arith)
 
 returns-3 : tie.Need-returns-3

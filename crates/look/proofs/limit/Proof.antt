@@ -1,20 +1,20 @@
 -- `limit` is one of three counts, by the kind of place.
 -- Assumes nothing.
 use borrow.Author.Tests.{eq-eqb, ne-eqb}
-use Rattle.look.specs.Places.{limitOf}
+use Rattle.model.specs.Look.{lookLimit}
 use Rattle.look.proofs.limit.Statement.{statement}
 use Rattle.look.proofs.limit.Tie as tie
 
 returns : tie.Need-returns
-unfolding limitOf
+unfolding lookLimit
 returns c = rw (eq-eqb _ _ (c .if1 .taken))
 
 returns-2 : tie.Need-returns-2
-unfolding limitOf
+unfolding lookLimit
 returns-2 c = rw (ne-eqb _ _ (c .before .if1 .left), eq-eqb _ _ (c .if2 .taken))
 
 returns-3 : tie.Need-returns-3
-unfolding limitOf
+unfolding lookLimit
 returns-3 c = rw (ne-eqb _ _ (c .before .if1 .left), ne-eqb _ _ (c .if2 .left))
 
 pub limit-spec : {M : Type 1} → statement M

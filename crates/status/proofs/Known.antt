@@ -9,39 +9,25 @@ use Prim.Native.Nat.{ℕ, _+_, _≤_, _<_}
 use native.Mathlib.Omega.{arith}
 use lib.Dec.{eqb}
 use lib.ListN.{length, getD}
-use Rattle.words.proofs.Bools.{test, and-left, le-leb, gt-leb, leb-gt, eqb-eq, eqb-ne}
+use Rattle.words.proofs.Bools.{test, le-leb, gt-leb, leb-gt, eqb-eq, eqb-ne}
 use Rattle.sizes.specs.declared.Counts.{Counts}
 use Rattle.sizes.specs.Bounds.{runSize, runAt}
 use Rattle.model.specs.Store.{Run, withRun}
-use Rattle.model.specs.Form.{runFormed, wellFormed}
+use Rattle.model.specs.Form.{runFormed}
 use Rattle.model.specs.Outcome.{refuse, allowed}
 use Rattle.layout.specs.Reading.{countsIn, storeOf, readRun}
-use Rattle.layout.specs.Buffer.{written, shaped, inForm}
-use Rattle.layout.proofs.Whole.{store-kept}
+use Rattle.layout.specs.Stored.{putRun}
+use Rattle.layout.specs.Buffer.{written}
 use Rattle.layout.proofs.Updates.{put-run}
-use Rattle.layout.proofs.Readings.{counts-in, run-in}
-use Rattle.layout.proofs.Formed.{well-out}
-use Rattle.layout.proofs.Plans.{plan-out}
+use Rattle.layout.proofs.Readings.{run-in}
+use Rattle.model.proofs.Formed.{well-out}
+use Rattle.model.proofs.Plans.{plan-out}
 use Rattle.layout.proofs.Follow.{form-fine}
 use Rattle.model.proofs.Outcomes.{no-cause}
-use Rattle.form.specs.Parts.{RunArea, StoreArea}
-use Rattle.form.proofs.Stores.{run-area, shaped-area, shaped-long}
-use Rattle.runs.specs.Runs.{FormWith, putRun, runCause}
-
--- ---- the whole buffer
-
-in-shape : (l : List ℕ) → So (inForm l) → So (shaped l)
-unfolding inForm
-in-shape l p = and-left (shaped l) (wellFormed (storeOf l)) p
-
-pub form-long : (l : List ℕ) → So (inForm l) → 10 ≤ length l
-form-long l p = shaped-long l (in-shape l p)
-
-pub form-area : (l : List ℕ) (z : Counts) → FormWith l z → StoreArea (length l) z
-form-area l z H = rw (H .counts) (shaped-area l (in-shape l (H .form)))
-
-pub form-counts : (l : List ℕ) (z : Counts) → FormWith l z → storeOf l .counts ≡ z
-form-counts l z H = counts-in l ∙ sym (H .counts)
+use Rattle.form.specs.Parts.{RunArea, FormWith}
+use Rattle.form.proofs.Stores.{run-area}
+use Rattle.form.proofs.Known.{form-area, form-counts, form-again}
+use Rattle.status.specs.Status.{runCause}
 
 -- ---- one run
 
@@ -81,8 +67,7 @@ unfolding storeOf
 run-stored l z r a H h =
     let y = countsIn l in
     rw (H .counts)
-    (ap (λ (m : List ℕ). putRun y m (runAt y r) a)
-    (sym (store-kept l (in-shape l (H .form))))
+    (ap (λ (m : List ℕ). putRun y m (runAt y r) a) (sym (form-again l z H))
     ∙ put-run (storeOf l) l r a (rw (← H .counts) h))
 
 -- ---- causes

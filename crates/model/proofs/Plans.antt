@@ -16,12 +16,12 @@ use Rattle.masks.proofs.Bits.{test-none}
 use Rattle.sizes.specs.declared.Counts.{Counts}
 use Rattle.sizes.specs.Bounds.{maxJobs, between}
 use Rattle.sizes.proofs.Offsets.{between-out, between-in}
 use Rattle.model.specs.Algebra.{Place, implies}
 use Rattle.model.specs.Version.{Version, unheld, held}
 use Rattle.model.specs.Store.{Job, Run, freeRun, noJob, planned, doneReads}
 use Rattle.model.specs.Form.{validJob, zeroJob, zeroRows, placeFormed, freeFormed, jobsFormed, masksFormed, snapshotFormed, runFormed}
 use Rattle.model.proofs.Cuts.{implies-in, implies-out}
-use Rattle.layout.proofs.Formed.{PlaceFormed, place-out, place-in, zero-rows}
+use Rattle.model.proofs.Formed.{PlaceFormed, place-out, place-in, zero-rows}
 
 -- ---- jobs
 

@@ -23,8 +23,8 @@ use Rattle.layout.specs.Reading.{readClock, readPast, readVersion, readPlace, r
 use Rattle.layout.proofs.Parts.{FitJobs, FitRun, jobs-laws, run-laws}
 use Rattle.layout.proofs.Merges.{unheld-is}
 use Rattle.version.proofs.Versions.{upto-all, nothing-read}
-use Rattle.runs.specs.Runs.{putRun}
-use Rattle.runs.proofs.Copies.{put-zeros}
+use Rattle.layout.specs.Stored.{putRun}
+use Rattle.status.proofs.Copies.{put-zeros}
 
 -- ---- what is read where there are no words
 

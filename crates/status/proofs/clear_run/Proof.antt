@@ -5,10 +5,10 @@ use Prim.Native.Nat.{ℕ}
 use borrow.Author.Needs.{needs}
 use native.Mathlib.Omega.{arith}
 use Rattle.words.specs.Words.{put}
-use Rattle.runs.proofs.Freed.{zeros-free}
-use Rattle.runs.proofs.Known.{area-ends}
-use Rattle.runs.proofs.run.clear_run.Statement.{statement}
-use Rattle.runs.proofs.run.clear_run.Tie as tie
+use Rattle.status.proofs.Freed.{zeros-free}
+use Rattle.status.proofs.Known.{area-ends}
+use Rattle.status.proofs.clear_run.Statement.{statement}
+use Rattle.status.proofs.clear_run.Tie as tie
 
 run-size-requires : tie.Need-run-size-requires
 run-size-requires c κs = c .before .pre .ranged

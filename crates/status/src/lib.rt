@@ -7,8 +7,9 @@ ghost use Prim.Native.Nat.{_<_};
 ghost use lib.ListN.{length};
 ghost use Rattle.model.specs.Store.{freeRun};
 ghost use Rattle.layout.specs.Reading.{storeOf};
-ghost use Rattle.form.specs.Parts.{RunArea};
-ghost use Rattle.runs.specs.Runs.{runCause, FormWith, putRun};
+ghost use Rattle.layout.specs.Stored.{putRun};
+ghost use Rattle.form.specs.Parts.{RunArea, FormWith};
+ghost use Rattle.status.specs.Status.{runCause};
 
 // The first cause for which a call on run r is refused: there is no such run, or its state isn't
 // one that the call, a row of the table, allows. 0: none.

@@ -1,9 +1,9 @@
 -- `is_ranged` tests each of the four counts.
 -- Assumes nothing.
 use borrow.Author.Needs.{needs}
 use Rattle.sizes.specs.Bounds.{ranged}
-use Rattle.form.proofs.header.is_ranged.Statement.{statement}
-use Rattle.form.proofs.header.is_ranged.Tie as tie
+use Rattle.sizes.proofs.Counts.is_ranged.Statement.{statement}
+use Rattle.sizes.proofs.Counts.is_ranged.Tie as tie
 
 is-between-requires : tie.Need-is-between-requires
 is-between-requires c κs = search needs

@@ -7,10 +7,10 @@ use native.Mathlib.Omega.{arith}
 use lib.ListN.{length}
 use Rattle.model.specs.Outcome.{refuse}
 use Rattle.layout.specs.Reading.{storeOf}
-use Rattle.runs.specs.Runs.{runCause}
-use Rattle.runs.proofs.Known.{RunKnown, run-known, cause-high, cause-state}
-use Rattle.runs.proofs.run.run_cause.Statement.{statement}
-use Rattle.runs.proofs.run.run_cause.Tie as tie
+use Rattle.status.specs.Status.{runCause}
+use Rattle.status.proofs.Known.{RunKnown, run-known, cause-high, cause-state}
+use Rattle.status.proofs.run_cause.Statement.{statement}
+use Rattle.status.proofs.run_cause.Tie as tie
 
 returns : tie.Need-returns
 returns c =
