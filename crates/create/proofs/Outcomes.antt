@@ -1,30 +1,25 @@
 -- What new comes to: its causes from the tests that the code makes, and its two outcomes.
--- cause-..: which cause there is. new-no, new-done: answer and buffer. new-not-broken: as it says.
--- new-form: an accepted new leaves a buffer in form.
+-- cause-..: which cause there is. NewEnds: what new answers and leaves; new-no, new-done.
 -- Assumes nothing.
-use mathlib.Core.Path.{_≡_, refl, ap}
-use mathlib.Core.Bool.{Bool, true, false, cond, So}
+use mathlib.Core.Path.{_≡_, refl, sym, ap, _∙_}
+use mathlib.Core.Bool.{false, So, false≢true}
 use mathlib.Core.Logic.{_≢_}
 use mathlib.Core.List.{List, [], _∷_}
 use Prim.Native.Nat.{ℕ, _≤_, _<_}
-use native.Mathlib.Omega.{arith}
-use lib.Dec.{eqb}
-use lib.ListN.{length, getD}
+use lib.ListN.{length}
 use Rattle.words.proofs.Bools.{le-leb, gt-leb, ne-eqb}
 use Rattle.sizes.specs.declared.Counts.{Counts}
-use Rattle.sizes.specs.Bounds.{ranged, totalOf}
-use Rattle.model.specs.Store.{Store, fresh}
-use Rattle.model.specs.Outcome.{Outcome, refused, broken, done, refuse, unless, answer}
+use Rattle.sizes.specs.Bounds.{ranged, countsOf, totalOf}
+use Rattle.model.specs.Store.{fresh}
+use Rattle.model.specs.Outcome.{refuse, unless, answer}
 use Rattle.layout.specs.Buffer.{written, inForm}
-use Rattle.layout.specs.Calls.{newCause, newOn, leaves}
+use Rattle.layout.specs.Calls.{new, newCause, newOn, callOn, leaves, isOk}
 use Rattle.layout.proofs.Follow.{fine-form}
 use Rattle.layout.proofs.Rules.{new-fine}
-use Rattle.create.specs.declared.Created.the-variants.{Done, Refused}
-use Rattle.create.specs.Answer.{created}
+
+-- ---- the causes
 
 module _ (l : List ℕ) (z : Counts) where
-  -- ---- the causes
-
   pub cause-range : ranged z ≡ false → newCause l z ≡ 2
   unfolding newCause refuse
   cause-range p = rw p
@@ -37,37 +32,32 @@ module _ (l : List ℕ) (z : Counts) where
   unfolding newCause refuse
   cause-none p h = rw (p, le-leb (totalOf z) (length l) h)
 
-  -- ---- the outcomes
+-- ---- the outcomes
 
-  -- Answer and buffer if there is a cause, for counts y that are z,
-  pub new-no : (y : Counts) (n : ℕ) → y ≡ z → n ≡ newCause l y → n ≢ 0
-      → (Refused n ≡ created (newOn l z)) × (l ≡ leaves (newOn l z) l)
-  unfolding newOn unless created leaves
-  new-no y n same e h = rw (← same, ← e, ne-eqb n 0 h) (refl, refl)
+-- The answer's words w, and the buffer m after it.
+module _ (l : List ℕ) (k w n p : ℕ) where
+  abbrev pub NewEnds : List ℕ → List ℕ → Type 0
+  NewEnds a m =
+      (a ≡ answer (callOn (new k w n p) l))
+      × ((m ≡ leaves (callOn (new k w n p) l) l)
+      × (So (isOk (callOn (new k w n p) l)) → So (inForm m)))
+
+  -- If there is a cause, for counts y that are these,
+  pub new-no : (y : Counts) (c : ℕ) → y ≡ countsOf k w n p → c ≡ newCause l y → c ≢ 0
+      → NewEnds (2 ∷ c ∷ []) l
+  unfolding callOn newOn unless answer leaves isOk
+  new-no y c same e h =
+      rw (← same, ← e, ne-eqb c 0 h) (refl, (refl, λ yes. absurd (false≢true yes)))
 
   -- and if there is none.
-  pub new-done : (y : Counts) (n total : ℕ) (m : List ℕ) → y ≡ z → n ≡ newCause l y → n ≡ 0
-      → total ≡ totalOf y → m ≡ written (fresh y) l
-      → (Done total ≡ created (newOn l z)) × (m ≡ leaves (newOn l z) l)
-  unfolding newOn unless created leaves
-  new-done y n total m same e h p q = rw (← same, ← e, h) (ap Done p, q)
-
-  pub new-not-broken : (mask : ℕ) (s : Store) → newOn l z ≢ broken mask s
-  unfolding newOn unless answer
-  new-not-broken mask s e = go (eqb (newCause l z) 0) (ap tag e)
-    where
-      -- 0 ok, 1 broken, 2 refused.
-      tag : Outcome → ℕ
-      tag x = getD (answer x) 0 0
-
-      go : (b : Bool)
-          → tag (cond b (done (totalOf z ∷ []) (fresh z)) (refused (newCause l z))) ≡ 1 → ⊥
-      go true p = omega (arith, p)
-      go false p = omega (arith, p)
-
-  -- An accepted new leaves a buffer in form.
-  pub new-form : newCause l z ≡ 0 → So (inForm (leaves (newOn l z) l))
-  unfolding newOn unless leaves
-  new-form e =
-      let F = new-fine l (z .keys) (z .writers) (z .sites) (z .runs) e in
-      rw e (fine-form (fresh z) l F)
+  pub new-done : (y : Counts) (c total : ℕ) (m : List ℕ) → y ≡ countsOf k w n p
+      → c ≡ newCause l y → c ≡ 0 → total ≡ totalOf y → m ≡ written (fresh y) l
+      → NewEnds (0 ∷ total ∷ []) m
+  unfolding callOn newOn unless answer leaves isOk
+  new-done y c total m same e h t q =
+      let no : newCause l (countsOf k w n p) ≡ 0 = rw (← same) (sym e ∙ h) in
+      let formed = fine-form (fresh (countsOf k w n p)) l (new-fine l k w n p no) in
+      rw (no) (
+        ap (λ (x : ℕ). 0 ∷ x ∷ []) (rw (← same) t),
+        (rw (← same) q, λ yes. rw (q, same) formed),
+      )

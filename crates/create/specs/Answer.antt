@@ -1,13 +1,11 @@
--- The answer of new as an enum.
+-- The answer of new: document 01's outcome and numbers for each case of the enum.
 -- Assumes nothing.
-use lib.ListN.{getD}
-use Rattle.model.specs.Outcome.{Outcome, refused, broken, done}
+use mathlib.Core.List.{List, [], _∷_}
+use Prim.Native.Nat.{ℕ}
 use Rattle.create.specs.declared.Created.{Created}
 use Rattle.create.specs.declared.Created.the-variants.{Done, Refused}
 
--- Document 01's number and values for each case: Refused has the cause's number, Done the one
--- number of the answer. New is never broken.
-unfoldable pub created : Outcome → Created
-created (refused n) = Refused n
-created (broken m s) = Refused 0
-created (done a s) = Done (getD a 0 0)
+-- "Answers the total."
+unfoldable pub createdWords : Created → List ℕ
+createdWords (Done total) = 0 ∷ total ∷ []
+createdWords (Refused n) = 2 ∷ n ∷ []

@@ -3,15 +3,17 @@ use sizes::Counts;
 use sizes::Sizes;
 use words::wide;
 ghost use mathlib.Core.Path.{_≡_};
+ghost use mathlib.Core.Bool.{So};
 ghost use Prim.Native.Nat.{_<_};
 ghost use lib.ListN.{length};
 ghost use lib.Seq.{sets};
 ghost use Rattle.sizes.specs.Bounds.{Ranged, countsOf, sizesOf, totalOf};
 ghost use Rattle.model.specs.Store.{fresh};
+ghost use Rattle.model.specs.Outcome.{answer};
 ghost use Rattle.layout.specs.Words.{headerWords};
-ghost use Rattle.layout.specs.Buffer.{written};
-ghost use Rattle.layout.specs.Calls.{newCause, newOn, leaves};
-ghost use Rattle.create.specs.Answer.{created};
+ghost use Rattle.layout.specs.Buffer.{written, inForm};
+ghost use Rattle.layout.specs.Calls.{new, newCause, callOn, leaves, isOk};
+ghost use Rattle.create.specs.Answer.{createdWords};
 ghost use Rattle.create.specs.Room.{Room};
 
 // The total of the fresh store, or the number of the cause for which new is refused.
@@ -22,11 +24,13 @@ pub enum Created {
 
 // Writes a fresh store, or refuses and leaves every word.
 pub fn new(words: &mut [u32], keys: u32, writers: u32, sites: u32, runs: u32) -> Created
-    ensures answers { λ r. ⌜ r
-        ≡ created (newOn (now (words .entry)) (countsOf keys writers sites runs)) ⌝ }
+    ensures answers { λ r. ⌜ createdWords r
+        ≡ answer (callOn (new keys writers sites runs) (now (words .entry))) ⌝ }
     ensures leaves { λ _. ⌜ now (words .exit)
-        ≡ leaves (newOn (now (words .entry)) (countsOf keys writers sites runs))
+        ≡ leaves (callOn (new keys writers sites runs) (now (words .entry)))
         (now (words .entry)) ⌝ }
+    ensures form { λ _. ⌜ (So (isOk (callOn (new keys writers sites runs) (now (words .entry))))
+        → So (inForm (now (words .exit)))) ⌝ }
 {
     let z = counts_of(keys, writers, sites, runs);
     let no = cause(words, z);

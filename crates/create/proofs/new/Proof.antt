@@ -1,6 +1,7 @@
 -- `new` meets its contract: refused for its cause, or done.
 -- Assumes nothing.
 use borrow.Author.Needs.{needs}
+use Rattle.create.specs.Answer.{createdWords}
 use Rattle.create.proofs.Outcomes.{new-no, new-done}
 use Rattle.create.proofs.new.Statement.{statement}
 use Rattle.create.proofs.new.Tie as tie
@@ -15,9 +16,10 @@ same-length : tie.Need-same-length
 same-length c = search needs
 
 returns : tie.Need-returns
+unfolding createdWords
 returns c =
     let b = c .before in
-    new-no _ _ _ _ (b .before .before .counts-of .ensures) (b .cause .ensures) (c .if1 .taken)
+    new-no _ _ _ _ _ _ _ (b .before .before .counts-of .ensures) (b .cause .ensures) (c .if1 .taken)
 
 store-fresh-requires : tie.Need-store-fresh-requires
 store-fresh-requires c κs = search needs
@@ -26,11 +28,12 @@ same-length-2 : tie.Need-same-length-2
 same-length-2 c = search needs
 
 returns-2 : tie.Need-returns-2
+unfolding createdWords
 returns-2 c =
     let s = c .before .before in
     let e = s .before .before in
     let b = e .before in
-    new-done _ _ _ _ _ _ (b .before .before .counts-of .ensures) (b .cause .ensures) (e .if1 .left)
+    new-done _ _ _ _ _ _ _ _ _ (b .before .before .counts-of .ensures) (b .cause .ensures) (e .if1 .left)
     (s .store-fresh .ensures .0) (s .store-fresh .ensures .1)
 
 pub new-spec : {M : Type 1} → statement M
