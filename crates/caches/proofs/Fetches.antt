@@ -114,5 +114,6 @@ module _ (l : List ℕ) (z : Counts) (F : So (inForm l)) (e : z ≡ countsIn l) 
       let n : m ≡ putPlace z l (siteAt z o) (cacheOf z l (masterAt z) (siteAt z o) (only k)) =
       rw (← a, ← b, ← one-key k, ← d) q in
       ends (fetch o k) l _ (0 ∷ T ∷ []) m taken-as (ap (λ (T : ℕ). 0 ∷ T ∷ []) t)
-      (n ∙ cache-stored l z (record { form = F; counts = e }) o (cacheOf z l (masterAt z) (siteAt z o) (only k))
+      (n ∙ cache-stored l z (record { form = F; counts = e }) o
+      (cacheOf z l (masterAt z) (siteAt z o) (only k))
       (fetch-ready l z e o k free .0))

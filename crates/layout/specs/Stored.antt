@@ -1,4 +1,4 @@
--- A part of a store, stored in a buffer from an index on; `sets` of the kit is the store of a list.
+-- A part of a store, stored in a buffer from an index on (`sets` of the kit stores a list).
 -- putVersion, putPlace, putWriter, putRun.
 -- Assumes nothing.
 use mathlib.Core.List.{List}

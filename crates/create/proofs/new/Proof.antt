@@ -19,7 +19,8 @@ returns : tie.Need-returns
 unfolding createdWords
 returns c =
     let b = c .before in
-    new-no _ _ _ _ _ _ _ (b .before .before .counts-of .ensures) (b .cause .ensures) (c .if1 .taken)
+    new-no _ _ _ _ _ _ _ (b .before .before .counts-of .ensures) (b .cause .ensures)
+    (c .if1 .taken)
 
 store-fresh-requires : tie.Need-store-fresh-requires
 store-fresh-requires c κs = search needs
@@ -33,8 +34,8 @@ returns-2 c =
     let s = c .before .before in
     let e = s .before .before in
     let b = e .before in
-    new-done _ _ _ _ _ _ _ _ _ (b .before .before .counts-of .ensures) (b .cause .ensures) (e .if1 .left)
-    (s .store-fresh .ensures .0) (s .store-fresh .ensures .1)
+    new-done _ _ _ _ _ _ _ _ _ (b .before .before .counts-of .ensures) (b .cause .ensures)
+    (e .if1 .left) (s .store-fresh .ensures .0) (s .store-fresh .ensures .1)
 
 pub new-spec : {M : Type 1} → statement M
 new-spec =
