@@ -1,0 +1,24 @@
+-- `put_two` stores two words.
+-- Assumes nothing.
+use native.Mathlib.Omega.{arith}
+use lib.ListN.{length-set}
+use borrow.Author.Needs.{needs}
+use Rattle.answers.proofs.Fronts.{front-two}
+use Rattle.answers.proofs.put_two.Statement.{statement}
+use Rattle.answers.proofs.put_two.Tie as tie
+
+slice-write-answer : tie.Need-slice-write-answer
+slice-write-answer c = search needs
+
+slice-write-answer-2 : tie.Need-slice-write-answer-2
+slice-write-answer-2 c = rw length-set (omega (arith, c .pre))
+
+same-length : tie.Need-same-length
+same-length c = search needs
+
+returns : tie.Need-returns
+returns c =
+    front-two (c .args .answer .now) (c .args .outcome) (c .args .number) (c .pre)
+
+pub put-two-spec : {M : Type 1} → statement M
+put-two-spec = tie.close (tie.spec slice-write-answer slice-write-answer-2 same-length returns)

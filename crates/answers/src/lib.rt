@@ -1,0 +1,75 @@
+// The answers of the calls as words: 0 ok, 1 broken, 2 refused, then the numbers that the text
+// prints. Each function puts them at the front of a lent slice of 24 words and gives how many.
+
+use caches::Evicted;
+use caches::Fetched;
+use create::Created;
+use runs::Dropped;
+use runs::Opened;
+ghost use mathlib.Core.Path.{_≡_};
+ghost use mathlib.Core.List.{[], _∷_};
+ghost use Prim.Native.Nat.{_≤_};
+ghost use lib.ListN.{length, take};
+ghost use Rattle.create.specs.Answer.{createdWords};
+ghost use Rattle.runs.specs.Runs.{openedWords, droppedWords};
+ghost use Rattle.caches.specs.Answers.{fetchedWords, evictedWords};
+
+// An outcome and one number.
+pub fn put_two(answer: &mut [u32], outcome: u32, number: u32) -> usize
+    requires { ⌜ 24 ≤ length (now answer) ⌝ }
+    ensures { λ n. ⌜ take n (now (answer .exit)) ≡ outcome ∷ number ∷ [] ⌝ }
+{
+    answer[0] = outcome;
+    answer[1] = number;
+    2
+}
+
+pub fn put_created(answer: &mut [u32], r: Created) -> usize
+    requires { ⌜ 24 ≤ length (now answer) ⌝ }
+    ensures { λ n. ⌜ take n (now (answer .exit)) ≡ createdWords r ⌝ }
+{
+    match r {
+        Created::Done(total) => put_two(answer, 0, total),
+        Created::Refused(no) => put_two(answer, 2, no),
+    }
+}
+
+pub fn put_opened(answer: &mut [u32], r: Opened) -> usize
+    requires { ⌜ 24 ≤ length (now answer) ⌝ }
+    ensures { λ n. ⌜ take n (now (answer .exit)) ≡ openedWords r ⌝ }
+{
+    match r {
+        Opened::Done(jobs) => put_two(answer, 0, jobs),
+        Opened::Refused(no) => put_two(answer, 2, no),
+    }
+}
+
+pub fn put_dropped(answer: &mut [u32], r: Dropped) -> usize
+    requires { ⌜ 24 ≤ length (now answer) ⌝ }
+    ensures { λ n. ⌜ take n (now (answer .exit)) ≡ droppedWords r ⌝ }
+{
+    match r {
+        Dropped::Done => put_two(answer, 0, 0),
+        Dropped::Refused(no) => put_two(answer, 2, no),
+    }
+}
+
+pub fn put_fetched(answer: &mut [u32], r: Fetched) -> usize
+    requires { ⌜ 24 ≤ length (now answer) ⌝ }
+    ensures { λ n. ⌜ take n (now (answer .exit)) ≡ fetchedWords r ⌝ }
+{
+    match r {
+        Fetched::Done(taken) => put_two(answer, 0, taken),
+        Fetched::Refused(no) => put_two(answer, 2, no),
+    }
+}
+
+pub fn put_evicted(answer: &mut [u32], r: Evicted) -> usize
+    requires { ⌜ 24 ≤ length (now answer) ⌝ }
+    ensures { λ n. ⌜ take n (now (answer .exit)) ≡ evictedWords r ⌝ }
+{
+    match r {
+        Evicted::Done(gone) => put_two(answer, 0, gone),
+        Evicted::Refused(no) => put_two(answer, 2, no),
+    }
+}
