@@ -1,6 +1,8 @@
 // The answers of the calls as words: 0 ok, 1 broken, 2 refused, then the numbers that the text
 // prints. Each function puts them at the front of a lent slice of 24 words and gives how many.
 
+pub mod row;
+
 use caches::Evicted;
 use caches::Fetched;
 use create::Created;
@@ -17,7 +19,8 @@ ghost use Rattle.caches.specs.Answers.{fetchedWords, evictedWords};
 // An outcome and one number.
 pub fn put_two(answer: &mut [u32], outcome: u32, number: u32) -> usize
     requires { ⌜ 24 ≤ length (now answer) ⌝ }
-    ensures { λ n. ⌜ take n (now (answer .exit)) ≡ outcome ∷ number ∷ [] ⌝ }
+    ensures words { λ n. ⌜ take n (now (answer .exit)) ≡ outcome ∷ number ∷ [] ⌝ }
+    ensures two { λ n. ⌜ n ≡ 2 ⌝ }
 {
     answer[0] = outcome;
     answer[1] = number;

@@ -101,13 +101,15 @@ module _ (l : List ℕ) (p i k : ℕ) where
       says-refused n (form-refused (look p i k) l n (lookDone s p i k) F rule h)
 
   pub look-done : (z : Counts) → z ≡ countsIn l → So (inForm l) → Found l z p i k
-      → Says (Done (readWord l (keyAt z (placeAt z p i) k)) (ownRowAt z p i k))
+      → Says (Done (record { 0 = readWord l (keyAt z (placeAt z p i) k) }) (ownRowAt z p i k)
+      (z .writers))
   unfolding lookDone shown answer RowIn ownRowAt readVersion
   look-done z d F T =
       let at = placeAt z p i in
       let issue = ap (λ (v : Version). v .issue) (place-at z l at k (T .key)) in
       let row = row-window z l at k k (T .key) (T .key) in
+      let A = area-in l z d p i F (T .number) in
       rw (T .result, place-in l z d p i (T .number), counts-in l, ← d) (
         ap₂ (λ (n : ℕ) (t : List ℕ). 0 ∷ n ∷ t) (sym issue) (sym row),
-        row-in (length l) z at (area-in l z d p i F (T .number)) k k (T .key) (T .key),
+        (row-in (length l) z at A k k (T .key) (T .key), A .ranged .writers-high),
       )

@@ -5,17 +5,17 @@ use mathlib.Core.List.{List, [], _∷_}
 use Prim.Native.Nat.{ℕ, _+_, _≤_}
 use lib.ListN.{length}
 use Rattle.words.specs.Lists.{window}
-use Rattle.layout.specs.Reading.{countsIn}
+use Rattle.sizes.specs.Bounds.{maxWriters}
 use Rattle.look.specs.declared.Looked.{Looked}
 use Rattle.look.specs.declared.Looked.the-variants.{Done, Refused}
 
--- "answers issue number and own row": Done has the issue number, and where the row's W counts
--- begin.
+-- "answers issue number and own row": Done has the issue number, and where the row's counts begin
+-- and how many they are.
 unfoldable pub shown : List ℕ → Looked → List ℕ
-shown l (Done i at) = 0 ∷ i ∷ window l at (countsIn l .writers)
+shown l (Done i at n) = 0 ∷ i .0 ∷ window l at n
 shown l (Refused n) = 2 ∷ n ∷ []
 
--- Where the row begins is free, as long as a caller may read its W counts.
+-- Where the row begins is free, as long as a caller may read its counts.
 unfoldable pub RowIn : List ℕ → Looked → Type 0
-RowIn l (Done i at) = at + countsIn l .writers ≤ length l
+RowIn l (Done i at n) = (at + n ≤ length l) × (n ≤ maxWriters)
 RowIn l (Refused n) = Unit

@@ -1,6 +1,7 @@
 // The call look: the issue number and the own row of a version, read in a buffer.
 use form::header::counts;
 use form::in_form;
+use numbers::IssueNumber;
 use sizes::Counts;
 use version::held;
 use version::row_of;
@@ -19,10 +20,10 @@ ghost use Rattle.form.specs.Parts.{FormWith};
 ghost use Rattle.look.specs.Places.{placeAt};
 ghost use Rattle.look.specs.Answer.{shown, RowIn};
 
-// The issue number, and the index at which the own row's W counts begin; or the number of the
-// cause for which a look is refused.
+// The issue number, and where the own row's counts begin and how many they are; or the number of
+// the cause for which a look is refused.
 pub enum Looked {
-    Done(u32, usize),
+    Done(IssueNumber, usize, usize),
     Refused(u32),
 }
 
@@ -92,7 +93,7 @@ pub fn look_in(words: &[u32], place: u32, number: u32, key: u32) -> Looked
     let at = place_at(z, place, i);
     let issue = z.key_at(at, k);
     let row = row_of(z, at, k, k);
-    Looked::Done(words[issue], row)
+    Looked::Done(IssueNumber(words[issue]), row, z.writers)
 }
 
 // The version of a key in place 0 (the master), 1 (the cache of site `number`) or 2 (the

@@ -1,5 +1,6 @@
 -- Words that a loop stores one by one, as one store.
--- put-zeros: zeros. put-list: the words of a list. sets-front: a list stored over zeros.
+-- put-window: words of another list. put-zeros: zeros. put-list: the words of a list.
+-- sets-front: a list stored over zeros.
 -- Assumes nothing.
 use mathlib.Core.Path.{_≡_, refl, sym, ap, ap₂, _∙_, fun-ext}
 use mathlib.Core.List.{List, [], _∷_, _++_, append-nil}
@@ -14,7 +15,7 @@ use Rattle.words.proofs.Lists.{length-window, window-add, window-all}
 use Rattle.layout.proofs.Merges.{put-table}
 use Rattle.version.proofs.Versions.{table-window}
 
-put-window : (l m : List ℕ) (at b n : ℕ)
+pub put-window : (l m : List ℕ) (at b n : ℕ)
     → put l at n (λ i. getD m (b + i) 0) ≡ sets l at (window m b n)
 put-window l m at b n =
     put-table l at n (λ i. getD m (b + i) 0) ∙ ap (sets l at) (table-window m b n)

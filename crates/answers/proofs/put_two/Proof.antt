@@ -1,6 +1,7 @@
 -- `put_two` stores two words.
 -- Assumes nothing.
 use native.Mathlib.Omega.{arith}
+use mathlib.Core.Path.{refl}
 use lib.ListN.{length-set}
 use borrow.Author.Needs.{needs}
 use Rattle.answers.proofs.Fronts.{front-two}
@@ -18,7 +19,7 @@ same-length c = search needs
 
 returns : tie.Need-returns
 returns c =
-    front-two (c .args .answer .now) (c .args .outcome) (c .args .number) (c .pre)
+    (front-two (c .args .answer .now) (c .args .outcome) (c .args .number) (c .pre), refl)
 
 pub put-two-spec : {M : Type 1} → statement M
 put-two-spec = tie.close (tie.spec slice-write-answer slice-write-answer-2 same-length returns)

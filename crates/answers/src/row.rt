@@ -1,0 +1,49 @@
+// The answer of look as words: an issue number and a row of counts.
+use crate::put_two;
+use look::Looked;
+ghost use mathlib.Core.Path.{_≡_};
+ghost use mathlib.Core.List.{_∷_};
+ghost use Prim.Native.Nat.{_+_, _≤_};
+ghost use lib.ListN.{length, take, getD};
+ghost use Rattle.words.specs.Words.{put};
+ghost use Rattle.words.specs.Lists.{window};
+ghost use Rattle.sizes.specs.Bounds.{maxWriters};
+ghost use Rattle.look.specs.Answer.{shown, RowIn};
+
+// n counts from an index of the buffer on, behind an outcome and a number.
+fn put_counts(answer: &mut [u32], desk: &[u32], at: usize, n: usize)
+    requires { ⌜ (at + n ≤ length (now desk)) × (n ≤ maxWriters) ⌝ }
+    requires { ⌜ 24 ≤ length (now answer) ⌝ }
+    ensures { λ _. ⌜ now (answer .exit) ≡ put (now (answer .entry)) 2 n
+        (λ i. getD (now (desk .entry)) (at + i) 0) ⌝ }
+{
+    let mut i = 0;
+    while i < n {
+        answer[2 + i] = desk[at + i];
+        i += 1;
+    }
+}
+
+// An issue number, and a row of n counts from an index of the buffer on.
+fn put_version(answer: &mut [u32], desk: &[u32], issue: u32, at: usize, n: usize) -> usize
+    requires { ⌜ (at + n ≤ length (now desk)) × (n ≤ maxWriters) ⌝ }
+    requires { ⌜ 24 ≤ length (now answer) ⌝ }
+    ensures { λ r. ⌜ take r (now (answer .exit))
+        ≡ 0 ∷ issue ∷ window (now (desk .entry)) at n ⌝ }
+{
+    let two = put_two(answer, 0, issue);
+    put_counts(answer, desk, at, n);
+    two + n
+}
+
+// The words of a look at this buffer.
+pub fn put_looked(answer: &mut [u32], desk: &[u32], r: Looked) -> usize
+    requires { ⌜ 24 ≤ length (now answer) ⌝ }
+    requires { ⌜ RowIn (now desk) r ⌝ }
+    ensures { λ n. ⌜ take n (now (answer .exit)) ≡ shown (now (desk .entry)) r ⌝ }
+{
+    match r {
+        Looked::Done(issue, at, n) => put_version(answer, desk, issue.0, at, n),
+        Looked::Refused(no) => put_two(answer, 2, no),
+    }
+}
