@@ -1,5 +1,5 @@
 // The answers of the calls as words: 0 ok, 1 broken, 2 refused, then the numbers that the text
-// prints. Each function puts them at the front of a lent slice of 24 words and gives how many.
+// prints. Each function puts them at the front of a lent slice and gives how many there are.
 
 pub mod row;
 
@@ -29,7 +29,8 @@ pub fn put_two(answer: &mut [u32], outcome: u32, number: u32) -> usize
 
 pub fn put_created(answer: &mut [u32], r: Created) -> usize
     requires { ⌜ 24 ≤ length (now answer) ⌝ }
-    ensures { λ n. ⌜ take n (now (answer .exit)) ≡ createdWords r ⌝ }
+    ensures words { λ n. ⌜ take n (now (answer .exit)) ≡ createdWords r ⌝ }
+    ensures few { λ n. ⌜ n ≤ 24 ⌝ }
 {
     match r {
         Created::Done(total) => put_two(answer, 0, total),
@@ -39,7 +40,8 @@ pub fn put_created(answer: &mut [u32], r: Created) -> usize
 
 pub fn put_opened(answer: &mut [u32], r: Opened) -> usize
     requires { ⌜ 24 ≤ length (now answer) ⌝ }
-    ensures { λ n. ⌜ take n (now (answer .exit)) ≡ openedWords r ⌝ }
+    ensures words { λ n. ⌜ take n (now (answer .exit)) ≡ openedWords r ⌝ }
+    ensures few { λ n. ⌜ n ≤ 24 ⌝ }
 {
     match r {
         Opened::Done(jobs) => put_two(answer, 0, jobs),
@@ -49,7 +51,8 @@ pub fn put_opened(answer: &mut [u32], r: Opened) -> usize
 
 pub fn put_dropped(answer: &mut [u32], r: Dropped) -> usize
     requires { ⌜ 24 ≤ length (now answer) ⌝ }
-    ensures { λ n. ⌜ take n (now (answer .exit)) ≡ droppedWords r ⌝ }
+    ensures words { λ n. ⌜ take n (now (answer .exit)) ≡ droppedWords r ⌝ }
+    ensures few { λ n. ⌜ n ≤ 24 ⌝ }
 {
     match r {
         Dropped::Done => put_two(answer, 0, 0),
@@ -59,7 +62,8 @@ pub fn put_dropped(answer: &mut [u32], r: Dropped) -> usize
 
 pub fn put_fetched(answer: &mut [u32], r: Fetched) -> usize
     requires { ⌜ 24 ≤ length (now answer) ⌝ }
-    ensures { λ n. ⌜ take n (now (answer .exit)) ≡ fetchedWords r ⌝ }
+    ensures words { λ n. ⌜ take n (now (answer .exit)) ≡ fetchedWords r ⌝ }
+    ensures few { λ n. ⌜ n ≤ 24 ⌝ }
 {
     match r {
         Fetched::Done(taken) => put_two(answer, 0, taken),
@@ -69,7 +73,8 @@ pub fn put_fetched(answer: &mut [u32], r: Fetched) -> usize
 
 pub fn put_evicted(answer: &mut [u32], r: Evicted) -> usize
     requires { ⌜ 24 ≤ length (now answer) ⌝ }
-    ensures { λ n. ⌜ take n (now (answer .exit)) ≡ evictedWords r ⌝ }
+    ensures words { λ n. ⌜ take n (now (answer .exit)) ≡ evictedWords r ⌝ }
+    ensures few { λ n. ⌜ n ≤ 24 ⌝ }
 {
     match r {
         Evicted::Done(gone) => put_two(answer, 0, gone),

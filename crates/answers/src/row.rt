@@ -28,8 +28,9 @@ fn put_counts(answer: &mut [u32], desk: &[u32], at: usize, n: usize)
 fn put_version(answer: &mut [u32], desk: &[u32], issue: u32, at: usize, n: usize) -> usize
     requires { ⌜ (at + n ≤ length (now desk)) × (n ≤ maxWriters) ⌝ }
     requires { ⌜ 24 ≤ length (now answer) ⌝ }
-    ensures { λ r. ⌜ take r (now (answer .exit))
+    ensures words { λ r. ⌜ take r (now (answer .exit))
         ≡ 0 ∷ issue ∷ window (now (desk .entry)) at n ⌝ }
+    ensures few { λ r. ⌜ r ≤ 24 ⌝ }
 {
     let two = put_two(answer, 0, issue);
     put_counts(answer, desk, at, n);
@@ -40,7 +41,8 @@ fn put_version(answer: &mut [u32], desk: &[u32], issue: u32, at: usize, n: usize
 pub fn put_looked(answer: &mut [u32], desk: &[u32], r: Looked) -> usize
     requires { ⌜ 24 ≤ length (now answer) ⌝ }
     requires { ⌜ RowIn (now desk) r ⌝ }
-    ensures { λ n. ⌜ take n (now (answer .exit)) ≡ shown (now (desk .entry)) r ⌝ }
+    ensures words { λ n. ⌜ take n (now (answer .exit)) ≡ shown (now (desk .entry)) r ⌝ }
+    ensures few { λ n. ⌜ n ≤ 24 ⌝ }
 {
     match r {
         Looked::Done(issue, at, n) => put_version(answer, desk, issue.0, at, n),

@@ -1,6 +1,6 @@
 -- What a look comes to on a buffer.
 -- area-in, held-in, cause-in: what the tests rest on. Found, found: the version is there.
--- Says: what the answer shows, and where its row lies; look-unformed, look-refused, look-done.
+-- Says: what the answer shows, and that nothing is changed; look-unformed, look-refused, look-done.
 -- Assumes nothing.
 use mathlib.Core.Path.{_≡_, refl, sym, ap, ap₂, _∙_}
 use mathlib.Core.Bool.{false, not, So}
@@ -19,14 +19,14 @@ use Rattle.model.specs.Look.{lookPlace, lookLimit, lookCause, lookDone, lookRul
 use Rattle.model.specs.Calls.{look, ruleOf}
 use Rattle.layout.specs.Reading.{readWord, readVersion, readPlace, countsIn, storeOf}
 use Rattle.layout.specs.Buffer.{inForm}
-use Rattle.layout.specs.Calls.{on, callOn}
+use Rattle.layout.specs.Calls.{on, callOn, leaves}
 use Rattle.model.proofs.Outcomes.{no-cause}
 use Rattle.layout.proofs.Places.{place-at}
 use Rattle.layout.proofs.Readings.{counts-in}
 use Rattle.layout.proofs.Forms.{no-form, form-refused, form-done}
 use Rattle.version.specs.Places.{Area}
 use Rattle.version.proofs.Areas.{row-in}
-use Rattle.form.proofs.Known.{form-area}
+use Rattle.form.proofs.Known.{form-area, form-again}
 use Rattle.look.specs.declared.Looked.{Looked}
 use Rattle.look.specs.declared.Looked.the-variants.{Done, Refused}
 use Rattle.look.specs.Places.{placeAt, ownRowAt}
@@ -82,13 +82,15 @@ module _ (l : List ℕ) (p i k : ℕ) where
         result = form-done (look p i k) l (lookCause s p i k) (lookDone s p i k) F as-rule e;
       }
 
-  -- What it says, and where its row lies.
+  -- What it says, where its row lies, and that nothing is changed.
   abbrev pub Says : Looked → Type 0
-  Says r = (shown l r ≡ answer (callOn (on (look p i k)) l)) × RowIn l r
+  Says r =
+      (shown l r ≡ answer (callOn (on (look p i k)) l))
+      × (RowIn l r × (l ≡ leaves (callOn (on (look p i k)) l) l))
 
   says-refused : (n : ℕ) → callOn (on (look p i k)) l ≡ refused n → Says (Refused n)
-  unfolding shown answer RowIn
-  says-refused n e = rw e (refl, tt)
+  unfolding shown answer RowIn leaves
+  says-refused n e = rw e (refl, (tt, refl))
 
   pub look-unformed : inForm l ≡ false → Says (Refused 1)
   look-unformed F = says-refused 1 (no-form (look p i k) l F)
@@ -103,13 +105,17 @@ module _ (l : List ℕ) (p i k : ℕ) where
   pub look-done : (z : Counts) → z ≡ countsIn l → So (inForm l) → Found l z p i k
       → Says (Done (record { 0 = readWord l (keyAt z (placeAt z p i) k) }) (ownRowAt z p i k)
       (z .writers))
-  unfolding lookDone shown answer RowIn ownRowAt readVersion
+  unfolding lookDone shown answer RowIn ownRowAt readVersion leaves
   look-done z d F T =
       let at = placeAt z p i in
       let issue = ap (λ (v : Version). v .issue) (place-at z l at k (T .key)) in
       let row = row-window z l at k k (T .key) (T .key) in
       let A = area-in l z d p i F (T .number) in
-      rw (T .result, place-in l z d p i (T .number), counts-in l, ← d) (
-        ap₂ (λ (n : ℕ) (t : List ℕ). 0 ∷ n ∷ t) (sym issue) (sym row),
-        (row-in (length l) z at A k k (T .key) (T .key), A .ranged .writers-high),
-      )
+      let r = Done (record { 0 = readWord l (keyAt z at k) }) (ownRowAt z p i k) (z .writers) in
+      let says : shown l r ≡ answer (callOn (on (look p i k)) l) =
+      rw (T .result, place-in l z d p i (T .number), counts-in l, ← d)
+      (ap₂ (λ (n : ℕ) (t : List ℕ). 0 ∷ n ∷ t) (sym issue) (sym row)) in
+      let same : l ≡ leaves (callOn (on (look p i k)) l) l =
+      rw (T .result) (sym (form-again l z (record { form = F; counts = d }))) in
+      let lies = row-in (length l) z at A k k (T .key) (T .key) in
+      (says, ((lies, A .ranged .writers-high), same))

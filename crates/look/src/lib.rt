@@ -15,7 +15,7 @@ ghost use Rattle.model.specs.Look.{lookLimit, lookCause};
 ghost use Rattle.model.specs.Calls.{look};
 ghost use Rattle.layout.specs.Reading.{storeOf};
 ghost use Rattle.layout.specs.Buffer.{inForm};
-ghost use Rattle.layout.specs.Calls.{on, callOn};
+ghost use Rattle.layout.specs.Calls.{on, callOn, leaves};
 ghost use Rattle.form.specs.Parts.{FormWith};
 ghost use Rattle.look.specs.Places.{placeAt};
 ghost use Rattle.look.specs.Answer.{shown, RowIn};
@@ -82,6 +82,9 @@ pub fn look_in(words: &[u32], place: u32, number: u32, key: u32) -> Looked
     ensures shows { λ r. ⌜ shown (now (words .entry)) r
         ≡ answer (callOn (on (look place number key)) (now (words .entry))) ⌝ }
     ensures row { λ r. ⌜ RowIn (now (words .entry)) r ⌝ }
+    ensures leaves { λ _. ⌜ now (words .entry)
+        ≡ leaves (callOn (on (look place number key)) (now (words .entry)))
+        (now (words .entry)) ⌝ }
 {
     let z = counts(words);
     let i = wide(number);
@@ -102,6 +105,9 @@ pub fn look(words: &[u32], place: u32, number: u32, key: u32) -> Looked
     ensures shows { λ r. ⌜ shown (now (words .entry)) r
         ≡ answer (callOn (on (look place number key)) (now (words .entry))) ⌝ }
     ensures row { λ r. ⌜ RowIn (now (words .entry)) r ⌝ }
+    ensures leaves { λ _. ⌜ now (words .entry)
+        ≡ leaves (callOn (on (look place number key)) (now (words .entry)))
+        (now (words .entry)) ⌝ }
 {
     if !in_form(words) {
         return Looked::Refused(1);

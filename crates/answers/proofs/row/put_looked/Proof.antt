@@ -28,8 +28,8 @@ same-length c = search needs
 returns : tie.Need-returns
 unfolding shown
 returns c =
-    c .before .before .put-version .ensures
-    ∙ sym (ap (shown _) (c .before .before .before .before .before .r .given .1))
+    let e = c .before .before .put-version .ensures in
+    (e .0 ∙ sym (ap (shown _) (c .before .before .before .before .before .r .given .1)), e .1)
 
 same-length-2 : tie.Need-same-length-2
 same-length-2 c = search needs
@@ -37,8 +37,10 @@ same-length-2 c = search needs
 returns-2 : tie.Need-returns-2
 unfolding shown
 returns-2 c =
-    c .before .before .put-two .ensures .0
-    ∙ sym (ap (shown _) (c .before .before .before .before .before .r2 .given .1))
+    let e = c .before .before .put-two .ensures in (
+      e .0 ∙ sym (ap (shown _) (c .before .before .before .before .before .r2 .given .1)),
+      omega (arith, e .1),
+    )
 
 pub put-looked-spec : {M : Type 1} → statement M
 put-looked-spec =

@@ -27,9 +27,11 @@ returns c =
     let s = c .before .before .before .before .before .before .before .before .before .before in
     let a = s .args in
     let two = ap (λ (k : ℕ). take k (t .last .0)) (sym (t .ensures .1)) ∙ t .ensures .0 in
-    rw (t .ensures .1, c .before .before .put-counts .ensures)
-    (front-row (t .last .0) (a .desk .now) 0 (a .issue) (a .at) (a .n) two
-    (omega (arith, t .kept .0, s .pre .0 .1, s .pre .1)))
+    rw (t .ensures .1, c .before .before .put-counts .ensures) (
+      front-row (t .last .0) (a .desk .now) 0 (a .issue) (a .at) (a .n) two
+          (omega (arith, t .kept .0, s .pre .0 .1, s .pre .1)),
+      omega (arith, s .pre .0 .1),
+    )
 
 pub put-version-spec : {M : Type 1} → statement M
 put-version-spec =
