@@ -1,6 +1,7 @@
 -- What a look comes to on a buffer.
 -- area-in, held-in, cause-in: what the tests rest on. Found, found: the version is there.
--- Says: what the answer shows, and that nothing is changed; look-unformed, look-refused, look-done.
+-- Says: what the answer shows, and that nothing is changed; look-unformed, look-refused,
+-- look-done.
 -- Assumes nothing.
 use mathlib.Core.Path.{_≡_, refl, sym, ap, ap₂, _∙_}
 use mathlib.Core.Bool.{false, not, So}

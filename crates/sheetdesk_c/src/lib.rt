@@ -1,6 +1,6 @@
 // The calls for C and Rust. Each writes its answer's words into a lent slice (0 ok, 1 broken or
-// 2 refused, then the numbers) and gives how many it wrote; a slice of fewer than 24 words gives 0,
-// and nothing is changed.
+// 2 refused, then the numbers) and gives how many it wrote; a slice of fewer than 24 words gives
+// 0, and nothing is changed.
 use answers::put_created;
 use answers::put_dropped;
 use answers::put_evicted;
@@ -30,8 +30,8 @@ pub extern "C" fn sheetdesk_new(
     runs: u32,
     out: &mut [u32],
 ) -> u32
-    ensures { λ n. ⌜ Exported (new keys writers sites runs) (now (desk .entry)) (now (desk .exit))
-        (now (out .entry)) (now (out .exit)) n ⌝ }
+    ensures { λ n. ⌜ Exported (new keys writers sites runs)
+        (now (desk .entry)) (now (desk .exit)) (now (out .entry)) (now (out .exit)) n ⌝ }
 {
     if out.len() < 24 {
         return 0;
@@ -43,8 +43,8 @@ pub extern "C" fn sheetdesk_new(
 
 #[no_mangle]
 pub extern "C" fn sheetdesk_open(desk: &mut [u32], run: u32, jobs: &[u32], out: &mut [u32]) -> u32
-    ensures { λ n. ⌜ Exported (on (openRun run (now (jobs .entry)))) (now (desk .entry)) (now (desk .exit))
-        (now (out .entry)) (now (out .exit)) n ⌝ }
+    ensures { λ n. ⌜ Exported (on (openRun run (now (jobs .entry))))
+        (now (desk .entry)) (now (desk .exit)) (now (out .entry)) (now (out .exit)) n ⌝ }
 {
     if out.len() < 24 {
         return 0;
@@ -56,8 +56,8 @@ pub extern "C" fn sheetdesk_open(desk: &mut [u32], run: u32, jobs: &[u32], out: 
 
 #[no_mangle]
 pub extern "C" fn sheetdesk_fetch(desk: &mut [u32], office: u32, sheet: u32, out: &mut [u32]) -> u32
-    ensures { λ n. ⌜ Exported (on (fetch office sheet)) (now (desk .entry)) (now (desk .exit))
-        (now (out .entry)) (now (out .exit)) n ⌝ }
+    ensures { λ n. ⌜ Exported (on (fetch office sheet))
+        (now (desk .entry)) (now (desk .exit)) (now (out .entry)) (now (out .exit)) n ⌝ }
 {
     if out.len() < 24 {
         return 0;
@@ -69,8 +69,8 @@ pub extern "C" fn sheetdesk_fetch(desk: &mut [u32], office: u32, sheet: u32, out
 
 #[no_mangle]
 pub extern "C" fn sheetdesk_evict(desk: &mut [u32], office: u32, sheet: u32, out: &mut [u32]) -> u32
-    ensures { λ n. ⌜ Exported (on (evict office sheet)) (now (desk .entry)) (now (desk .exit))
-        (now (out .entry)) (now (out .exit)) n ⌝ }
+    ensures { λ n. ⌜ Exported (on (evict office sheet))
+        (now (desk .entry)) (now (desk .exit)) (now (out .entry)) (now (out .exit)) n ⌝ }
 {
     if out.len() < 24 {
         return 0;
@@ -82,8 +82,8 @@ pub extern "C" fn sheetdesk_evict(desk: &mut [u32], office: u32, sheet: u32, out
 
 #[no_mangle]
 pub extern "C" fn sheetdesk_drop(desk: &mut [u32], run: u32, out: &mut [u32]) -> u32
-    ensures { λ n. ⌜ Exported (on (dropRun run)) (now (desk .entry)) (now (desk .exit))
-        (now (out .entry)) (now (out .exit)) n ⌝ }
+    ensures { λ n. ⌜ Exported (on (dropRun run))
+        (now (desk .entry)) (now (desk .exit)) (now (out .entry)) (now (out .exit)) n ⌝ }
 {
     if out.len() < 24 {
         return 0;
@@ -101,8 +101,8 @@ pub extern "C" fn sheetdesk_look(
     sheet: u32,
     out: &mut [u32],
 ) -> u32
-    ensures { λ n. ⌜ Exported (on (look place number sheet)) (now (desk .entry)) (now (desk .entry))
-        (now (out .entry)) (now (out .exit)) n ⌝ }
+    ensures { λ n. ⌜ Exported (on (look place number sheet))
+        (now (desk .entry)) (now (desk .entry)) (now (out .entry)) (now (out .exit)) n ⌝ }
 {
     if out.len() < 24 {
         return 0;

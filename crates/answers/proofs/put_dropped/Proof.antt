@@ -25,8 +25,11 @@ same-length c = search needs
 returns : tie.Need-returns
 unfolding droppedWords
 returns c =
-    let e = c .before .before .put-two .ensures in
-    (e .0 ∙ sym (ap droppedWords (c .before .before .before .before .enum-told .given .1)), omega (arith, e .1))
+    let e = c .before .before .put-two .ensures in (
+      e .0
+          ∙ sym (ap droppedWords (c .before .before .before .before .enum-told .given .1)),
+      omega (arith, e .1),
+    )
 
 same-length-2 : tie.Need-same-length-2
 same-length-2 c = search needs
@@ -34,8 +37,11 @@ same-length-2 c = search needs
 returns-2 : tie.Need-returns-2
 unfolding droppedWords
 returns-2 c =
-    let e = c .before .before .put-two2 .ensures in
-    (e .0 ∙ sym (ap droppedWords (c .before .before .before .before .before .r .given .1)), omega (arith, e .1))
+    let e = c .before .before .put-two2 .ensures in (
+      e .0
+          ∙ sym (ap droppedWords (c .before .before .before .before .before .r .given .1)),
+      omega (arith, e .1),
+    )
 
 pub put-dropped-spec : {M : Type 1} → statement M
 put-dropped-spec =

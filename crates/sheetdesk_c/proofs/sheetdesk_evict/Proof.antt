@@ -28,8 +28,9 @@ returns-2 c =
     let p = c .before .before .before .put-evicted in
     let f = c .before .before .before .before .before .before .before .evict in
     rw (c .narrow .ensures)
-    (export-done _ _ _ _ _ _ _ (c .before .before .before .before .before .before .before .before .before .if1 .left) (f .ensures .0)
-    (f .ensures .1 .0) (p .ensures .0) (p .ensures .1))
+    (export-done _ _ _ _ _ _ _
+    (c .before .before .before .before .before .before .before .before .before .if1 .left)
+    (f .ensures .0) (f .ensures .1 .0) (p .ensures .0) (p .ensures .1))
 
 pub sheetdesk-evict-spec : {M : Type 1} → statement M
 sheetdesk-evict-spec =

@@ -1,0 +1,224 @@
+//! "Demand 3's list and book": the book, fed with each call and whether it was answered `ok`.
+//!
+//! It knows no clocks. A copy is a set of saves, and what stands behind a save is kept as a
+//! set too. `feed` gives back what the rules on copies would answer, for a comparison.
+
+pub mod checks;
+pub mod runs;
+pub mod saves;
+
+use crate::text::Call;
+pub use runs::{Finished, Job, Run};
+use saves::{Ledger, Saves};
+
+pub struct Book {
+    pub k: usize,
+    pub w: usize,
+    pub ledger: Ledger,
+    pub master: Vec<Saves>,
+    pub shelves: Vec<Vec<Saves>>,
+    pub runs: Vec<Run>,
+}
+
+/// What a step finds: T of its fetch, C, and the shelf after the fetch.
+pub struct StepFound {
+    pub fetched: u32,
+    pub set: u32,
+    pub shelf: Vec<Saves>,
+}
+
+pub fn has(mask: u32, k: usize) -> bool {
+    (mask >> k) & 1 == 1
+}
+
+/// No sheet held.
+fn empty(k: usize) -> Vec<Saves> {
+    vec![Saves::default(); k]
+}
+
+impl Book {
+    /// "New: all empty."
+    pub fn new([k, w, n, p]: [u32; 4]) -> Book {
+        let k = k as usize;
+        Book {
+            k,
+            w: w as usize,
+            ledger: Ledger::default(),
+            master: empty(k),
+            shelves: vec![empty(k); n as usize],
+            runs: (0..p).map(|_| Run::fresh(k)).collect(),
+        }
+    }
+
+    /// Enters a call. "Not ok, or look: nothing changes."
+    pub fn feed(&mut self, call: &Call, ok: bool) -> Vec<u32> {
+        if !ok {
+            return Vec::new();
+        }
+        match call {
+            Call::New(sizes) => {
+                *self = Book::new(*sizes);
+                Vec::new()
+            }
+            Call::Open(run, list) => self.open(*run as usize, list),
+            Call::Fetch(office, sheet) => vec![self.fetch(*office as usize, 1 << sheet)],
+            Call::Evict(office, sheet) => self.evict(*office as usize, *sheet as usize),
+            Call::Prepare(run) => self.prepare(*run as usize),
+            Call::Step(run, job) => self.step(*run as usize, *job as usize),
+            Call::Issue(run, writer, mask) => {
+                let number = self.issue(*run as usize, *writer as usize, *mask);
+                self.clear(*run as usize);
+                vec![number]
+            }
+            Call::Drop(run) => {
+                self.clear(*run as usize);
+                vec![0]
+            }
+            Call::Look(place, number, sheet) => self.look(*place, *number as usize, *sheet),
+        }
+    }
+
+    fn clear(&mut self, run: usize) {
+        self.runs[run] = Run::fresh(self.k);
+    }
+
+    fn open(&mut self, run: usize, list: &[u32]) -> Vec<u32> {
+        let jobs = list.chunks(3).map(|job| Job { office: job[0] as usize, reads: job[1] });
+        self.runs[run].jobs = jobs.collect();
+        vec![self.runs[run].jobs.len() as u32]
+    }
+
+    /// Goes over the sheets until none joins; `joins(t, d)` says that t brings d in.
+    fn least(&self, start: u32, joins: impl Fn(usize, usize) -> bool) -> u32 {
+        let mut set = start;
+        loop {
+            let before = set;
+            for t in 0..self.k {
+                for d in 0..self.k {
+                    if has(set, t) && t != d && joins(t, d) {
+                        set |= 1 << d;
+                    }
+                }
+            }
+            if set == before {
+                return set;
+            }
+        }
+    }
+
+    /// T on copies.
+    fn fetch_set(&self, shelf: &[Saves], asked: u32) -> u32 {
+        self.least(asked, |t, d| {
+            let need = self.ledger.need(&self.master[t], d);
+            !need.is_empty() && !shelf[d].includes(&need) && !self.master[d].is_empty()
+        })
+    }
+
+    fn fetch(&mut self, office: usize, asked: u32) -> u32 {
+        let set = self.fetch_set(&self.shelves[office], asked);
+        for k in (0..self.k).filter(|k| has(set, *k)) {
+            self.shelves[office][k] = self.master[k].clone();
+        }
+        set
+    }
+
+    fn evict(&mut self, office: usize, sheet: usize) -> Vec<u32> {
+        let shelf = &self.shelves[office];
+        let set = self.least(1 << sheet, |member, u| {
+            !shelf[u].is_empty() && !self.ledger.need(&shelf[u], member).is_empty()
+        });
+        for k in (0..self.k).filter(|k| has(set, *k)) {
+            self.shelves[office][k] = Saves::default();
+        }
+        vec![set]
+    }
+
+    /// Those of the sheets whose copy is empty.
+    fn lacking(&self, copies: &[Saves], sheets: u32) -> u32 {
+        (0..self.k)
+            .filter(|k| has(sheets, *k) && copies[*k].is_empty())
+            .fold(0, |mask, k| mask | 1 << k)
+    }
+
+    fn prepare(&mut self, run: usize) -> Vec<u32> {
+        for job in self.runs[run].jobs.clone() {
+            let missing = self.lacking(&self.shelves[job.office], job.reads);
+            self.fetch(job.office, missing);
+        }
+        let plan = self.runs[run].plan();
+        let mut card = empty(self.k);
+        for k in (0..self.k).filter(|k| has(plan, *k)) {
+            for job in &self.runs[run].jobs {
+                card[k].join(&self.shelves[job.office][k]);
+            }
+        }
+        self.runs[run].card = card;
+        vec![plan & !self.lacking(&self.runs[run].card, plan)]
+    }
+
+    /// T and C on copies; nothing is changed.
+    pub fn find_step(&self, run: usize, job: usize) -> StepFound {
+        let (run, job) = (&self.runs[run], &self.runs[run].jobs[job]);
+        let off_card = self.lacking(&run.card, job.reads);
+        let mut shelf = self.shelves[job.office].clone();
+        let fetched = self.fetch_set(&shelf, self.lacking(&shelf, off_card));
+        for k in (0..self.k).filter(|k| has(fetched, *k)) {
+            shelf[k] = self.master[k].clone();
+        }
+        let set = self.least(off_card, |c, d| {
+            let need = self.ledger.need(&shelf[c], d);
+            has(run.plan(), d)
+                && !need.is_empty()
+                && !run.card[d].includes(&need)
+                && !shelf[d].is_empty()
+        });
+        StepFound { fetched, set, shelf }
+    }
+
+    /// A step that was answered `ok`.
+    fn step(&mut self, run: usize, job: usize) -> Vec<u32> {
+        let found = self.find_step(run, job);
+        let Job { office, reads } = self.runs[run].jobs[job].clone();
+        let card = &mut self.runs[run].card;
+        for k in (0..self.k).filter(|k| has(found.set, *k)) {
+            card[k].join(&found.shelf[k]);
+        }
+        let sheets = (0..self.k).filter(|k| has(reads, *k));
+        let read = sheets.map(|k| (k, card[k].clone())).collect();
+        self.runs[run].finished.push(Finished { job, read });
+        self.runs[run].read |= reads;
+        self.shelves[office] = found.shelf;
+        let (set, fetched) = (found.set, found.fetched);
+        vec![reads & !set, reads & set & !fetched, reads & set & fetched]
+    }
+
+    /// "If S isn't empty it is entered, and for each k in S the master's copy takes in what
+    /// the new version includes."
+    fn issue(&mut self, run: usize, writer: usize, mask: u32) -> u32 {
+        if mask == 0 {
+            return 0;
+        }
+        let run = &self.runs[run];
+        let sheets = (0..self.k).filter(|k| has(run.read, *k));
+        let read = sheets.map(|k| run.card[k].clone()).collect::<Vec<Saves>>();
+        let number = self.ledger.enter(writer, mask, &read);
+        for k in (0..self.k).filter(|k| has(mask, *k)) {
+            let included = self.ledger.new_version(number, k);
+            self.master[k].join(&included);
+        }
+        number
+    }
+
+    fn look(&self, place: u32, number: usize, sheet: u32) -> Vec<u32> {
+        let k = sheet as usize;
+        let copy = match place {
+            0 => &self.master[k],
+            1 => &self.shelves[number][k],
+            _ => &self.runs[number].card[k],
+        };
+        let version = self.ledger.counted(copy, self.k, self.w);
+        let mut answer = vec![version[0]];
+        answer.extend_from_slice(&version[1 + k * self.w..1 + (k + 1) * self.w]);
+        answer
+    }
+}

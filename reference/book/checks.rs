@@ -1,0 +1,131 @@
+//! The claims of demand 3, tested on a desk's words and the book after each call.
+
+use super::saves::Saves;
+use super::{has, Book, Finished, Run};
+use crate::desk::version::{held, meets, needs, row};
+use crate::desk::Sizes;
+
+/// Plans with more sheets than this aren't gone through choice by choice.
+pub const SMALL_PLAN: u32 = 5;
+
+impl Book {
+    /// 3a: "after it each shelf is a causal cut".
+    pub fn check_cuts(&self, desk: &[u32], s: Sizes) -> Result<(), String> {
+        for office in 0..s.n {
+            for k in 0..s.k {
+                let version = s.words(desk, s.shelf_at(office, k));
+                for d in (0..s.k).filter(|d| held(version) && needs(version, s.w, k, *d)) {
+                    let other = s.words(desk, s.shelf_at(office, d));
+                    if !meets(other, s.w, d, row(version, s.w, d)) {
+                        return Err(format!("3a: shelf {office}: sheet {k} needs sheet {d}"));
+                    }
+                }
+            }
+        }
+        Ok(())
+    }
+
+    /// 3b: "each version on master, shelves and cards is the one that document 01's book
+    /// gives".
+    pub fn check_versions(&self, desk: &[u32], s: Sizes) -> Result<(), String> {
+        for k in 0..s.k {
+            self.check_version(desk, s, s.master_at(k), &self.master[k])?;
+            for office in 0..s.n {
+                self.check_version(desk, s, s.shelf_at(office, k), &self.shelves[office][k])?;
+            }
+            for run in 0..s.p {
+                self.check_version(desk, s, s.card_at(run, k), &self.runs[run].card[k])?;
+            }
+        }
+        Ok(())
+    }
+
+    /// The version at a place of the desk is its copy counted.
+    fn check_version(
+        &self,
+        desk: &[u32],
+        s: Sizes,
+        at: usize,
+        copy: &Saves,
+    ) -> Result<(), String> {
+        let (words, counted) = (s.words(desk, at), self.ledger.counted(copy, s.k, s.w));
+        if words == counted {
+            return Ok(());
+        }
+        Err(format!("3b: at word {at} the desk has {words:?}, the book {counted:?}"))
+    }
+
+    /// 3c for each pair of finished jobs of each run. A job is paired with itself too, which
+    /// asks more than the demand does.
+    pub fn check_snapshots(&self) -> Result<(), String> {
+        for (number, run) in self.runs.iter().enumerate() {
+            for (place, one) in run.finished.iter().enumerate() {
+                for other in &run.finished[..=place] {
+                    if !self.one_snapshot(one, other) {
+                        let (a, b) = (one.job, other.job);
+                        return Err(format!("3c: run {number}, jobs {a} and {b}"));
+                    }
+                }
+            }
+        }
+        Ok(())
+    }
+
+    /// "A sheet that both read is one version, and each save of a sheet that either read, if
+    /// by the book it stands behind anything either read, is included in the version read."
+    fn one_snapshot(&self, one: &Finished, other: &Finished) -> bool {
+        let all = one.read.iter().chain(&other.read).collect::<Vec<_>>();
+        all.iter().all(|(sheet, copy)| {
+            all.iter().all(|(d, read)| {
+                (sheet != d || copy.same(read)) && copy.includes(&self.ledger.need(read, *sheet))
+            })
+        })
+    }
+
+    /// 3d by trying every choice: does a step go through? Nothing for a plan that isn't small.
+    pub fn goes_through(&self, run: usize, job: usize) -> Option<bool> {
+        let found = self.find_step(run, job);
+        let run = &self.runs[run];
+        let sheets = (0..self.k).filter(|k| has(run.plan(), *k)).collect::<Vec<usize>>();
+        if sheets.len() as u32 > SMALL_PLAN {
+            return None;
+        }
+        let reads = run.jobs[job].reads;
+        let choices = 4u32.pow(sheets.len() as u32);
+        Some((0..choices).any(|choice| {
+            let mut chosen = vec![Saves::default(); self.k];
+            for (place, k) in sheets.iter().enumerate() {
+                let kind = (choice >> (2 * place)) & 3;
+                chosen[*k] = choose(kind, &run.card[*k], &found.shelf[*k]);
+            }
+            self.choice_stands(run, reads, &sheets, &chosen)
+        }))
+    }
+
+    /// The choice "holds all that the job reads, leaves the sheets already read as they were
+    /// and meets every need among the plan's sheets".
+    fn choice_stands(&self, run: &Run, reads: u32, sheets: &[usize], chosen: &[Saves]) -> bool {
+        sheets.iter().all(|k| {
+            let holds = !has(reads, *k) || !chosen[*k].is_empty();
+            let leaves = !has(run.read, *k) || chosen[*k].same(&run.card[*k]);
+            holds && leaves
+        }) && sheets.iter().all(|k| {
+            let others = sheets.iter().filter(|d| *d != k);
+            others.into_iter().all(|d| chosen[*d].includes(&self.ledger.need(&chosen[*k], *d)))
+        })
+    }
+}
+
+/// "The card's version, the office's (after the step's fetch), their merge or none."
+fn choose(kind: u32, card: &Saves, office: &Saves) -> Saves {
+    match kind {
+        0 => card.clone(),
+        1 => office.clone(),
+        2 => {
+            let mut both = card.clone();
+            both.join(office);
+            both
+        }
+        _ => Saves::default(),
+    }
+}

@@ -1,0 +1,46 @@
+//! Document 01's sheet desk over lent words, written the plainest way.
+//!
+//! Every call takes a buffer of any length and content and any numbers. It answers `Ok`
+//! with the answer's numbers, `Broken` (step alone) or `Refused` with the table's number;
+//! a refused call leaves every word.
+
+mod calls;
+mod form;
+pub mod layout;
+mod reads;
+pub mod sets;
+pub mod version;
+
+// Not every program that is built from this file calls all of them.
+#[allow(unused_imports)]
+pub use calls::{drop_run, issue, look, new, open};
+#[allow(unused_imports)]
+pub use form::in_form;
+#[allow(unused_imports)]
+pub use layout::Sizes;
+pub use reads::{evict, fetch, prepare, step};
+
+/// What a call gives back.
+#[derive(Clone, PartialEq, Eq, Debug)]
+pub enum Answer {
+    Ok(Vec<u32>),
+    Broken(u32),
+    Refused(u32),
+}
+
+// The numbers of the table "When a call is turned down".
+pub const NOT_IN_FORM: u32 = 1;
+pub const BAD_COUNT: u32 = 2;
+pub const OUT_OF_RANGE: u32 = 3;
+pub const WRONG_STATE: u32 = 4;
+pub const BAD_JOBS: u32 = 5;
+pub const WRONG_TURN: u32 = 6;
+pub const NOT_ON_MASTER: u32 = 7;
+pub const NOT_HELD: u32 = 8;
+pub const ISSUES_SPENT: u32 = 9;
+pub const WRITER_SPENT: u32 = 10;
+
+// A run's states.
+pub const FREE: u32 = 0;
+pub const OPEN: u32 = 1;
+pub const BROKEN: u32 = 2;

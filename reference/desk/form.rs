@@ -1,0 +1,94 @@
+//! "A desk is in form if": the test that every call but new starts with.
+
+use super::layout::*;
+use super::version::{all_zero, held, row};
+use super::{BROKEN, FREE, OPEN};
+
+/// The desk's sizes if the buffer is in form.
+pub fn in_form(desk: &[u32]) -> Option<Sizes> {
+    let s = header_in_form(desk)?;
+    let versions_stand = (0..s.k).all(|k| {
+        version_in_form(desk, s, s.master_at(k), k)
+            && (0..s.n).all(|office| version_in_form(desk, s, s.shelf_at(office, k), k))
+            && (0..s.p).all(|run| version_in_form(desk, s, s.card_at(run, k), k))
+    });
+    if versions_stand && (0..s.p).all(|run| run_in_form(desk, s, run)) {
+        Some(s)
+    } else {
+        None
+    }
+}
+
+/// "The buffer has 10 words and the total; counts, offsets and total are as above."
+fn header_in_form(desk: &[u32]) -> Option<Sizes> {
+    if desk.len() < HEADER {
+        return None;
+    }
+    let s = Sizes::of(desk[0], desk[1], desk[2], desk[3])?;
+    if desk[OFFSETS..HEADER] != s.offsets() || desk.len() < s.total() {
+        return None;
+    }
+    Some(s)
+}
+
+/// "An unheld version has only zero words and a held one a non-zero own row."
+fn version_in_form(desk: &[u32], s: Sizes, at: usize, k: usize) -> bool {
+    let version = s.words(desk, at);
+    if held(version) {
+        !all_zero(row(version, s.w, k))
+    } else {
+        all_zero(version)
+    }
+}
+
+fn run_in_form(desk: &[u32], s: Sizes, run: usize) -> bool {
+    let words = &desk[s.run_at(run)..s.run_at(run) + s.run_words()];
+    if words[STATE] == FREE {
+        return all_zero(words);
+    }
+    if words[STATE] != OPEN && words[STATE] != BROKEN {
+        return false;
+    }
+    if words[JOBS] < 1 || words[JOBS] > MOST_JOBS as u32 {
+        return false;
+    }
+    let jobs = words[JOBS] as usize;
+    let end = JOB_LIST + 3 * jobs;
+    all_zero(&words[end..RUN_HEAD])
+        && (0..jobs).all(|job| valid_job(s, job, &words[JOB_LIST + 3 * job..]))
+        && among(words[DONE], jobs)
+        && card_in_form(desk, s, run, &words[JOB_LIST..end])
+}
+
+/// "A valid job has an office below N, reads among K sheets (0 allowed), and upstream bits
+/// only of lower job numbers."
+pub fn valid_job(s: Sizes, job: usize, words: &[u32]) -> bool {
+    u64::from(words[0]) < s.n as u64 && among(words[1], s.k) && among(words[2], job)
+}
+
+/// "A read mask that is just the done jobs' reads, and carried sheets among the plan's
+/// sheets (all its jobs' reads), each read sheet on the card."
+fn card_in_form(desk: &[u32], s: Sizes, run: usize, jobs: &[u32]) -> bool {
+    let head = &desk[s.run_at(run)..];
+    let mut plan = 0;
+    let mut read = 0;
+    for (job, words) in jobs.chunks(3).enumerate() {
+        plan |= words[1];
+        if has(head[DONE], job) {
+            read |= words[1];
+        }
+    }
+    let carried = carried(desk, s, run);
+    head[READ] == read && carried & !plan == 0 && read & !carried == 0
+}
+
+/// The sheets that the run's card holds.
+pub fn carried(desk: &[u32], s: Sizes, run: usize) -> u32 {
+    let mut mask = 0;
+    for k in 0..s.k {
+        if desk[s.card_at(run, k)] != 0 {
+            mask |= 1 << k;
+        }
+    }
+    mask
+}

@@ -1,0 +1,111 @@
+//! "Size and layout": limits, offsets and the places of the desk's parts.
+
+pub const HEADER: usize = 10;
+/// State, number of jobs, done mask, read mask and 8 jobs of 3 words.
+pub const RUN_HEAD: usize = 28;
+pub const MOST_JOBS: usize = 8;
+
+// Words of the header.
+pub const LAST_ISSUE: usize = 4;
+pub const OFFSETS: usize = 5;
+
+// Words of a run.
+pub const STATE: usize = 0;
+pub const JOBS: usize = 1;
+pub const DONE: usize = 2;
+pub const READ: usize = 3;
+pub const JOB_LIST: usize = 4;
+
+/// The four counts, in range. Nothing is computed from counts that aren't.
+#[derive(Clone, Copy, PartialEq, Eq, Debug)]
+pub struct Sizes {
+    pub k: usize,
+    pub w: usize,
+    pub n: usize,
+    pub p: usize,
+}
+
+impl Sizes {
+    /// "Sheets K 1..32, writers W 1..16, offices N 1..8, runs P 1..8".
+    pub fn of(k: u32, w: u32, n: u32, p: u32) -> Option<Sizes> {
+        let in_range = (1..=32).contains(&k)
+            && (1..=16).contains(&w)
+            && (1..=8).contains(&n)
+            && (1..=8).contains(&p);
+        if !in_range {
+            return None;
+        }
+        Some(Sizes { k: k as usize, w: w as usize, n: n as usize, p: p as usize })
+    }
+
+    /// V = 1 + K*W.
+    pub fn version(&self) -> usize {
+        1 + self.k * self.w
+    }
+
+    pub fn master(&self) -> usize {
+        HEADER
+    }
+
+    pub fn shelves(&self) -> usize {
+        self.master() + self.k * self.version()
+    }
+
+    pub fn writers(&self) -> usize {
+        self.shelves() + self.n * self.k * self.version()
+    }
+
+    pub fn runs(&self) -> usize {
+        self.writers() + self.w * self.version()
+    }
+
+    pub fn run_words(&self) -> usize {
+        RUN_HEAD + self.k * self.version()
+    }
+
+    pub fn total(&self) -> usize {
+        self.runs() + self.p * self.run_words()
+    }
+
+    /// The header's last five words: four offsets, then the total.
+    pub fn offsets(&self) -> [u32; 5] {
+        let places = [self.master(), self.shelves(), self.writers(), self.runs(), self.total()];
+        places.map(|place| place as u32)
+    }
+
+    /// Where the master's version of sheet k starts.
+    pub fn master_at(&self, k: usize) -> usize {
+        self.master() + k * self.version()
+    }
+
+    pub fn shelf_at(&self, office: usize, k: usize) -> usize {
+        self.shelves() + (office * self.k + k) * self.version()
+    }
+
+    pub fn writer_at(&self, writer: usize) -> usize {
+        self.writers() + writer * self.version()
+    }
+
+    pub fn run_at(&self, run: usize) -> usize {
+        self.runs() + run * self.run_words()
+    }
+
+    pub fn card_at(&self, run: usize, k: usize) -> usize {
+        self.run_at(run) + RUN_HEAD + k * self.version()
+    }
+
+    /// The V words that start at a place.
+    pub fn words<'a>(&self, desk: &'a [u32], at: usize) -> &'a [u32] {
+        &desk[at..at + self.version()]
+    }
+}
+
+/// Does the mask have bit k? k is below 32.
+pub fn has(mask: u32, k: usize) -> bool {
+    (mask >> k) & 1 == 1
+}
+
+/// Has the mask only bits below `count`? `count` is at most 32.
+pub fn among(mask: u32, count: usize) -> bool {
+    u64::from(mask) < 1u64 << count
+}

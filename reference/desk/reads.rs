@@ -1,0 +1,206 @@
+//! Fetch, evict, prepare and step.
+
+use super::form::{carried, in_form};
+use super::layout::*;
+use super::sets::*;
+use super::version::{held, merge};
+use super::*;
+
+/// Fetch: "The shelf takes the master's version of each sheet in T. Answers T."
+pub fn fetch(desk: &mut [u32], office: u32, sheet: u32) -> Answer {
+    let Some(s) = in_form(desk) else {
+        return Answer::Refused(NOT_IN_FORM);
+    };
+    if u64::from(office) >= s.n as u64 || u64::from(sheet) >= s.k as u64 {
+        return Answer::Refused(OUT_OF_RANGE);
+    }
+    if !held(s.words(desk, s.master_at(sheet as usize))) {
+        return Answer::Refused(NOT_ON_MASTER);
+    }
+    let set = fetch_set(desk, s, office as usize, 1 << sheet);
+    take(desk, s, office as usize, set);
+    Answer::Ok(vec![set])
+}
+
+/// The shelf takes the master's versions, as copies.
+fn take(desk: &mut [u32], s: Sizes, office: usize, set: u32) {
+    for k in 0..s.k {
+        if has(set, k) {
+            let from = s.master_at(k);
+            desk.copy_within(from..from + s.version(), s.shelf_at(office, k));
+        }
+    }
+}
+
+/// Evict: "E leaves the shelf. Answers E."
+pub fn evict(desk: &mut [u32], office: u32, sheet: u32) -> Answer {
+    let Some(s) = in_form(desk) else {
+        return Answer::Refused(NOT_IN_FORM);
+    };
+    if u64::from(office) >= s.n as u64 || u64::from(sheet) >= s.k as u64 {
+        return Answer::Refused(OUT_OF_RANGE);
+    }
+    let (office, sheet) = (office as usize, sheet as usize);
+    if !held(s.words(desk, s.shelf_at(office, sheet))) {
+        return Answer::Refused(NOT_HELD);
+    }
+    let set = evict_set(desk, s, office, sheet);
+    for k in 0..s.k {
+        if has(set, k) {
+            let at = s.shelf_at(office, k);
+            desk[at..at + s.version()].fill(0);
+        }
+    }
+    Answer::Ok(vec![set])
+}
+
+/// Prepare: each job's missing reads are fetched, then the card is made of the shelves.
+pub fn prepare(desk: &mut [u32], run: u32) -> Answer {
+    let s = match prepare_refusal(desk, run) {
+        Err(number) => return Answer::Refused(number),
+        Ok(s) => s,
+    };
+    let run = run as usize;
+    for job in 0..desk[s.run_at(run) + JOBS] as usize {
+        let (office, reads, _) = job_words(desk, s, run, job);
+        let missing = lacking(desk, s, office, reads);
+        let set = fetch_set(desk, s, office, missing);
+        take(desk, s, office, set);
+    }
+    make_card(desk, s, run);
+    Answer::Ok(vec![carried(desk, s, run)])
+}
+
+/// A fetch brings only sheets that the master holds, so a sheet that is on neither the shelf
+/// nor the master before the first fetch is on neither later: 7 is tested before all fetches.
+fn prepare_refusal(desk: &[u32], run: u32) -> Result<Sizes, u32> {
+    let s = in_form(desk).ok_or(NOT_IN_FORM)?;
+    if u64::from(run) >= s.p as u64 {
+        return Err(OUT_OF_RANGE);
+    }
+    let run = run as usize;
+    let head = &desk[s.run_at(run)..];
+    if head[STATE] != OPEN {
+        return Err(WRONG_STATE);
+    }
+    if head[DONE] != 0 {
+        return Err(WRONG_TURN);
+    }
+    for job in 0..head[JOBS] as usize {
+        let (office, reads, _) = job_words(desk, s, run, job);
+        if lacking(desk, s, office, reads) & !on_master(desk, s) != 0 {
+            return Err(NOT_ON_MASTER);
+        }
+    }
+    Ok(s)
+}
+
+/// "The card becomes the merge, over the jobs' offices (lowest number first, each once), of
+/// their shelves cut down to the plan's sheets."
+fn make_card(desk: &mut [u32], s: Sizes, run: usize) {
+    let plan = plan(desk, s, run);
+    let jobs = desk[s.run_at(run) + JOBS] as usize;
+    for k in 0..s.k {
+        let mut version = vec![0; s.version()];
+        for office in 0..s.n {
+            let used = (0..jobs).any(|job| job_words(desk, s, run, job).0 == office);
+            if used && has(plan, k) {
+                merge(&mut version, s.words(desk, s.shelf_at(office, k)));
+            }
+        }
+        let at = s.card_at(run, k);
+        desk[at..at + s.version()].copy_from_slice(&version);
+    }
+}
+
+/// Step: one job reads its sheets, or the run breaks.
+pub fn step(desk: &mut [u32], run: u32, job: u32) -> Answer {
+    let s = match step_refusal(desk, run, job) {
+        Err(number) => return Answer::Refused(number),
+        Ok(s) => s,
+    };
+    let (run, job) = (run as usize, job as usize);
+    let (office, reads, _) = job_words(desk, s, run, job);
+    let off_card = reads & !carried(desk, s, run);
+    let fetched = fetch_set(desk, s, office, lacking(desk, s, office, off_card));
+    let view = StepView { run, office, fetched, plan: plan(desk, s, run) };
+    let set = card_set(desk, s, &view, off_card);
+    let at = s.run_at(run);
+    if set & desk[at + READ] != 0 {
+        // "Its state becomes 2, nothing else changes."
+        desk[at + STATE] = BROKEN;
+        return Answer::Broken(set & desk[at + READ]);
+    }
+    take(desk, s, office, fetched);
+    for k in 0..s.k {
+        if has(set, k) {
+            let version = s.words(desk, s.shelf_at(office, k)).to_vec();
+            let card = s.card_at(run, k);
+            merge(&mut desk[card..card + s.version()], &version);
+        }
+    }
+    desk[at + READ] |= reads;
+    desk[at + DONE] |= 1 << job;
+    Answer::Ok(vec![reads & !set, reads & set & !fetched, reads & set & fetched])
+}
+
+fn step_refusal(desk: &[u32], run: u32, job: u32) -> Result<Sizes, u32> {
+    let s = in_form(desk).ok_or(NOT_IN_FORM)?;
+    if u64::from(run) >= s.p as u64 {
+        return Err(OUT_OF_RANGE);
+    }
+    let head = &desk[s.run_at(run as usize)..];
+    let jobs = if head[STATE] == FREE { MOST_JOBS as u32 } else { head[JOBS] };
+    if job >= jobs {
+        return Err(OUT_OF_RANGE);
+    }
+    if head[STATE] != OPEN {
+        return Err(WRONG_STATE);
+    }
+    let (run, job) = (run as usize, job as usize);
+    let (office, reads, upstream) = job_words(desk, s, run, job);
+    if has(head[DONE], job) || upstream & !head[DONE] != 0 {
+        return Err(WRONG_TURN);
+    }
+    let off_card = reads & !carried(desk, s, run);
+    if lacking(desk, s, office, off_card) & !on_master(desk, s) != 0 {
+        return Err(NOT_ON_MASTER);
+    }
+    Ok(s)
+}
+
+/// A job's office, reads and upstream mask.
+fn job_words(desk: &[u32], s: Sizes, run: usize, job: usize) -> (usize, u32, u32) {
+    let at = s.run_at(run) + JOB_LIST + 3 * job;
+    (desk[at] as usize, desk[at + 1], desk[at + 2])
+}
+
+/// "The plan's sheets (all its jobs' reads)".
+fn plan(desk: &[u32], s: Sizes, run: usize) -> u32 {
+    let mut mask = 0;
+    for job in 0..desk[s.run_at(run) + JOBS] as usize {
+        mask |= job_words(desk, s, run, job).1;
+    }
+    mask
+}
+
+/// Those of the sheets that the office's shelf doesn't hold.
+fn lacking(desk: &[u32], s: Sizes, office: usize, sheets: u32) -> u32 {
+    let mut mask = 0;
+    for k in 0..s.k {
+        if has(sheets, k) && !held(s.words(desk, s.shelf_at(office, k))) {
+            mask |= 1 << k;
+        }
+    }
+    mask
+}
+
+fn on_master(desk: &[u32], s: Sizes) -> u32 {
+    let mut mask = 0;
+    for k in 0..s.k {
+        if held(s.words(desk, s.master_at(k))) {
+            mask |= 1 << k;
+        }
+    }
+    mask
+}

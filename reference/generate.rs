@@ -1,0 +1,60 @@
+//! Prints a script of calls for a seed: `generate SEED LINES [--count]`.
+//!
+//! It keeps a desk of its own, so that it can steer towards merges of rivals, evictions,
+//! prepares and breaks. With `--count` it says on standard error what the script meets.
+#![allow(dead_code)]
+
+mod desk;
+#[path = "generate/everyday.rs"]
+mod everyday;
+#[path = "generate/odd.rs"]
+mod odd;
+#[path = "generate/plots.rs"]
+mod plots;
+#[path = "generate/teller.rs"]
+mod teller;
+mod text;
+
+use std::io::{self, Write};
+use teller::Teller;
+
+fn main() -> io::Result<()> {
+    let arguments = std::env::args().skip(1).collect::<Vec<String>>();
+    let count = arguments.iter().any(|word| word == "--count");
+    let mut numbers = arguments.iter().filter_map(|word| word.parse::<u64>().ok());
+    let (Some(seed), Some(lines)) = (numbers.next(), numbers.next()) else {
+        eprintln!("usage: generate SEED LINES [--count]");
+        std::process::exit(2);
+    };
+    let mut teller = Teller::new(seed);
+    odd::before_new(&mut teller);
+    plots::fresh_desk(&mut teller);
+    while teller.counts.lines < lines {
+        one_plot(&mut teller);
+    }
+    if teller.chance(50) {
+        teller.script.pop(); // "the last line may lack" its line end
+    }
+    io::stdout().lock().write_all(&teller.script)?;
+    if count {
+        eprintln!("{}", teller.counts.print());
+    }
+    Ok(())
+}
+
+/// One plot: a few calls that belong together.
+fn one_plot(teller: &mut Teller) {
+    match teller.below(100) {
+        0..=24 => plots::break_a_run(teller),
+        25..=36 => plots::issue_rivals(teller),
+        37..=49 => everyday::prepared_run(teller),
+        50..=53 => everyday::prepare_again(teller),
+        54..=57 => everyday::plain_run(teller),
+        58..=65 => everyday::fetch_and_evict(teller),
+        66..=77 => everyday::any_call(teller),
+        78..=89 => odd::refused(teller),
+        90..=94 => odd::unread(teller),
+        95 => odd::long_line(teller),
+        _ => plots::fresh_desk(teller),
+    }
+}

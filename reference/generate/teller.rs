@@ -1,0 +1,158 @@
+//! The script so far, the desk that it leads to, and the counts.
+
+use crate::desk::layout::{has, DONE, JOBS, JOB_LIST, READ, STATE};
+use crate::desk::version::{covers, held, row};
+use crate::desk::{in_form, Answer, Sizes};
+use crate::text::{self, Call};
+
+#[derive(Default)]
+pub struct Counts {
+    pub lines: u64,
+    pub unread: u64,
+    pub rivals: u64,
+    pub fetches_of_more: u64,
+    pub evicts_of_more: u64,
+    pub prepares: u64,
+    pub steps: u64,
+    pub breaks: u64,
+    pub issues: u64,
+    pub refused: [u64; 11],
+}
+
+impl Counts {
+    /// One line of names and numbers.
+    pub fn print(&self) -> String {
+        let mut line = format!(
+            "lines {} unread {} rivals {} fetches-of-more {} evicts-of-more {} prepares {} \
+             steps {} breaks {} issues {}",
+            self.lines,
+            self.unread,
+            self.rivals,
+            self.fetches_of_more,
+            self.evicts_of_more,
+            self.prepares,
+            self.steps,
+            self.breaks,
+            self.issues
+        );
+        for number in 1..=8 {
+            line.push_str(&format!(" refused-{number} {}", self.refused[number]));
+        }
+        line
+    }
+}
+
+pub struct Teller {
+    pub script: Vec<u8>,
+    pub words: Vec<u32>,
+    pub counts: Counts,
+    state: u64,
+}
+
+impl Teller {
+    pub fn new(seed: u64) -> Teller {
+        let words = vec![0; text::LENT];
+        Teller { script: Vec::new(), words, counts: Counts::default(), state: seed }
+    }
+
+    /// The next number of a splitmix sequence.
+    pub fn next(&mut self) -> u64 {
+        self.state = self.state.wrapping_add(0x9E37_79B9_7F4A_7C15);
+        let mut mixed = self.state;
+        mixed = (mixed ^ (mixed >> 30)).wrapping_mul(0xBF58_476D_1CE4_E5B9);
+        mixed = (mixed ^ (mixed >> 27)).wrapping_mul(0x94D0_49BB_1331_11EB);
+        mixed ^ (mixed >> 31)
+    }
+
+    pub fn below(&mut self, count: usize) -> usize {
+        (self.next() % count as u64) as usize
+    }
+
+    /// True in so many of a hundred cases.
+    pub fn chance(&mut self, percent: usize) -> bool {
+        self.below(100) < percent
+    }
+
+    /// The desk's sizes; the script makes one before any plot needs them.
+    pub fn sizes(&self) -> Sizes {
+        in_form(&self.words).expect("a new was accepted")
+    }
+
+    /// Writes a line and works it on the own desk.
+    pub fn say(&mut self, line: &[u8]) -> Option<Answer> {
+        self.script.extend_from_slice(line);
+        self.script.push(b'\n');
+        self.counts.lines += 1;
+        let Some(call) = text::read_line(line) else {
+            self.counts.unread += 1;
+            return None;
+        };
+        let before = self.words.clone();
+        let answer = text::run(&mut self.words, &call);
+        self.count(&before, &call, &answer);
+        Some(answer)
+    }
+
+    /// A call's word and its numbers, as a line.
+    pub fn tell(&mut self, name: &str, numbers: &[u32]) -> Option<Answer> {
+        let mut line = name.to_string();
+        for number in numbers {
+            line.push_str(&format!(" {number}"));
+        }
+        self.say(line.as_bytes())
+    }
+
+    fn count(&mut self, before: &[u32], call: &Call, answer: &Answer) {
+        let counts = &mut self.counts;
+        match (call, answer) {
+            (_, Answer::Refused(number)) => counts.refused[*number as usize] += 1,
+            (_, Answer::Broken(_)) => counts.breaks += 1,
+            (Call::Fetch(..), Answer::Ok(set)) => {
+                counts.fetches_of_more += u64::from(set[0].count_ones() > 1);
+            }
+            (Call::Evict(..), Answer::Ok(set)) => {
+                counts.evicts_of_more += u64::from(set[0].count_ones() > 1);
+            }
+            (Call::Prepare(_), Answer::Ok(_)) => counts.prepares += 1,
+            (Call::Step(..), Answer::Ok(_)) => counts.steps += 1,
+            (Call::Issue(_, writer, mask), Answer::Ok(_)) => {
+                counts.issues += u64::from(*mask != 0);
+                counts.rivals += rivals_met(before, &self.words, *writer as usize, *mask);
+            }
+            _ => {}
+        }
+    }
+
+    pub fn on_master(&self, k: usize) -> bool {
+        self.words[self.sizes().master_at(k)] != 0
+    }
+
+    pub fn on_shelf(&self, office: usize, k: usize) -> bool {
+        self.words[self.sizes().shelf_at(office, k)] != 0
+    }
+
+    /// State, number of jobs, done mask and read mask of a run.
+    pub fn run_head(&self, run: usize) -> [u32; 4] {
+        let at = self.sizes().run_at(run);
+        [STATE, JOBS, DONE, READ].map(|place| self.words[at + place])
+    }
+
+    /// Office, reads and upstream mask of a job.
+    pub fn job(&self, run: usize, job: usize) -> [u32; 3] {
+        let at = self.sizes().run_at(run) + JOB_LIST + 3 * job;
+        [self.words[at], self.words[at + 1], self.words[at + 2]]
+    }
+}
+
+/// The sheets whose master version the new version doesn't cover: it never is covered itself.
+fn rivals_met(before: &[u32], after: &[u32], writer: usize, mask: u32) -> u64 {
+    let Some(s) = in_form(before) else {
+        return 0;
+    };
+    let made = s.words(after, s.writer_at(writer));
+    let met = (0..s.k).filter(|k| {
+        let old = s.words(before, s.master_at(*k));
+        has(mask, *k) && held(old) && !covers(row(made, s.w, *k), row(old, s.w, *k))
+    });
+    met.count() as u64
+}

@@ -1,0 +1,35 @@
+//! Checks on lent buffers: the paper's numbers, the ten marked readings, the form, refusals
+//! 9 and 10, what stands behind a save, and random buffers. Panics at the first check that fails.
+#![allow(dead_code)]
+
+#[path = "selftest/behind.rs"]
+mod behind;
+mod book;
+mod desk;
+#[path = "selftest/forms.rs"]
+mod forms;
+#[path = "selftest/marked.rs"]
+mod marked;
+#[path = "selftest/random.rs"]
+mod random;
+mod text;
+
+fn main() {
+    marked::sizes();
+    marked::clocks();
+    marked::evict_six();
+    marked::steps_seven_to_nine();
+    marked::step_merges();
+    marked::fetch_copies();
+    marked::unheld_ten();
+    marked::new_and_open();
+    forms::free_words();
+    forms::bad_words();
+    forms::spent_counts();
+    let seed: u64 = std::env::args().nth(1).and_then(|word| word.parse().ok()).unwrap_or(1);
+    for history in 0..200 {
+        behind::compare(seed + history);
+    }
+    let (calls, accepted) = random::damaged(seed, 60_000);
+    println!("selftest: all checks hold; {calls} random calls, {accepted} of them accepted");
+}

@@ -1,0 +1,94 @@
+//! "The program": one line of text to one call, and an answer to one line.
+
+use crate::desk::{self, Answer};
+
+/// The words that the program lends.
+pub const LENT: usize = 16_384;
+const LONGEST: usize = 400;
+
+/// One of the nine calls with its numbers.
+#[derive(Clone, PartialEq, Eq, Debug)]
+pub enum Call {
+    New([u32; 4]),
+    Open(u32, Vec<u32>),
+    Fetch(u32, u32),
+    Evict(u32, u32),
+    Prepare(u32),
+    Step(u32, u32),
+    Issue(u32, u32, u32),
+    Drop(u32),
+    Look(u32, u32, u32),
+}
+
+/// The call that a line holds (without its line end), or nothing if it is unread.
+pub fn read_line(line: &[u8]) -> Option<Call> {
+    if line.len() > LONGEST {
+        return None;
+    }
+    let mut words = line.split(|byte| *byte == b' ');
+    let name = words.next()?;
+    let numbers = words.map(read_number).collect::<Option<Vec<u32>>>()?;
+    match (name, numbers.as_slice()) {
+        (b"new", [k, w, n, p]) => Some(Call::New([*k, *w, *n, *p])),
+        (b"open", [run, list @ ..]) => Some(Call::Open(*run, list.to_vec())),
+        (b"fetch", [office, sheet]) => Some(Call::Fetch(*office, *sheet)),
+        (b"evict", [office, sheet]) => Some(Call::Evict(*office, *sheet)),
+        (b"prepare", [run]) => Some(Call::Prepare(*run)),
+        (b"step", [run, job]) => Some(Call::Step(*run, *job)),
+        (b"issue", [run, writer, mask]) => Some(Call::Issue(*run, *writer, *mask)),
+        (b"drop", [run]) => Some(Call::Drop(*run)),
+        (b"look", [place, number, sheet]) => Some(Call::Look(*place, *number, *sheet)),
+        _ => None,
+    }
+}
+
+/// "A number is digits only, leading zeros allowed", up to 4,294,967,295.
+fn read_number(word: &[u8]) -> Option<u32> {
+    if word.is_empty() {
+        return None;
+    }
+    let mut value: u32 = 0;
+    for byte in word {
+        if !byte.is_ascii_digit() {
+            return None;
+        }
+        value = value.checked_mul(10)?.checked_add(u32::from(byte - b'0'))?;
+    }
+    Some(value)
+}
+
+/// Hands a call to the desk.
+pub fn run(words: &mut [u32], call: &Call) -> Answer {
+    match call {
+        Call::New([k, w, n, p]) => desk::new(words, *k, *w, *n, *p),
+        Call::Open(run, list) => desk::open(words, *run, list),
+        Call::Fetch(office, sheet) => desk::fetch(words, *office, *sheet),
+        Call::Evict(office, sheet) => desk::evict(words, *office, *sheet),
+        Call::Prepare(run) => desk::prepare(words, *run),
+        Call::Step(run, job) => desk::step(words, *run, *job),
+        Call::Issue(run, writer, mask) => desk::issue(words, *run, *writer, *mask),
+        Call::Drop(run) => desk::drop_run(words, *run),
+        Call::Look(place, number, sheet) => desk::look(words, *place, *number, *sheet),
+    }
+}
+
+/// The line that is printed for an answer, without its line end.
+pub fn print(answer: &Answer) -> String {
+    match answer {
+        Answer::Ok(numbers) => {
+            let mut line = String::from("ok");
+            for number in numbers {
+                line.push(' ');
+                line.push_str(&number.to_string());
+            }
+            line
+        }
+        Answer::Broken(mask) => format!("broken {mask}"),
+        Answer::Refused(number) => format!("refused {number}"),
+    }
+}
+
+/// Takes the line end off, if there is one.
+pub fn without_end(line: &[u8]) -> &[u8] {
+    line.strip_suffix(b"\n").unwrap_or(line)
+}

@@ -1,0 +1,115 @@
+//! Runs a script through the desk and the book, and tests demand 3 after each call.
+//! Ends with 1, and prints the script up to there, if a claim fails.
+#![allow(dead_code)]
+
+mod book;
+mod desk;
+mod text;
+
+use book::Book;
+use desk::Answer;
+use std::io::{self, Read, Write};
+use text::Call;
+
+#[derive(Default)]
+struct Seen {
+    calls: usize,
+    snapshots: usize,
+    tried: usize,
+    broken: usize,
+}
+
+fn main() {
+    let mut script = Vec::new();
+    io::stdin().lock().read_to_end(&mut script).expect("standard input can be read");
+    let mut words = vec![0u32; text::LENT];
+    let mut book = None;
+    let mut seen = Seen::default();
+    let mut read = 0;
+    for line in script.split_inclusive(|byte| *byte == b'\n') {
+        read += line.len();
+        let Some(call) = text::read_line(text::without_end(line)) else {
+            continue;
+        };
+        if let Err(claim) = one_call(&mut words, &mut book, &call, &mut seen) {
+            let _ = io::stdout().write_all(&script[..read]);
+            eprintln!("demand 3 fails after the script's last line: {claim}");
+            std::process::exit(1);
+        }
+    }
+    println!(
+        "{} calls, {} steps tried against all choices, {} broken, {} pairs of finished jobs",
+        seen.calls, seen.tried, seen.broken, seen.snapshots
+    );
+}
+
+/// One call on the desk and in the book, then every test.
+fn one_call(
+    words: &mut [u32],
+    book: &mut Option<Book>,
+    call: &Call,
+    seen: &mut Seen,
+) -> Result<(), String> {
+    let before = words.to_vec();
+    let answer = text::run(words, call);
+    seen.calls += 1;
+    let refused = matches!(answer, Answer::Refused(_));
+    if refused && before != words {
+        return Err("a refused call changed the desk".into());
+    }
+    if let (Call::New(sizes), false) = (call, refused) {
+        // "The list starts on what an accepted new left."
+        *book = Some(Book::new(*sizes));
+    }
+    let Some(book) = book else {
+        return Ok(());
+    };
+    if let (Call::Step(run, job), false) = (call, refused) {
+        check_step(book, *run as usize, *job as usize, &answer, seen)?;
+    }
+    check_answer(book, call, &answer)?;
+    let s = desk::in_form(words).ok_or("the desk is not in form")?;
+    book.check_cuts(words, s)?;
+    book.check_versions(words, s)?;
+    book.check_snapshots()?;
+    let pairs = |run: &book::Run| run.finished.len() * run.finished.len().saturating_sub(1) / 2;
+    seen.snapshots += book.runs.iter().map(pairs).sum::<usize>();
+    Ok(())
+}
+
+/// 3d: a step breaks exactly if no choice stands; the broken sheets are those of C.
+fn check_step(
+    book: &Book,
+    run: usize,
+    job: usize,
+    answer: &Answer,
+    seen: &mut Seen,
+) -> Result<(), String> {
+    let found = book.find_step(run, job);
+    let due = found.set & book.runs[run].read;
+    let given = if let Answer::Broken(mask) = answer { *mask } else { 0 };
+    if given != due {
+        return Err(format!("the step broke with {given}, the book has {due}"));
+    }
+    seen.broken += usize::from(given != 0);
+    if let Some(goes) = book.goes_through(run, job) {
+        seen.tried += 1;
+        if goes != (given == 0) {
+            return Err(format!("3d: broken with {given}, some choice stands: {goes}"));
+        }
+    }
+    Ok(())
+}
+
+/// Feeds the book and compares what the rules on copies answer.
+fn check_answer(book: &mut Book, call: &Call, answer: &Answer) -> Result<(), String> {
+    let Answer::Ok(numbers) = answer else {
+        book.feed(call, false);
+        return Ok(());
+    };
+    let due = book.feed(call, true);
+    if !matches!(call, Call::New(_)) && due != *numbers {
+        return Err(format!("the desk answered {numbers:?}, the book {due:?}"));
+    }
+    Ok(())
+}
