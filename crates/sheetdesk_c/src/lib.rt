@@ -55,27 +55,27 @@ pub extern "C" fn sheetdesk_open(desk: &mut [u32], run: u32, jobs: &[u32], out: 
 }
 
 #[no_mangle]
-pub extern "C" fn sheetdesk_fetch(desk: &mut [u32], office: u32, sheet: u32, out: &mut [u32]) -> u32
-    ensures { λ n. ⌜ Exported (on (fetch office sheet))
+pub extern "C" fn sheetdesk_fetch(desk: &mut [u32], site: u32, key: u32, out: &mut [u32]) -> u32
+    ensures { λ n. ⌜ Exported (on (fetch site key))
         (now (desk .entry)) (now (desk .exit)) (now (out .entry)) (now (out .exit)) n ⌝ }
 {
     if out.len() < 24 {
         return 0;
     }
-    let r = caches::fetch(desk, office, sheet);
+    let r = caches::fetch(desk, site, key);
     let n = put_fetched(out, r);
     narrow(n)
 }
 
 #[no_mangle]
-pub extern "C" fn sheetdesk_evict(desk: &mut [u32], office: u32, sheet: u32, out: &mut [u32]) -> u32
-    ensures { λ n. ⌜ Exported (on (evict office sheet))
+pub extern "C" fn sheetdesk_evict(desk: &mut [u32], site: u32, key: u32, out: &mut [u32]) -> u32
+    ensures { λ n. ⌜ Exported (on (evict site key))
         (now (desk .entry)) (now (desk .exit)) (now (out .entry)) (now (out .exit)) n ⌝ }
 {
     if out.len() < 24 {
         return 0;
     }
-    let r = caches::evict(desk, office, sheet);
+    let r = caches::evict(desk, site, key);
     let n = put_evicted(out, r);
     narrow(n)
 }
@@ -98,16 +98,16 @@ pub extern "C" fn sheetdesk_look(
     desk: &[u32],
     place: u32,
     number: u32,
-    sheet: u32,
+    key: u32,
     out: &mut [u32],
 ) -> u32
-    ensures { λ n. ⌜ Exported (on (look place number sheet))
+    ensures { λ n. ⌜ Exported (on (look place number key))
         (now (desk .entry)) (now (desk .entry)) (now (out .entry)) (now (out .exit)) n ⌝ }
 {
     if out.len() < 24 {
         return 0;
     }
-    let r = look::look(desk, place, number, sheet);
+    let r = look::look(desk, place, number, key);
     let n = put_looked(out, desk, r);
     narrow(n)
 }
