@@ -10,7 +10,7 @@ use runs::Dropped;
 use runs::Opened;
 ghost use mathlib.Core.Path.{_≡_};
 ghost use mathlib.Core.List.{[], _∷_};
-ghost use Prim.Native.Nat.{_≤_};
+ghost use Prim.Native.Nat.{_≤_, _<_};
 ghost use lib.ListN.{length, take};
 ghost use Rattle.create.specs.Answer.{createdWords};
 ghost use Rattle.runs.specs.Runs.{openedWords, droppedWords};
@@ -30,7 +30,7 @@ pub fn put_two(answer: &mut [u32], outcome: u32, number: u32) -> usize
 pub fn put_created(answer: &mut [u32], r: Created) -> usize
     requires { ⌜ 24 ≤ length (now answer) ⌝ }
     ensures words { λ n. ⌜ take n (now (answer .exit)) ≡ createdWords r ⌝ }
-    ensures few { λ n. ⌜ n ≤ 24 ⌝ }
+    ensures few { λ n. ⌜ (0 < n) × (n ≤ 18) ⌝ }
 {
     match r {
         Created::Done(total) => put_two(answer, 0, total),
@@ -41,7 +41,7 @@ pub fn put_created(answer: &mut [u32], r: Created) -> usize
 pub fn put_opened(answer: &mut [u32], r: Opened) -> usize
     requires { ⌜ 24 ≤ length (now answer) ⌝ }
     ensures words { λ n. ⌜ take n (now (answer .exit)) ≡ openedWords r ⌝ }
-    ensures few { λ n. ⌜ n ≤ 24 ⌝ }
+    ensures few { λ n. ⌜ (0 < n) × (n ≤ 18) ⌝ }
 {
     match r {
         Opened::Done(jobs) => put_two(answer, 0, jobs),
@@ -52,7 +52,7 @@ pub fn put_opened(answer: &mut [u32], r: Opened) -> usize
 pub fn put_dropped(answer: &mut [u32], r: Dropped) -> usize
     requires { ⌜ 24 ≤ length (now answer) ⌝ }
     ensures words { λ n. ⌜ take n (now (answer .exit)) ≡ droppedWords r ⌝ }
-    ensures few { λ n. ⌜ n ≤ 24 ⌝ }
+    ensures few { λ n. ⌜ (0 < n) × (n ≤ 18) ⌝ }
 {
     match r {
         Dropped::Done => put_two(answer, 0, 0),
@@ -63,7 +63,7 @@ pub fn put_dropped(answer: &mut [u32], r: Dropped) -> usize
 pub fn put_fetched(answer: &mut [u32], r: Fetched) -> usize
     requires { ⌜ 24 ≤ length (now answer) ⌝ }
     ensures words { λ n. ⌜ take n (now (answer .exit)) ≡ fetchedWords r ⌝ }
-    ensures few { λ n. ⌜ n ≤ 24 ⌝ }
+    ensures few { λ n. ⌜ (0 < n) × (n ≤ 18) ⌝ }
 {
     match r {
         Fetched::Done(taken) => put_two(answer, 0, taken),
@@ -74,7 +74,7 @@ pub fn put_fetched(answer: &mut [u32], r: Fetched) -> usize
 pub fn put_evicted(answer: &mut [u32], r: Evicted) -> usize
     requires { ⌜ 24 ≤ length (now answer) ⌝ }
     ensures words { λ n. ⌜ take n (now (answer .exit)) ≡ evictedWords r ⌝ }
-    ensures few { λ n. ⌜ n ≤ 24 ⌝ }
+    ensures few { λ n. ⌜ (0 < n) × (n ≤ 18) ⌝ }
 {
     match r {
         Evicted::Done(gone) => put_two(answer, 0, gone),
