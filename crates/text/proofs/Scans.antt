@@ -1,0 +1,170 @@
+-- How the numbers of a line's fields come up byte by byte.
+-- numberFrom, firstFrom: a number, and the numbers of fields, where the first goes on after others
+-- worth v. toldFrom: the numbers xs and those from place i on.
+-- The laws: what a byte at place i, or the line's end, makes of them.
+-- Assumes nothing.
+use mathlib.Core.Path.{_≡_, refl, sym, ap, _∙_}
+use mathlib.Core.Bool.{Bool, true, false, cond, not, _&&_, _||_}
+use mathlib.Core.List.{List, [], _∷_, _++_, append-assoc}
+use mathlib.Core.Option.{Option, none, some}
+use Prim.Native.Nat.{ℕ, suc, _+_, _*_, _-_, _<_, _≤_}
+use native.Mathlib.Numerals.{add-one}
+use native.Mathlib.Omega.{arith}
+use lib.Dec.{eqb, leb}
+use lib.ListN.{length, getD, drop, take, set, drop-of-length-le}
+use lib.Seq.{drop-cons, take-suc-set}
+use borrow.Author.Tests.{eq-eqb, ne-eqb, le-leb, lt-leb}
+use Rattle.words.proofs.Bools.{and-false-right}
+use Rattle.text.proofs.Firsts.{fields-some}
+use Rattle.text.specs.Fields.{inFirst, fieldsOf, digitsOnly, valueFrom, isEmpty, numberOf, numberBefore, numbersOf}
+
+-- The number of a field after digits worth v; there are none where any is false.
+unfoldable pub numberFrom : Bool → ℕ → List ℕ → Option ℕ
+numberFrom any v f =
+    cond ((any || not (isEmpty f)) && digitsOnly f && leb (valueFrom v f) 4294967295)
+    (some (valueFrom v f)) none
+
+unfoldable pub firstFrom : Bool → ℕ → List (List ℕ) → Option (List ℕ)
+firstFrom any v [] = numberBefore (numberFrom any v []) (some [])
+firstFrom any v (f ∷ fs) = numberBefore (numberFrom any v f) (numbersOf fs)
+
+unfoldable pub behind : List ℕ → Option (List ℕ) → Option (List ℕ)
+behind xs none = none
+behind xs (some ns) = some (xs ++ ns)
+
+abbrev pub toldFrom : List ℕ → ℕ → Bool → ℕ → List ℕ → Option (List ℕ)
+toldFrom s i any v xs = behind xs (firstFrom any v (fieldsOf (drop i s)))
+
+-- ---- one field
+
+value-grows : (v : ℕ) (f : List ℕ) → v ≤ valueFrom v f
+unfolding valueFrom
+value-grows v [] = omega arith
+value-grows v (b ∷ f) = let g = value-grows (v * 10 + (b - 48)) f in omega arith
+
+number-digit : (any : Bool) (v b : ℕ) (f : List ℕ) → 48 ≤ b → b ≤ 57
+    → numberFrom any v (b ∷ f) ≡ numberFrom true (v * 10 + (b - 48)) f
+unfolding numberFrom digitsOnly valueFrom isEmpty
+number-digit true v b f l g = simp (le-leb _ _ l, le-leb _ _ g)
+number-digit false v b f l g = simp (le-leb _ _ l, le-leb _ _ g)
+
+number-low : (any : Bool) (v b : ℕ) (f : List ℕ) → b < 48 → numberFrom any v (b ∷ f) ≡ none
+unfolding numberFrom digitsOnly valueFrom isEmpty
+number-low true v b f l = simp (lt-leb _ _ l)
+number-low false v b f l = simp (lt-leb _ _ l)
+
+number-high : (any : Bool) (v b : ℕ) (f : List ℕ) → 57 < b → numberFrom any v (b ∷ f) ≡ none
+unfolding numberFrom digitsOnly valueFrom isEmpty
+number-high true v b f g = simp (lt-leb _ _ g, and-false-right)
+number-high false v b f g = simp (lt-leb _ _ g, and-false-right)
+
+number-over : (v : ℕ) (f : List ℕ) → 4294967295 < v → numberFrom true v f ≡ none
+unfolding numberFrom
+number-over v f o =
+    let g = value-grows v f in
+    let h : 4294967295 < valueFrom v f = omega arith in simp (lt-leb _ _ h, and-false-right)
+
+number-ends : (v : ℕ) → v ≤ 4294967295 → numberFrom true v [] ≡ some v
+unfolding numberFrom digitsOnly valueFrom
+number-ends v h = simp (le-leb _ _ h)
+
+-- ---- the fields
+
+first-digit : (any : Bool) (v b : ℕ) (F : List (List ℕ)) → 48 ≤ b → b ≤ 57
+    → firstFrom any v (inFirst b F) ≡ firstFrom true (v * 10 + (b - 48)) F
+unfolding firstFrom inFirst numbersOf
+first-digit any v b [] l g = rw (number-digit any v b [] l g)
+first-digit any v b (f ∷ fs) l g = rw (number-digit any v b f l g)
+
+first-low : (any : Bool) (v b : ℕ) (F : List (List ℕ)) → b < 48
+    → firstFrom any v (inFirst b F) ≡ none
+unfolding firstFrom inFirst numberBefore
+first-low any v b [] l = rw (number-low any v b [] l)
+first-low any v b (f ∷ fs) l = rw (number-low any v b f l)
+
+first-high : (any : Bool) (v b : ℕ) (F : List (List ℕ)) → 57 < b
+    → firstFrom any v (inFirst b F) ≡ none
+unfolding firstFrom inFirst numberBefore
+first-high any v b [] g = rw (number-high any v b [] g)
+first-high any v b (f ∷ fs) g = rw (number-high any v b f g)
+
+first-over : (v : ℕ) (F : List (List ℕ)) → 4294967295 < v → firstFrom true v F ≡ none
+unfolding firstFrom numberBefore
+first-over v [] o = rw (number-over v [] o)
+first-over v (f ∷ fs) o = rw (number-over v f o)
+
+-- Where nothing has been read of the first field.
+pub first-start : (l : List ℕ) → firstFrom false 0 (fieldsOf l) ≡ numbersOf (fieldsOf l)
+unfolding firstFrom numbersOf numberFrom numberOf
+first-start l =
+    fields-some (λ (F : List (List ℕ)). firstFrom false 0 F ≡ numbersOf F) (λ f fs. refl) l
+
+-- ---- numbers behind others
+
+behind-none : (o : Option (List ℕ)) → behind [] o ≡ o
+unfolding behind
+behind-none none = refl
+behind-none (some ns) = refl
+
+behind-number : (xs : List ℕ) (v : ℕ) (o : Option (List ℕ))
+    → behind xs (numberBefore (some v) o) ≡ behind (xs ++ (v ∷ [])) o
+unfolding behind numberBefore
+behind-number xs v none = refl
+behind-number xs v (some ns) = ap some (sym (append-assoc xs (v ∷ []) ns))
+
+pub told-start : (s : List ℕ) (at : ℕ) → toldFrom s at false 0 [] ≡ numbersOf (fieldsOf (drop at s))
+told-start s at = behind-none _ ∙ first-start (drop at s)
+
+-- A store at the end of the first k.
+pub stored : (l : List ℕ) (k v : ℕ) → k < length l
+    → take (k + 1) (set l k v) ≡ take k l ++ (v ∷ [])
+stored l k v h = rw add-one (take-suc-set l k v h)
+
+-- ---- a byte at place i
+
+module _ (s : List ℕ) (i v : ℕ) (any : Bool) (xs : List ℕ) (h : i < length s) where
+  at-space : getD s i 0 ≡ 32 → fieldsOf (drop i s) ≡ [] ∷ fieldsOf (drop (i + 1) s)
+  unfolding fieldsOf
+  at-space e = rw (drop-cons s i 0, add-one) (simp (eq-eqb _ _ e))
+
+  pub gap : getD s i 0 ≡ 32 → any ≡ false → toldFrom s i any v xs ≡ none
+  unfolding firstFrom numberFrom numberBefore isEmpty behind
+  gap e n = rw (at-space e, n)
+
+  pub number : getD s i 0 ≡ 32 → any ≡ true → v ≤ 4294967295
+      → toldFrom s i any v xs ≡ toldFrom s (i + 1) false 0 (xs ++ (v ∷ []))
+  unfolding firstFrom
+  number e y m =
+      rw (at-space e, y, number-ends v m, first-start (drop (i + 1) s))
+      (behind-number xs v (numbersOf (fieldsOf (drop (i + 1) s))))
+
+  module _ (ns : getD s i 0 ≡ 32 → ⊥) where
+    at-other : fieldsOf (drop i s) ≡ inFirst (getD s i 0) (fieldsOf (drop (i + 1) s))
+    unfolding fieldsOf
+    at-other = rw (drop-cons s i 0, add-one) (simp (ne-eqb _ _ ns))
+
+    pub low : getD s i 0 < 48 → toldFrom s i any v xs ≡ none
+    unfolding behind
+    low l = rw (at-other, first-low any v (getD s i 0) (fieldsOf (drop (i + 1) s)) l)
+
+    pub high : 57 < getD s i 0 → toldFrom s i any v xs ≡ none
+    unfolding behind
+    high g = rw (at-other, first-high any v (getD s i 0) (fieldsOf (drop (i + 1) s)) g)
+
+    pub digit : 48 ≤ getD s i 0 → getD s i 0 ≤ 57
+        → toldFrom s i any v xs ≡ toldFrom s (i + 1) true (v * 10 + (getD s i 0 - 48)) xs
+    digit l g = rw (at-other, first-digit any v (getD s i 0) (fieldsOf (drop (i + 1) s)) l g)
+
+    pub over : 48 ≤ getD s i 0 → getD s i 0 ≤ 57
+        → 4294967295 < v * 10 + (getD s i 0 - 48) → toldFrom s i any v xs ≡ none
+    unfolding behind
+    over l g o = digit l g ∙ rw (first-over (v * 10 + (getD s i 0 - 48)) (fieldsOf (drop (i + 1) s)) o)
+
+module _ (s : List ℕ) (i v : ℕ) (any : Bool) (xs : List ℕ) (h : length s ≤ i) where
+  pub ends-bare : any ≡ false → toldFrom s i any v xs ≡ none
+  unfolding fieldsOf firstFrom numberFrom numberBefore isEmpty behind
+  ends-bare n = rw (drop-of-length-le s h, n)
+
+  pub ends : any ≡ true → v ≤ 4294967295 → toldFrom s i any v xs ≡ some (xs ++ (v ∷ []))
+  unfolding fieldsOf firstFrom numberBefore behind numbersOf
+  ends y m = rw (drop-of-length-le s h, y, number-ends v m)

@@ -1,0 +1,214 @@
+-- `text::numbers` meets its contract: the numbers so far and what is left tell at each turn what the
+-- whole tells. Assumes nothing.
+use borrow.Author.Needs.{needs}
+use native.Mathlib.Omega.{arith}
+use mathlib.Core.Path.{_≡_, refl, sym, ap, _∙_}
+use mathlib.Core.Option.{some}
+use Prim.Native.Nat.{_+_, _≤_, _-_}
+use lib.ListN.{length, drop, take, length-set}
+use borrow.Author.Tests.{not-true, not-false}
+use Rattle.text.specs.Fields.{fieldsOf, numbersOf, numbersIn, howMany}
+use Rattle.text.proofs.Scans.{toldFrom, told-start, stored, gap, number, low, high, digit, over, ends-bare, ends}
+use Rattle.text.proofs.numbers.Statement.{statement}
+use Rattle.text.proofs.numbers.Tie as tie
+
+abbrev Inv-loop : tie.InvT-loop
+Inv-loop line at out₀ i₀ k₀ v₀ any₀ out i k v any =
+    (i ≤ length line) × (k ≤ i) × (v ≤ 4294967295) × (length out ≡ length out₀)
+    × (toldFrom line i any v (take k out) ≡ numbersOf (fieldsOf (drop at line)))
+
+abbrev μ-loop : tie.MeasureT-loop
+μ-loop line at out₀ i₀ k₀ v₀ any₀ out i k v any = length line - i
+
+loop-holds : tie.Need-loop-holds Inv-loop μ-loop
+loop-holds c = (omega arith, omega arith, omega arith, refl, told-start (c .args .line .now) (c .args .at))
+
+shared-slice-read-b : tie.Need-shared-slice-read-b Inv-loop μ-loop
+shared-slice-read-b c = omega arith
+
+same-length : tie.Need-same-length Inv-loop μ-loop
+same-length c = search needs
+
+returns : tie.Need-returns Inv-loop μ-loop
+unfolding numbersIn howMany
+returns c =
+    let l = c .before .before .before in (
+      sym (gap _ _ _ _ _ (l .loop-test .taken) (c .before .if1 .taken) (not-true _ (c .if2 .taken)))
+          ∙ l .before .loop .inv .4,
+      omega arith,
+    )
+
+cast-out : tie.Need-cast-out Inv-loop μ-loop
+cast-out c = omega arith
+
+mul-out : tie.Need-mul-out Inv-loop μ-loop
+mul-out c = omega arith
+
+slice-write-out : tie.Need-slice-write-out Inv-loop μ-loop
+slice-write-out c = omega arith
+
+add-k : tie.Need-add-k Inv-loop μ-loop
+add-k c = omega arith
+
+add-i : tie.Need-add-i Inv-loop μ-loop
+add-i c = omega arith
+
+loop-less : tie.Need-loop-less Inv-loop μ-loop
+loop-less c = omega arith
+
+loop-again : tie.Need-loop-again Inv-loop μ-loop
+loop-again c =
+    let l = c .before .before .before in
+    let o = l .before .loop in (
+      omega arith,
+      omega arith,
+      omega arith,
+      rw length-set (o .inv .3),
+      rw (stored (o .out) (o .k) (o .v) (omega arith))
+          (sym (number _ _ _ _ _ (l .loop-test .taken) (c .before .if1 .taken)
+          (not-false _ (c .if2 .left)) (o .inv .2))
+          ∙ o .inv .4),
+    )
+
+same-length-2 : tie.Need-same-length-2 Inv-loop μ-loop
+same-length-2 c = search needs
+
+returns-2 : tie.Need-returns-2 Inv-loop μ-loop
+unfolding numbersIn howMany
+returns-2 c =
+    let l = c .before .before .before in (
+      sym (low _ _ _ _ _ (l .loop-test .taken) (c .before .if1 .left) (c .if3 .taken))
+          ∙ l .before .loop .inv .4,
+      omega arith,
+    )
+
+same-length-3 : tie.Need-same-length-3 Inv-loop μ-loop
+same-length-3 c = search needs
+
+returns-3 : tie.Need-returns-3 Inv-loop μ-loop
+unfolding numbersIn howMany
+returns-3 c =
+    let l = c .before .before .before .before in (
+      sym (high _ _ _ _ _ (l .loop-test .taken) (c .before .before .if1 .left) (c .if4 .taken))
+          ∙ l .before .loop .inv .4,
+      omega arith,
+    )
+
+mul-next : tie.Need-mul-next Inv-loop μ-loop
+mul-next c = omega arith
+
+cast-next : tie.Need-cast-next Inv-loop μ-loop
+cast-next c = omega arith
+
+add-next : tie.Need-add-next Inv-loop μ-loop
+add-next c = omega arith
+
+same-length-4 : tie.Need-same-length-4 Inv-loop μ-loop
+same-length-4 c = search needs
+
+returns-4 : tie.Need-returns-4 Inv-loop μ-loop
+unfolding numbersIn howMany
+returns-4 c =
+    let b = c .before .before .before in
+    let l = b .before .before in (
+      sym (over _ _ _ _ _ (l .loop-test .taken) (b .if1 .left) (c .before .before .if3 .left)
+          (c .before .if4 .left) (c .if5 .taken))
+          ∙ l .before .loop .inv .4,
+      omega arith,
+    )
+
+add-i-2 : tie.Need-add-i-2 Inv-loop μ-loop
+add-i-2 c = omega arith
+
+loop-less-2 : tie.Need-loop-less-2 Inv-loop μ-loop
+loop-less-2 c = omega arith
+
+loop-again-2 : tie.Need-loop-again-2 Inv-loop μ-loop
+loop-again-2 c =
+    let b = c .before .before .before in
+    let l = b .before .before in
+    let o = l .before .loop in (
+      omega arith,
+      omega arith,
+      omega arith,
+      omega arith,
+      sym (digit _ _ _ (o .any) (take (o .k) (o .out)) (l .loop-test .taken) (b .if1 .left)
+          (c .before .before .if3 .left) (c .before .if4 .left))
+          ∙ o .inv .4,
+    )
+
+same-length-5 : tie.Need-same-length-5 Inv-loop μ-loop
+same-length-5 c = search needs
+
+returns-5 : tie.Need-returns-5 Inv-loop μ-loop
+unfolding numbersIn howMany
+returns-5 c =
+    let o = c .before .before .loop in (
+      sym (ends-bare _ _ _ _ _ (c .before .loop-test .left) (not-true _ (c .if6 .taken)))
+          ∙ o .inv .4,
+      omega arith,
+    )
+
+cast-out-2 : tie.Need-cast-out-2 Inv-loop μ-loop
+cast-out-2 c = omega arith
+
+mul-out-2 : tie.Need-mul-out-2 Inv-loop μ-loop
+mul-out-2 c = omega arith
+
+slice-write-out-2 : tie.Need-slice-write-out-2 Inv-loop μ-loop
+slice-write-out-2 c = omega arith
+
+add-t24 : tie.Need-add-t24 Inv-loop μ-loop
+add-t24 c = omega arith
+
+same-length-6 : tie.Need-same-length-6 Inv-loop μ-loop
+same-length-6 c = search needs
+
+returns-6 : tie.Need-returns-6 Inv-loop μ-loop
+unfolding numbersIn howMany
+returns-6 c =
+    let o = c .before .before .loop in (
+      ap some (stored (o .out) (o .k) (o .v) (omega arith))
+          ∙ sym (ends _ _ (o .v) _ (take (o .k) (o .out)) (c .before .loop-test .left)
+          (not-false _ (c .if6 .left)) (o .inv .2))
+          ∙ o .inv .4,
+      rw length-set (omega arith),
+    )
+
+pub numbers-spec : {M : Type 1} → statement M
+numbers-spec =
+    tie.close
+    (tie.spec
+    Inv-loop
+    μ-loop
+    loop-holds
+    shared-slice-read-b
+    same-length
+    returns
+    cast-out
+    mul-out
+    slice-write-out
+    add-k
+    add-i
+    loop-less
+    loop-again
+    same-length-2
+    returns-2
+    same-length-3
+    returns-3
+    mul-next
+    cast-next
+    add-next
+    same-length-4
+    returns-4
+    add-i-2
+    loop-less-2
+    loop-again-2
+    same-length-5
+    returns-5
+    cast-out-2
+    mul-out-2
+    slice-write-out-2
+    add-t24
+    same-length-6
+    returns-6)
