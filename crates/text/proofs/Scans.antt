@@ -14,9 +14,9 @@ use lib.Dec.{eqb, leb}
 use lib.ListN.{length, getD, drop, take, set, drop-of-length-le}
 use lib.Seq.{drop-cons, take-suc-set}
 use borrow.Author.Tests.{eq-eqb, ne-eqb, le-leb, lt-leb}
-use Rattle.words.proofs.Bools.{and-false-right}
+use Rattle.words.proofs.Bools.{and-left, and-right, and-false-right, leb-le}
 use Rattle.text.proofs.Firsts.{fields-some}
-use Rattle.text.specs.Fields.{inFirst, fieldsOf, digitsOnly, valueFrom, isEmpty, numberOf, numberBefore, numbersOf}
+use Rattle.text.specs.Fields.{inFirst, fieldsOf, isDigit, digitsOnly, valueFrom, isEmpty, numberOf, numberBefore, numbersOf}
 
 -- The number of a field after digits worth v; there are none where any is false.
 unfoldable pub numberFrom : Bool → ℕ → List ℕ → Option ℕ
@@ -37,26 +37,26 @@ toldFrom s i any v xs = behind xs (firstFrom any v (fieldsOf (drop i s)))
 
 -- ---- one field
 
+pub digit-range : (b : ℕ) → isDigit b ≡ true → (48 ≤ b) × (b ≤ 57)
+digit-range b d =
+    (leb-le 48 b (and-left (leb 48 b) (leb b 57) d), leb-le b 57 (and-right (leb 48 b) (leb b 57) d))
+
 value-grows : (v : ℕ) (f : List ℕ) → v ≤ valueFrom v f
 unfolding valueFrom
 value-grows v [] = omega arith
 value-grows v (b ∷ f) = let g = value-grows (v * 10 + (b - 48)) f in omega arith
 
-number-digit : (any : Bool) (v b : ℕ) (f : List ℕ) → 48 ≤ b → b ≤ 57
+number-digit : (any : Bool) (v b : ℕ) (f : List ℕ) → isDigit b ≡ true
     → numberFrom any v (b ∷ f) ≡ numberFrom true (v * 10 + (b - 48)) f
 unfolding numberFrom digitsOnly valueFrom isEmpty
-number-digit true v b f l g = simp (le-leb _ _ l, le-leb _ _ g)
-number-digit false v b f l g = simp (le-leb _ _ l, le-leb _ _ g)
+number-digit true v b f d = rw d
+number-digit false v b f d = rw d
 
-number-low : (any : Bool) (v b : ℕ) (f : List ℕ) → b < 48 → numberFrom any v (b ∷ f) ≡ none
+number-other : (any : Bool) (v b : ℕ) (f : List ℕ) → isDigit b ≡ false
+    → numberFrom any v (b ∷ f) ≡ none
 unfolding numberFrom digitsOnly valueFrom isEmpty
-number-low true v b f l = simp (lt-leb _ _ l)
-number-low false v b f l = simp (lt-leb _ _ l)
-
-number-high : (any : Bool) (v b : ℕ) (f : List ℕ) → 57 < b → numberFrom any v (b ∷ f) ≡ none
-unfolding numberFrom digitsOnly valueFrom isEmpty
-number-high true v b f g = simp (lt-leb _ _ g, and-false-right)
-number-high false v b f g = simp (lt-leb _ _ g, and-false-right)
+number-other true v b f n = rw n
+number-other false v b f n = rw n
 
 number-over : (v : ℕ) (f : List ℕ) → 4294967295 < v → numberFrom true v f ≡ none
 unfolding numberFrom
@@ -70,23 +70,17 @@ number-ends v h = simp (le-leb _ _ h)
 
 -- ---- the fields
 
-first-digit : (any : Bool) (v b : ℕ) (F : List (List ℕ)) → 48 ≤ b → b ≤ 57
+first-digit : (any : Bool) (v b : ℕ) (F : List (List ℕ)) → isDigit b ≡ true
     → firstFrom any v (inFirst b F) ≡ firstFrom true (v * 10 + (b - 48)) F
 unfolding firstFrom inFirst numbersOf
-first-digit any v b [] l g = rw (number-digit any v b [] l g)
-first-digit any v b (f ∷ fs) l g = rw (number-digit any v b f l g)
+first-digit any v b [] d = rw (number-digit any v b [] d)
+first-digit any v b (f ∷ fs) d = rw (number-digit any v b f d)
 
-first-low : (any : Bool) (v b : ℕ) (F : List (List ℕ)) → b < 48
+first-other : (any : Bool) (v b : ℕ) (F : List (List ℕ)) → isDigit b ≡ false
     → firstFrom any v (inFirst b F) ≡ none
 unfolding firstFrom inFirst numberBefore
-first-low any v b [] l = rw (number-low any v b [] l)
-first-low any v b (f ∷ fs) l = rw (number-low any v b f l)
-
-first-high : (any : Bool) (v b : ℕ) (F : List (List ℕ)) → 57 < b
-    → firstFrom any v (inFirst b F) ≡ none
-unfolding firstFrom inFirst numberBefore
-first-high any v b [] g = rw (number-high any v b [] g)
-first-high any v b (f ∷ fs) g = rw (number-high any v b f g)
+first-other any v b [] n = rw (number-other any v b [] n)
+first-other any v b (f ∷ fs) n = rw (number-other any v b f n)
 
 first-over : (v : ℕ) (F : List (List ℕ)) → 4294967295 < v → firstFrom true v F ≡ none
 unfolding firstFrom numberBefore
@@ -112,7 +106,8 @@ unfolding behind numberBefore
 behind-number xs v none = refl
 behind-number xs v (some ns) = ap some (sym (append-assoc xs (v ∷ []) ns))
 
-pub told-start : (s : List ℕ) (at : ℕ) → toldFrom s at false 0 [] ≡ numbersOf (fieldsOf (drop at s))
+pub told-start : (s : List ℕ) (at : ℕ)
+    → toldFrom s at false 0 [] ≡ numbersOf (fieldsOf (drop at s))
 told-start s at = behind-none _ ∙ first-start (drop at s)
 
 -- A store at the end of the first k.
@@ -143,22 +138,20 @@ module _ (s : List ℕ) (i v : ℕ) (any : Bool) (xs : List ℕ) (h : i < length
     unfolding fieldsOf
     at-other = rw (drop-cons s i 0, add-one) (simp (ne-eqb _ _ ns))
 
-    pub low : getD s i 0 < 48 → toldFrom s i any v xs ≡ none
+    pub other : isDigit (getD s i 0) ≡ false → toldFrom s i any v xs ≡ none
     unfolding behind
-    low l = rw (at-other, first-low any v (getD s i 0) (fieldsOf (drop (i + 1) s)) l)
+    other n = rw (at-other, first-other any v (getD s i 0) (fieldsOf (drop (i + 1) s)) n)
 
-    pub high : 57 < getD s i 0 → toldFrom s i any v xs ≡ none
-    unfolding behind
-    high g = rw (at-other, first-high any v (getD s i 0) (fieldsOf (drop (i + 1) s)) g)
-
-    pub digit : 48 ≤ getD s i 0 → getD s i 0 ≤ 57
+    pub digit : isDigit (getD s i 0) ≡ true
         → toldFrom s i any v xs ≡ toldFrom s (i + 1) true (v * 10 + (getD s i 0 - 48)) xs
-    digit l g = rw (at-other, first-digit any v (getD s i 0) (fieldsOf (drop (i + 1) s)) l g)
+    digit d = rw (at-other, first-digit any v (getD s i 0) (fieldsOf (drop (i + 1) s)) d)
 
-    pub over : 48 ≤ getD s i 0 → getD s i 0 ≤ 57
+    pub over : isDigit (getD s i 0) ≡ true
         → 4294967295 < v * 10 + (getD s i 0 - 48) → toldFrom s i any v xs ≡ none
     unfolding behind
-    over l g o = digit l g ∙ rw (first-over (v * 10 + (getD s i 0 - 48)) (fieldsOf (drop (i + 1) s)) o)
+    over d o =
+        let n = v * 10 + (getD s i 0 - 48) in
+        digit d ∙ rw (first-over n (fieldsOf (drop (i + 1) s)) o)
 
 module _ (s : List ℕ) (i v : ℕ) (any : Bool) (xs : List ℕ) (h : length s ≤ i) where
   pub ends-bare : any ≡ false → toldFrom s i any v xs ≡ none

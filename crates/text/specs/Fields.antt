@@ -23,10 +23,13 @@ unfoldable pub fieldsOf : List ℕ → List (List ℕ)
 fieldsOf [] = [] ∷ []
 fieldsOf (b ∷ bs) = cond (eqb b 32) ([] ∷ fieldsOf bs) (inFirst b (fieldsOf bs))
 
--- Every byte is one of `0` (48) to `9` (57).
+-- One of `0` (48) to `9` (57).
+abbrev pub isDigit : ℕ → Bool
+isDigit b = leb 48 b && leb b 57
+
 unfoldable pub digitsOnly : List ℕ → Bool
 digitsOnly [] = true
-digitsOnly (b ∷ bs) = leb 48 b && leb b 57 && digitsOnly bs
+digitsOnly (b ∷ bs) = isDigit b && digitsOnly bs
 
 -- What digits spell after others worth v.
 unfoldable pub valueFrom : ℕ → List ℕ → ℕ

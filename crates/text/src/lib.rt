@@ -1,11 +1,11 @@
 // Lines of text as bytes: words compared, numbers read, bytes and numbers put.
 ghost use mathlib.Core.Path.{_≡_};
 ghost use mathlib.Core.List.{[], _∷_, _++_};
-ghost use Prim.Native.Nat.{_+_, _≤_, _<_};
+ghost use Prim.Native.Nat.{_+_, _-_, _≤_, _<_};
 ghost use lib.ListN.{length, drop, take};
 ghost use Rattle.text.specs.Bytes.{sameBytes};
 ghost use Rattle.text.specs.Decimal.{decimalOf};
-ghost use Rattle.text.specs.Fields.{fieldsOf, fieldsAfter, numbersOf, numbersIn, howMany};
+ghost use Rattle.text.specs.Fields.{fieldsOf, fieldsAfter, isDigit, numbersOf, numbersIn, howMany};
 
 // How many numbers there are, or that a field is no number.
 pub enum Count {
@@ -48,6 +48,20 @@ pub fn first_field(line: &[u8]) -> usize
     i
 }
 
+fn is_digit(b: u8) -> bool
+    ensures { λ r. ⌜ r ≡ isDigit b ⌝ }
+{
+    (48 <= b) & (b <= 57)
+}
+
+// What a digit is worth.
+fn digit_value(b: u8) -> u64
+    requires { ⌜ (48 ≤ b) × (b ≤ 57) ⌝ }
+    ensures { λ r. ⌜ (r ≡ b - 48) × (r ≤ 9) ⌝ }
+{
+    (b - 48) as u64
+}
+
 // The numbers of a line's fields from index at on, to the front of out.
 pub fn numbers(line: &[u8], at: usize, out: &mut [u32]) -> Count
     requires { ⌜ (at ≤ length (now line)) × (length (now line) < length (now out)) ⌝ }
@@ -71,14 +85,10 @@ pub fn numbers(line: &[u8], at: usize, out: &mut [u32]) -> Count
             any = false;
             i += 1;
         } else {
-            if b < 48 {
+            if !is_digit(b) {
                 return Count::Unread;
             }
-            if 57 < b {
-                return Count::Unread;
-            }
-            let d = b - 48;
-            let next = v * 10 + d as u64;
+            let next = v * 10 + digit_value(b);
             if 4294967295 < next {
                 return Count::Unread;
             }

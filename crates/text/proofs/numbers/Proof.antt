@@ -1,5 +1,5 @@
--- `text::numbers` meets its contract: the numbers so far and what is left tell at each turn what the
--- whole tells. Assumes nothing.
+-- `text::numbers` meets its contract: the numbers so far and what is left tell at each turn what
+-- the whole tells. Assumes nothing.
 use borrow.Author.Needs.{needs}
 use native.Mathlib.Omega.{arith}
 use mathlib.Core.Path.{_≡_, refl, sym, ap, _∙_}
@@ -8,7 +8,7 @@ use Prim.Native.Nat.{_+_, _≤_, _-_}
 use lib.ListN.{length, drop, take, length-set}
 use borrow.Author.Tests.{not-true, not-false}
 use Rattle.text.specs.Fields.{fieldsOf, numbersOf, numbersIn, howMany}
-use Rattle.text.proofs.Scans.{toldFrom, told-start, stored, gap, number, low, high, digit, over, ends-bare, ends}
+use Rattle.text.proofs.Scans.{digit-range, toldFrom, told-start, stored, gap, number, other, digit, over, ends-bare, ends}
 use Rattle.text.proofs.numbers.Statement.{statement}
 use Rattle.text.proofs.numbers.Tie as tie
 
@@ -21,7 +21,9 @@ abbrev μ-loop : tie.MeasureT-loop
 μ-loop line at out₀ i₀ k₀ v₀ any₀ out i k v any = length line - i
 
 loop-holds : tie.Need-loop-holds Inv-loop μ-loop
-loop-holds c = (omega arith, omega arith, omega arith, refl, told-start (c .args .line .now) (c .args .at))
+loop-holds c =
+    let a = c .before .before .args in
+    (omega arith, omega arith, omega arith, refl, told-start (a .line .now) (a .at))
 
 shared-slice-read-b : tie.Need-shared-slice-read-b Inv-loop μ-loop
 shared-slice-read-b c = omega arith
@@ -70,26 +72,18 @@ loop-again c =
           ∙ o .inv .4),
     )
 
+is-digit-requires : tie.Need-is-digit-requires Inv-loop μ-loop
+is-digit-requires c κs = search needs
+
 same-length-2 : tie.Need-same-length-2 Inv-loop μ-loop
 same-length-2 c = search needs
 
 returns-2 : tie.Need-returns-2 Inv-loop μ-loop
 unfolding numbersIn howMany
 returns-2 c =
-    let l = c .before .before .before in (
-      sym (low _ _ _ _ _ (l .loop-test .taken) (c .before .if1 .left) (c .if3 .taken))
-          ∙ l .before .loop .inv .4,
-      omega arith,
-    )
-
-same-length-3 : tie.Need-same-length-3 Inv-loop μ-loop
-same-length-3 c = search needs
-
-returns-3 : tie.Need-returns-3 Inv-loop μ-loop
-unfolding numbersIn howMany
-returns-3 c =
-    let l = c .before .before .before .before in (
-      sym (high _ _ _ _ _ (l .loop-test .taken) (c .before .before .if1 .left) (c .if4 .taken))
+    let l = c .before .before .before .before in
+    let n = sym (c .before .is-digit .ensures) ∙ not-true _ (c .if3 .taken) in (
+      sym (other _ _ _ _ _ (l .loop-test .taken) (c .before .before .if1 .left) n)
           ∙ l .before .loop .inv .4,
       omega arith,
     )
@@ -97,22 +91,23 @@ returns-3 c =
 mul-next : tie.Need-mul-next Inv-loop μ-loop
 mul-next c = omega arith
 
-cast-next : tie.Need-cast-next Inv-loop μ-loop
-cast-next c = omega arith
+digit-value-requires : tie.Need-digit-value-requires Inv-loop μ-loop
+digit-value-requires c κs = digit-range _ (sym (c .before .is-digit .ensures) ∙ not-false _ (c .if3 .left))
 
 add-next : tie.Need-add-next Inv-loop μ-loop
 add-next c = omega arith
 
-same-length-4 : tie.Need-same-length-4 Inv-loop μ-loop
-same-length-4 c = search needs
+same-length-3 : tie.Need-same-length-3 Inv-loop μ-loop
+same-length-3 c = search needs
 
-returns-4 : tie.Need-returns-4 Inv-loop μ-loop
+returns-3 : tie.Need-returns-3 Inv-loop μ-loop
 unfolding numbersIn howMany
-returns-4 c =
+returns-3 c =
     let b = c .before .before .before in
-    let l = b .before .before in (
-      sym (over _ _ _ _ _ (l .loop-test .taken) (b .if1 .left) (c .before .before .if3 .left)
-          (c .before .if4 .left) (c .if5 .taken))
+    let l = b .before .before .before in
+    let d = sym (b .is-digit .ensures) ∙ not-false _ (c .before .before .if3 .left) in
+    let e = c .before .digit-value .ensures .0 in (
+      sym (over _ _ _ _ _ (l .loop-test .taken) (b .before .if1 .left) d (rw e at (c .if4 .taken)))
           ∙ l .before .loop .inv .4,
       omega arith,
     )
@@ -126,25 +121,26 @@ loop-less-2 c = omega arith
 loop-again-2 : tie.Need-loop-again-2 Inv-loop μ-loop
 loop-again-2 c =
     let b = c .before .before .before in
-    let l = b .before .before in
-    let o = l .before .loop in (
+    let l = b .before .before .before in
+    let o = l .before .loop in
+    let d = sym (b .is-digit .ensures) ∙ not-false _ (c .before .before .if3 .left) in (
       omega arith,
       omega arith,
       omega arith,
       omega arith,
-      sym (digit _ _ _ (o .any) (take (o .k) (o .out)) (l .loop-test .taken) (b .if1 .left)
-          (c .before .before .if3 .left) (c .before .if4 .left))
-          ∙ o .inv .4,
+      rw (c .before .digit-value .ensures .0)
+          (sym (digit _ _ _ (o .any) (take (o .k) (o .out)) (l .loop-test .taken) (b .before .if1 .left) d)
+          ∙ o .inv .4),
     )
 
-same-length-5 : tie.Need-same-length-5 Inv-loop μ-loop
-same-length-5 c = search needs
+same-length-4 : tie.Need-same-length-4 Inv-loop μ-loop
+same-length-4 c = search needs
 
-returns-5 : tie.Need-returns-5 Inv-loop μ-loop
+returns-4 : tie.Need-returns-4 Inv-loop μ-loop
 unfolding numbersIn howMany
-returns-5 c =
+returns-4 c =
     let o = c .before .before .loop in (
-      sym (ends-bare _ _ _ _ _ (c .before .loop-test .left) (not-true _ (c .if6 .taken)))
+      sym (ends-bare _ _ _ _ _ (c .before .loop-test .left) (not-true _ (c .if5 .taken)))
           ∙ o .inv .4,
       omega arith,
     )
@@ -161,16 +157,16 @@ slice-write-out-2 c = omega arith
 add-t24 : tie.Need-add-t24 Inv-loop μ-loop
 add-t24 c = omega arith
 
-same-length-6 : tie.Need-same-length-6 Inv-loop μ-loop
-same-length-6 c = search needs
+same-length-5 : tie.Need-same-length-5 Inv-loop μ-loop
+same-length-5 c = search needs
 
-returns-6 : tie.Need-returns-6 Inv-loop μ-loop
+returns-5 : tie.Need-returns-5 Inv-loop μ-loop
 unfolding numbersIn howMany
-returns-6 c =
+returns-5 c =
     let o = c .before .before .loop in (
       ap some (stored (o .out) (o .k) (o .v) (omega arith))
           ∙ sym (ends _ _ (o .v) _ (take (o .k) (o .out)) (c .before .loop-test .left)
-          (not-false _ (c .if6 .left)) (o .inv .2))
+          (not-false _ (c .if5 .left)) (o .inv .2))
           ∙ o .inv .4,
       rw length-set (omega arith),
     )
@@ -192,23 +188,22 @@ numbers-spec =
     add-i
     loop-less
     loop-again
+    is-digit-requires
     same-length-2
     returns-2
+    mul-next
+    digit-value-requires
+    add-next
     same-length-3
     returns-3
-    mul-next
-    cast-next
-    add-next
-    same-length-4
-    returns-4
     add-i-2
     loop-less-2
     loop-again-2
-    same-length-5
-    returns-5
+    same-length-4
+    returns-4
     cast-out-2
     mul-out-2
     slice-write-out-2
     add-t24
-    same-length-6
-    returns-6)
+    same-length-5
+    returns-5)
