@@ -1,26 +1,22 @@
-use native.Mathlib.Omega.{arith}
+-- `lines::print_unread` meets its contract. Assumes nothing.
 use borrow.Author.Needs.{needs}
+use native.Mathlib.Omega.{arith}
+use Rattle.lines.specs.Print.{unreadText}
 use Rattle.lines.proofs.print.print_unread.Statement.{statement}
 use Rattle.lines.proofs.print.print_unread.Tie as tie
-use Rattle.lines.proofs.print.print_unread.Reads as reads
-use Rattle.lines.proofs.print.print_unread.Lts as lts
-use Rattle.text.proofs.put_bytes.Reads as put-bytes-reads
 
--- src/print.rt:67:30
 slice-aggregate-put-bytes : tie.Need-slice-aggregate-put-bytes
 slice-aggregate-put-bytes c = search needs
 
--- src/print.rt:67:5
 put-bytes-requires : tie.Need-put-bytes-requires
 put-bytes-requires c κs = search needs
 
--- src/print.rt:62:1
 same-length : tie.Need-same-length
 same-length c = search needs
 
--- src/print.rt:62:1
 returns : tie.Need-returns
-returns c = ?
+unfolding unreadText
+returns c = let e = c .before .before .put-bytes .ensures in (e .1, omega arith)
 
 pub print-unread-spec : {M : Type 1} → statement M
 print-unread-spec =
