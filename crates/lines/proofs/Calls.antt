@@ -1,6 +1,6 @@
 -- Laws of the grammar.
--- miscounted: a command with a wrong count of numbers. counted-new .. counted-look: the call of a
--- command with the right count, which are the first of the words l.
+-- miscounted, miscounted-first: a command with a wrong count of numbers.
+-- of-one .. of-four, of-open: the call of a command with the right count.
 -- line-long, line-bare, line-unread, line-read: the call of a line over 400 bytes, of one field,
 -- of more that are no numbers, or are.
 -- Assumes nothing.
@@ -79,88 +79,59 @@ four-first P k (a ∷ b ∷ []) h = absurd (omega arith)
 four-first P k (a ∷ b ∷ c ∷ []) h = absurd (omega arith)
 four-first P k (a ∷ b ∷ c ∷ d ∷ l) h = k a b c d l
 
-opened : (n a : ℕ) (l : List ℕ) → 0 < n
-    → some (on (openRun a (take (n - 1) l))) ≡ callOf 2 (take n (a ∷ l))
-unfolding callOf opening
-opened zero a l p = absurd (omega arith)
-opened (suc n) a l p = let e : suc n - 1 ≡ n = omega arith in rw e
+-- The call of a list's first numbers, one to four.
+abbrev call1 : (ℕ → Call) → List ℕ → Call
+call1 g m = g (getD m 0 0)
 
-module _ (c n : ℕ) (l : List ℕ) (h : 4 ≤ length l) (f : fits c n ≡ true) where
-  pub counted-new : c ≡ 1
-      → some (new (getD l 0 0) (getD l 1 0) (getD l 2 0) (getD l 3 0)) ≡ callOf c (take n l)
-  unfolding fits callOf
-  counted-new e =
-      rw (e, eqb-true n 4 (rw e at f))
-      (four-first (λ (m : List ℕ). some (new (getD m 0 0) (getD m 1 0) (getD m 2 0) (getD m 3 0))
-      ≡ callOf 1 (take 4 m)) (λ a b c d m. refl) l h)
+abbrev call2 : (ℕ → ℕ → Call) → List ℕ → Call
+call2 g m = g (getD m 0 0) (getD m 1 0)
 
-  pub counted-some : c ≡ 2 → 0 < n
-  unfolding fits
-  counted-some e = ltb-true 0 n (rw e at f)
+abbrev call3 : (ℕ → ℕ → ℕ → Call) → List ℕ → Call
+call3 g m = g (getD m 0 0) (getD m 1 0) (getD m 2 0)
 
-  pub counted-open : c ≡ 2
-      → some (on (openRun (getD l 0 0) (take (n - 1) (drop 1 l)))) ≡ callOf c (take n l)
-  counted-open e =
-      let p = counted-some e in
+abbrev call4 : (ℕ → ℕ → ℕ → ℕ → Call) → List ℕ → Call
+call4 g m = g (getD m 0 0) (getD m 1 0) (getD m 2 0) (getD m 3 0)
+
+module _ (l : List ℕ) (h : 4 ≤ length l) (n : ℕ) where
+  pub of-one : (g : ℕ → Call) → n ≡ 1
+      → some (call1 g l) ≡ exactly 1 (take n l) (call1 g (take n l))
+  of-one g e =
       rw e
-      (four-first (λ (m : List ℕ). some (on (openRun (getD m 0 0) (take (n - 1) (drop 1 m))))
-      ≡ callOf 2 (take n m)) (λ a b c d m. opened n a (b ∷ c ∷ d ∷ m) p) l h)
+      (four-first
+      (λ (m : List ℕ). some (call1 g m) ≡ exactly 1 (take 1 m) (call1 g (take 1 m)))
+      (λ a b c d m. refl) l h)
 
-  pub counted-fetch : c ≡ 3
-      → some (on (fetch (getD l 0 0) (getD l 1 0))) ≡ callOf c (take n l)
-  unfolding fits callOf
-  counted-fetch e =
-      rw (e, eqb-true n 2 (rw e at f))
-      (four-first (λ (m : List ℕ). some (on (fetch (getD m 0 0) (getD m 1 0)))
-      ≡ callOf 3 (take 2 m)) (λ a b c d m. refl) l h)
+  pub of-two : (g : ℕ → ℕ → Call) → n ≡ 2
+      → some (call2 g l) ≡ exactly 2 (take n l) (call2 g (take n l))
+  of-two g e =
+      rw e
+      (four-first
+      (λ (m : List ℕ). some (call2 g m) ≡ exactly 2 (take 2 m) (call2 g (take 2 m)))
+      (λ a b c d m. refl) l h)
 
-  pub counted-evict : c ≡ 4
-      → some (on (evict (getD l 0 0) (getD l 1 0))) ≡ callOf c (take n l)
-  unfolding fits callOf
-  counted-evict e =
-      rw (e, eqb-true n 2 (rw e at f))
-      (four-first (λ (m : List ℕ). some (on (evict (getD m 0 0) (getD m 1 0)))
-      ≡ callOf 4 (take 2 m)) (λ a b c d m. refl) l h)
+  pub of-three : (g : ℕ → ℕ → ℕ → Call) → n ≡ 3
+      → some (call3 g l) ≡ exactly 3 (take n l) (call3 g (take n l))
+  of-three g e =
+      rw e
+      (four-first
+      (λ (m : List ℕ). some (call3 g m) ≡ exactly 3 (take 3 m) (call3 g (take 3 m)))
+      (λ a b c d m. refl) l h)
 
-  pub counted-prepare : c ≡ 5
-      → some (on (prepare (getD l 0 0))) ≡ callOf c (take n l)
-  unfolding fits callOf
-  counted-prepare e =
-      rw (e, eqb-true n 1 (rw e at f))
-      (four-first (λ (m : List ℕ). some (on (prepare (getD m 0 0)))
-      ≡ callOf 5 (take 1 m)) (λ a b c d m. refl) l h)
+  pub of-four : (g : ℕ → ℕ → ℕ → ℕ → Call) → n ≡ 4
+      → some (call4 g l) ≡ exactly 4 (take n l) (call4 g (take n l))
+  of-four g e =
+      rw e
+      (four-first
+      (λ (m : List ℕ). some (call4 g m) ≡ exactly 4 (take 4 m) (call4 g (take 4 m)))
+      (λ a b c d m. refl) l h)
 
-  pub counted-step : c ≡ 6
-      → some (on (step (getD l 0 0) (getD l 1 0))) ≡ callOf c (take n l)
-  unfolding fits callOf
-  counted-step e =
-      rw (e, eqb-true n 2 (rw e at f))
-      (four-first (λ (m : List ℕ). some (on (step (getD m 0 0) (getD m 1 0)))
-      ≡ callOf 6 (take 2 m)) (λ a b c d m. refl) l h)
-
-  pub counted-issue : c ≡ 7
-      → some (on (issue (getD l 0 0) (getD l 1 0) (getD l 2 0))) ≡ callOf c (take n l)
-  unfolding fits callOf
-  counted-issue e =
-      rw (e, eqb-true n 3 (rw e at f))
-      (four-first (λ (m : List ℕ). some (on (issue (getD m 0 0) (getD m 1 0) (getD m 2 0)))
-      ≡ callOf 7 (take 3 m)) (λ a b c d m. refl) l h)
-
-  pub counted-drop : c ≡ 8
-      → some (on (dropRun (getD l 0 0))) ≡ callOf c (take n l)
-  unfolding fits callOf
-  counted-drop e =
-      rw (e, eqb-true n 1 (rw e at f))
-      (four-first (λ (m : List ℕ). some (on (dropRun (getD m 0 0)))
-      ≡ callOf 8 (take 1 m)) (λ a b c d m. refl) l h)
-
-  pub counted-look : c ≡ 9
-      → some (on (look (getD l 0 0) (getD l 1 0) (getD l 2 0))) ≡ callOf c (take n l)
-  unfolding fits callOf
-  counted-look e =
-      rw (e, eqb-true n 3 (rw e at f))
-      (four-first (λ (m : List ℕ). some (on (look (getD m 0 0) (getD m 1 0) (getD m 2 0)))
-      ≡ callOf 9 (take 3 m)) (λ a b c d m. refl) l h)
+-- Open: the first number is the run.
+pub of-open : (l : List ℕ) (n : ℕ) → 4 ≤ length l → 0 < n
+    → some (on (openRun (getD l 0 0) (take (n - 1) (drop 1 l)))) ≡ opening (take n l)
+unfolding opening
+of-open [] n h p = absurd (omega arith)
+of-open (a ∷ l) zero h p = absurd (omega arith)
+of-open (a ∷ l) (suc n) h p = let e : suc n - 1 ≡ n = omega arith in rw e
 
 -- ---- lines
 

@@ -38,8 +38,10 @@ toldFrom s i any v xs = behind xs (firstFrom any v (fieldsOf (drop i s)))
 -- ---- one field
 
 pub digit-range : (b : ℕ) → isDigit b ≡ true → (48 ≤ b) × (b ≤ 57)
-digit-range b d =
-    (leb-le 48 b (and-left (leb 48 b) (leb b 57) d), leb-le b 57 (and-right (leb 48 b) (leb b 57) d))
+digit-range b d = (
+  leb-le 48 b (and-left (leb 48 b) (leb b 57) d),
+  leb-le b 57 (and-right (leb 48 b) (leb b 57) d),
+)
 
 value-grows : (v : ℕ) (f : List ℕ) → v ≤ valueFrom v f
 unfolding valueFrom

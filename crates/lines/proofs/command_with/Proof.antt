@@ -3,9 +3,14 @@
 use borrow.Author.Needs.{needs}
 use native.Mathlib.Omega.{arith}
 use mathlib.Core.Path.{_≡_, sym, _∙_}
-use borrow.Author.Tests.{ne-eqb, not-true, not-false}
+use mathlib.Core.Bool.{true}
+use Prim.Native.Nat.{ℕ}
+use borrow.Author.Tests.{eqb-true, ltb-true, ne-eqb, not-true, not-false}
+use Rattle.model.specs.Calls.{fetch, evict, prepare, step, issue, dropRun, look}
+use Rattle.layout.specs.Calls.{new, on}
+use Rattle.lines.specs.Counts.{fits}
 use Rattle.lines.specs.Grammar.{callOf, spelled, numbersEnd}
-use Rattle.lines.proofs.Calls.{miscounted-first, counted-new, counted-some, counted-open, counted-fetch, counted-evict, counted-prepare, counted-step, counted-issue, counted-drop, counted-look}
+use Rattle.lines.proofs.Calls.{miscounted-first, of-one, of-two, of-three, of-four, of-open}
 use Rattle.lines.proofs.command_with.Statement.{statement}
 use Rattle.lines.proofs.command_with.Tie as tie
 
@@ -20,6 +25,11 @@ returns c =
     let f = sym (c .before .has-count .ensures) ∙ not-true _ (c .if1 .taken) in
     (miscounted-first (a .number) (a .n) (a .numbers .now) (s .pre .1) f, omega arith)
 
+-- Past the test the count is right.
+right : (c : tie.Else1)
+    → fits (c .before .before .before .args .number) (c .before .before .before .args .n) ≡ true
+right c = sym (c .before .has-count .ensures) ∙ not-false _ (c .if1 .left)
+
 shared-slice-read-a : tie.Need-shared-slice-read-a
 shared-slice-read-a c = search needs
 
@@ -33,104 +43,100 @@ shared-slice-read-t15 : tie.Need-shared-slice-read-t15
 shared-slice-read-t15 c = search needs
 
 sub-t16 : tie.Need-sub-t16
+unfolding fits
 sub-t16 c =
     let b = c .before .before .before .before in
-    let s = b .before .before .before in
-    let a = s .args in
-    let f = sym (b .before .has-count .ensures) ∙ not-false _ (b .if1 .left) in
-    let k = c .match .keys2 in
-    let p = counted-some (a .number) (a .n) (a .numbers .now) (s .pre .0) f k in omega arith
+    let n = b .before .before .before .args .n in
+    let p = ltb-true 0 n (rw (c .match .keys2) at (right b)) in omega arith
 
 returns-2 : tie.Need-returns-2
-unfolding spelled numbersEnd
+unfolding spelled numbersEnd fits callOf
 returns-2 c =
     let b = c .before .before .before .before .before in
-    let s = b .before .before .before in
-    let a = s .args in
-    let f = sym (b .before .has-count .ensures) ∙ not-false _ (b .if1 .left) in
+    let a = b .before .before .before in
     let k = c .before .match .keys1 in
-    (counted-new (a .number) (a .n) (a .numbers .now) (s .pre .0) f k, omega arith)
+    let n = eqb-true (a .args .n) 4 (rw k at (right b)) in
+    let w = a .args .numbers .now in
+    (rw k (of-four w (a .pre .0) (a .args .n) new n), omega arith)
 
 returns-3 : tie.Need-returns-3
-unfolding spelled numbersEnd
+unfolding spelled numbersEnd fits callOf
 returns-3 c =
     let b = c .before .before .before .before in
-    let s = b .before .before .before in
-    let a = s .args in
-    let f = sym (b .before .has-count .ensures) ∙ not-false _ (b .if1 .left) in
+    let a = b .before .before .before in
     let k = c .match .keys2 in
-    let p = counted-some (a .number) (a .n) (a .numbers .now) (s .pre .0) f k in
-    (counted-open (a .number) (a .n) (a .numbers .now) (s .pre .0) f k, omega arith)
+    let p = ltb-true 0 (a .args .n) (rw k at (right b)) in
+    (rw k (of-open (a .args .numbers .now) (a .args .n) (a .pre .0) p), omega arith)
 
 returns-4 : tie.Need-returns-4
-unfolding spelled numbersEnd
+unfolding spelled numbersEnd fits callOf
 returns-4 c =
     let b = c .before .before .before .before in
-    let s = b .before .before .before in
-    let a = s .args in
-    let f = sym (b .before .has-count .ensures) ∙ not-false _ (b .if1 .left) in
+    let a = b .before .before .before in
     let k = c .match .keys3 in
-    (counted-fetch (a .number) (a .n) (a .numbers .now) (s .pre .0) f k, omega arith)
+    let n = eqb-true (a .args .n) 2 (rw k at (right b)) in
+    let w = a .args .numbers .now in
+    (rw k (of-two w (a .pre .0) (a .args .n) (λ o k. on (fetch o k)) n), omega arith)
 
 returns-5 : tie.Need-returns-5
-unfolding spelled numbersEnd
+unfolding spelled numbersEnd fits callOf
 returns-5 c =
     let b = c .before .before .before .before in
-    let s = b .before .before .before in
-    let a = s .args in
-    let f = sym (b .before .has-count .ensures) ∙ not-false _ (b .if1 .left) in
+    let a = b .before .before .before in
     let k = c .match .keys4 in
-    (counted-evict (a .number) (a .n) (a .numbers .now) (s .pre .0) f k, omega arith)
+    let n = eqb-true (a .args .n) 2 (rw k at (right b)) in
+    let w = a .args .numbers .now in
+    (rw k (of-two w (a .pre .0) (a .args .n) (λ o k. on (evict o k)) n), omega arith)
 
 returns-6 : tie.Need-returns-6
-unfolding spelled numbersEnd
+unfolding spelled numbersEnd fits callOf
 returns-6 c =
     let b = c .before .before .before .before in
-    let s = b .before .before .before in
-    let a = s .args in
-    let f = sym (b .before .has-count .ensures) ∙ not-false _ (b .if1 .left) in
+    let a = b .before .before .before in
     let k = c .match .keys5 in
-    (counted-prepare (a .number) (a .n) (a .numbers .now) (s .pre .0) f k, omega arith)
+    let n = eqb-true (a .args .n) 1 (rw k at (right b)) in
+    let w = a .args .numbers .now in
+    (rw k (of-one w (a .pre .0) (a .args .n) (λ r. on (prepare r)) n), omega arith)
 
 returns-7 : tie.Need-returns-7
-unfolding spelled numbersEnd
+unfolding spelled numbersEnd fits callOf
 returns-7 c =
     let b = c .before .before .before .before in
-    let s = b .before .before .before in
-    let a = s .args in
-    let f = sym (b .before .has-count .ensures) ∙ not-false _ (b .if1 .left) in
+    let a = b .before .before .before in
     let k = c .match .keys6 in
-    (counted-step (a .number) (a .n) (a .numbers .now) (s .pre .0) f k, omega arith)
+    let n = eqb-true (a .args .n) 2 (rw k at (right b)) in
+    let w = a .args .numbers .now in
+    (rw k (of-two w (a .pre .0) (a .args .n) (λ r j. on (step r j)) n), omega arith)
 
 returns-8 : tie.Need-returns-8
-unfolding spelled numbersEnd
+unfolding spelled numbersEnd fits callOf
 returns-8 c =
     let b = c .before .before .before .before in
-    let s = b .before .before .before in
-    let a = s .args in
-    let f = sym (b .before .has-count .ensures) ∙ not-false _ (b .if1 .left) in
+    let a = b .before .before .before in
     let k = c .match .keys7 in
-    (counted-issue (a .number) (a .n) (a .numbers .now) (s .pre .0) f k, omega arith)
+    let n = eqb-true (a .args .n) 3 (rw k at (right b)) in
+    let w = a .args .numbers .now in
+    (rw k (of-three w (a .pre .0) (a .args .n) (λ r w m. on (issue r w m)) n), omega arith)
 
 returns-9 : tie.Need-returns-9
-unfolding spelled numbersEnd
+unfolding spelled numbersEnd fits callOf
 returns-9 c =
     let b = c .before .before .before .before in
-    let s = b .before .before .before in
-    let a = s .args in
-    let f = sym (b .before .has-count .ensures) ∙ not-false _ (b .if1 .left) in
+    let a = b .before .before .before in
     let k = c .match .keys8 in
-    (counted-drop (a .number) (a .n) (a .numbers .now) (s .pre .0) f k, omega arith)
+    let n = eqb-true (a .args .n) 1 (rw k at (right b)) in
+    let w = a .args .numbers .now in
+    (rw k (of-one w (a .pre .0) (a .args .n) (λ r. on (dropRun r)) n), omega arith)
 
 returns-10 : tie.Need-returns-10
-unfolding spelled numbersEnd
+unfolding spelled numbersEnd fits callOf
 returns-10 c =
     let b = c .before .before .before .before in
-    let s = b .before .before .before in
-    let a = s .args in
-    let f = sym (b .before .has-count .ensures) ∙ not-false _ (b .if1 .left) in
+    let a = b .before .before .before in
     let k = c .match .keys9 in
-    (counted-look (a .number) (a .n) (a .numbers .now) (s .pre .0) f k, omega arith)
+    let n = eqb-true (a .args .n) 3 (rw k at (right b)) in
+    let w = a .args .numbers .now in
+    (rw k (of-three w (a .pre .0) (a .args .n) (λ p i k. on (look p i k)) n), omega arith)
 
 returns-11 : tie.Need-returns-11
 unfolding spelled numbersEnd callOf

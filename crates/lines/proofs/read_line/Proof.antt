@@ -25,7 +25,8 @@ unfolding spelled numbersEnd
 returns-2 c =
     let a = c .before .before .before .before .before .args in
     let f = c .before .first-field in
-    (sym (line-bare (a .line .now) (f .result) (omega arith) (f .ensures .1) (c .if2 .taken)), omega arith)
+    let e = line-bare (a .line .now) (f .result) (omega arith) (f .ensures .1) (c .if2 .taken) in
+    (sym e, omega arith)
 
 add-numbers : tie.Need-add-numbers
 add-numbers c = search needs

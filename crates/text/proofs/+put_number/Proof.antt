@@ -137,10 +137,11 @@ put-number-returns-2 t c =
     let q = c .before .before .before .before .before .before .put-number .ensures in
     let s = c .before .before .before .before .before .before .before .before in
     let a = s .before .before .args in
-    let e = length-large (a .n) (s .if1 .left) in (
+    let e = length-large (a .n) (s .if1 .left) in
+    let l = take (a .at) (a .out .now) in (
       omega arith,
       rw (decimal-large (a .n) (s .if1 .left))
-          (put-both (take (a .at) (a .out .now)) (decimalOf (a .n / 10)) ((48 + a .n % 10) ∷ []) (q .1) (p .1)),
+          (put-both l (decimalOf (a .n / 10)) ((48 + a .n % 10) ∷ []) (q .1) (p .1)),
     )
 
 pub +put-number-spec : {M : Type 1} → statement M

@@ -26,8 +26,8 @@ shared-slice-read-if1 c = omega arith
 
 returns : tie.Need-returns Inv-loop μ-loop
 returns c =
-    let l = c .before .before .before .loop in
-    (omega arith, l .inv .1 ∙ field-space _ _ (c .before .before .loop-test .taken) (c .if1 .taken))
+    let t = c .before .before in
+    (omega arith, t .before .loop .inv .1 ∙ field-space _ _ (t .loop-test .taken) (c .if1 .taken))
 
 add-i : tie.Need-add-i Inv-loop μ-loop
 add-i c = omega arith
@@ -37,11 +37,11 @@ loop-less c = omega arith
 
 loop-again : tie.Need-loop-again Inv-loop μ-loop
 loop-again c =
-    let l = c .before .before .before .loop in
-    (omega arith, l .inv .1 ∙ field-more _ _ (c .before .before .loop-test .taken) (c .if1 .left))
+    let t = c .before .before in
+    (omega arith, t .before .loop .inv .1 ∙ field-more _ _ (t .loop-test .taken) (c .if1 .left))
 
 returns-2 : tie.Need-returns-2 Inv-loop μ-loop
-returns-2 c = let l = c .before .loop in (omega arith, l .inv .1 ∙ field-end _ _ (c .loop-test .left))
+returns-2 c = (omega arith, c .before .loop .inv .1 ∙ field-end _ _ (c .loop-test .left))
 
 pub first-field-spec : {M : Type 1} → statement M
 first-field-spec =

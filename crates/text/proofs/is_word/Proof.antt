@@ -21,7 +21,9 @@ loop-holds : tie.Need-loop-holds Inv-loop μ-loop
 loop-holds c = search needs
 
 returns : tie.Need-returns Inv-loop μ-loop
-returns c = sym (longer _ _ _ (c .before .loop-test .taken) (c .if1 .taken)) ∙ c .before .before .loop .inv .2
+returns c =
+    let l = c .before in
+    sym (longer _ _ _ (l .loop-test .taken) (c .if1 .taken)) ∙ l .before .loop .inv .2
 
 shared-slice-read-if2 : tie.Need-shared-slice-read-if2 Inv-loop μ-loop
 shared-slice-read-if2 c = omega arith
@@ -51,10 +53,14 @@ loop-again c =
     )
 
 returns-3 : tie.Need-returns-3 Inv-loop μ-loop
-returns-3 c = sym (shorter _ _ _ (c .before .loop-test .left) (c .if3 .taken)) ∙ c .before .before .loop .inv .2
+returns-3 c =
+    let l = c .before in
+    sym (shorter _ _ _ (l .loop-test .left) (c .if3 .taken)) ∙ l .before .loop .inv .2
 
 returns-4 : tie.Need-returns-4 Inv-loop μ-loop
-returns-4 c = sym (both-end _ _ _ (c .before .loop-test .left) (c .if3 .left)) ∙ c .before .before .loop .inv .2
+returns-4 c =
+    let l = c .before in
+    sym (both-end _ _ _ (l .loop-test .left) (c .if3 .left)) ∙ l .before .loop .inv .2
 
 pub is-word-spec : {M : Type 1} → statement M
 is-word-spec =

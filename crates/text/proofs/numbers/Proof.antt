@@ -34,8 +34,9 @@ same-length c = search needs
 returns : tie.Need-returns Inv-loop μ-loop
 unfolding numbersIn howMany
 returns c =
-    let l = c .before .before .before in (
-      sym (gap _ _ _ _ _ (l .loop-test .taken) (c .before .if1 .taken) (not-true _ (c .if2 .taken)))
+    let l = c .before .before .before in
+    let n = not-true _ (c .if2 .taken) in (
+      sym (gap _ _ _ _ _ (l .loop-test .taken) (c .before .if1 .taken) n)
           ∙ l .before .loop .inv .4,
       omega arith,
     )
@@ -92,7 +93,9 @@ mul-next : tie.Need-mul-next Inv-loop μ-loop
 mul-next c = omega arith
 
 digit-value-requires : tie.Need-digit-value-requires Inv-loop μ-loop
-digit-value-requires c κs = digit-range _ (sym (c .before .is-digit .ensures) ∙ not-false _ (c .if3 .left))
+digit-value-requires c κs =
+    let e = c .before .is-digit .ensures in
+    digit-range _ (sym e ∙ not-false _ (c .if3 .left))
 
 add-next : tie.Need-add-next Inv-loop μ-loop
 add-next c = omega arith
@@ -123,13 +126,14 @@ loop-again-2 c =
     let b = c .before .before .before in
     let l = b .before .before .before in
     let o = l .before .loop in
+    let xs = take (o .k) (o .out) in
     let d = sym (b .is-digit .ensures) ∙ not-false _ (c .before .before .if3 .left) in (
       omega arith,
       omega arith,
       omega arith,
       omega arith,
       rw (c .before .digit-value .ensures .0)
-          (sym (digit _ _ _ (o .any) (take (o .k) (o .out)) (l .loop-test .taken) (b .before .if1 .left) d)
+          (sym (digit _ _ _ (o .any) xs (l .loop-test .taken) (b .before .if1 .left) d)
           ∙ o .inv .4),
     )
 

@@ -17,7 +17,9 @@ same-length : tie.Need-same-length
 same-length c = search needs
 
 returns : tie.Need-returns
-returns c = (refl, rw add-one (take-suc-set (c .args .out .now) (c .args .at) (c .args .byte) (c .pre)))
+returns c =
+    let a = c .args in
+    (refl, rw add-one (take-suc-set (a .out .now) (a .at) (a .byte) (c .pre)))
 
 pub put-byte-spec : {M : Type 1} → statement M
 put-byte-spec = tie.close (tie.spec slice-write-out add-result same-length returns)
