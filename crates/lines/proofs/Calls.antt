@@ -4,21 +4,21 @@
 -- line-long, line-bare, line-unread, line-read: the call of a line over 400 bytes, of one field,
 -- of more that are no numbers, or are.
 -- Assumes nothing.
-use mathlib.Core.Path.{_≡_, refl, sym, ap, _∙_}
+use mathlib.Core.Path.{_≡_, refl, sym, _∙_}
 use mathlib.Core.Bool.{Bool, true, false, cond}
 use mathlib.Core.List.{List, [], _∷_}
 use mathlib.Core.Option.{Option, none, some}
 use Prim.Native.Nat.{ℕ, zero, suc, _+_, _-_, _<_, _≤_}
 use native.Mathlib.Omega.{arith}
-use lib.Dec.{eqb, ltb, leb}
+use lib.Dec.{eqb, ltb}
 use lib.ListN.{length, getD, take, drop}
 use lib.Seq.{length-take-le}
-use borrow.Author.Tests.{eqb-true, ltb-true, ltb-false, lt-ltb, le-ltb, le-leb, lt-leb}
+use borrow.Author.Tests.{ltb-false, lt-ltb, le-ltb, le-leb, lt-leb}
 use Rattle.text.specs.Fields.{fieldsOf, fieldsAfter, numbersOf, numbersIn, howMany}
 use Rattle.text.specs.declared.Count.{Count}
 use Rattle.text.specs.declared.Count.the-variants.{Of, Unread}
-use Rattle.model.specs.Calls.{openRun, fetch, evict, prepare, step, issue, dropRun, look}
-use Rattle.layout.specs.Calls.{Call, new, on}
+use Rattle.model.specs.Calls.{openRun}
+use Rattle.layout.specs.Calls.{Call, on}
 use Rattle.lines.specs.Counts.{fits}
 use Rattle.lines.specs.Grammar.{commandOf, exactly, opening, callOf, asked, fieldsCall, lineCall}
 

@@ -3,9 +3,8 @@
 -- and what isn't. long-lines: 400 bytes and 401. answers: answers in text.
 -- Assumes nothing.
 use mathlib.Core.Path.{_≡_, refl}
-use mathlib.Core.List.{List, [], _∷_, _++_}
-use mathlib.Core.Option.{Option, none, some}
-use Prim.Native.Nat.{ℕ}
+use mathlib.Core.List.{[], _∷_, _++_}
+use mathlib.Core.Option.{none, some}
 use lib.ListN.{replicate}
 use Rattle.text.specs.Bytes.{sameBytes}
 use Rattle.text.specs.Decimal.{digitsOf, decimalOf}

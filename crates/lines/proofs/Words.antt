@@ -2,7 +2,7 @@
 -- ok-word, broken-word, refused-word: an answer's first word. numbers-more, numbers-end: the
 -- numbers from place i on, one by one. answer-parts: an answer's text put in three parts.
 -- Assumes nothing.
-use mathlib.Core.Path.{_≡_, refl, sym, _∙_}
+use mathlib.Core.Path.{_≡_, refl}
 use mathlib.Core.List.{List, [], _∷_, _++_, append-assoc, append-nil}
 use Prim.Native.Nat.{ℕ, zero, suc, _+_, _<_, _≤_}
 use native.Mathlib.Numerals.{add-one}

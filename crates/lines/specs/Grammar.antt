@@ -2,7 +2,7 @@
 -- commandOf: the number of a command's word. callOf: the call of a command and its numbers.
 -- lineCall: the call of a line, none for `unread`. spelled: the call of a `Command`.
 -- Assumes nothing.
-use mathlib.Core.Bool.{Bool, true, false, cond}
+use mathlib.Core.Bool.{cond}
 use mathlib.Core.List.{List, [], _∷_}
 use mathlib.Core.Option.{Option, none, some}
 use Prim.Native.Nat.{ℕ, _+_}
@@ -10,7 +10,7 @@ use lib.Dec.{eqb, leb}
 use lib.ListN.{length, getD, take, drop}
 use Rattle.text.specs.Bytes.{sameBytes}
 use Rattle.text.specs.Fields.{fieldsOf, numbersOf}
-use Rattle.model.specs.Calls.{StoreCall, openRun, fetch, evict, prepare, step, issue, dropRun, look}
+use Rattle.model.specs.Calls.{openRun, fetch, evict, prepare, step, issue, dropRun, look}
 use Rattle.layout.specs.Calls.{Call, new, on}
 use Rattle.lines.specs.declared.Command.{Command}
 use Rattle.lines.specs.declared.Command.the-variants.{Unread, New, Open, Fetch, Evict, Prepare, Step, Issue, Drop, Look}

@@ -1,9 +1,8 @@
 -- Fields and numbers of short lines, computed.
 -- Assumes nothing.
 use mathlib.Core.Path.{_≡_, refl}
-use mathlib.Core.Bool.{true, false}
 use mathlib.Core.List.{List, [], _∷_}
-use mathlib.Core.Option.{Option, none, some}
+use mathlib.Core.Option.{none, some}
 use Prim.Native.Nat.{ℕ}
 use Rattle.text.specs.Fields.{inFirst, fieldsOf, digitsOnly, valueFrom, isEmpty, numberOf, numberBefore, numbersOf}
 use Rattle.text.specs.Decimal.{digitsOf, decimalOf}

@@ -4,7 +4,6 @@ use borrow.Author.Needs.{needs}
 use native.Mathlib.Omega.{arith}
 use mathlib.Core.Path.{_≡_, sym, _∙_}
 use mathlib.Core.Bool.{true}
-use Prim.Native.Nat.{ℕ}
 use borrow.Author.Tests.{eqb-true, ltb-true, ne-eqb, not-true, not-false}
 use Rattle.model.specs.Calls.{fetch, evict, prepare, step, issue, dropRun, look}
 use Rattle.layout.specs.Calls.{new, on}

@@ -2,11 +2,9 @@
 -- others are its numbers. Assumes nothing.
 use borrow.Author.Needs.{needs}
 use native.Mathlib.Omega.{arith}
-use mathlib.Core.Path.{_≡_, sym, ap, _∙_}
+use mathlib.Core.Path.{_≡_, sym, _∙_}
 use Prim.Native.Nat.{_-_}
-use Rattle.text.specs.Fields.{numbersIn, howMany}
-use Rattle.text.specs.declared.Count.the-variants.{Of, Unread}
-use Rattle.lines.specs.Grammar.{asked, spelled, numbersEnd}
+use Rattle.lines.specs.Grammar.{spelled, numbersEnd}
 use Rattle.lines.proofs.Calls.{line-long, line-bare, line-unread, line-read, count-le}
 use Rattle.lines.proofs.read_line.Statement.{statement}
 use Rattle.lines.proofs.read_line.Tie as tie

@@ -1,6 +1,6 @@
 -- `text::put_number` meets its contract: first the digits of the tenth part, then the last one.
 -- The measure: the number. Assumes nothing.
-use mathlib.Core.Path.{_≡_, refl, sym, _∙_}
+use mathlib.Core.Path.{_∙_}
 use mathlib.Core.List.{[], _∷_}
 use borrow.Author.Needs.{needs}
 use native.Mathlib.Omega.{arith}

@@ -1,8 +1,7 @@
 -- `text::first_field` meets its contract: the bytes so far are in front of the first field that
 -- is left. Assumes nothing.
-use borrow.Author.Needs.{needs}
 use native.Mathlib.Omega.{arith}
-use mathlib.Core.Path.{_≡_, sym, _∙_}
+use mathlib.Core.Path.{_≡_, _∙_}
 use Prim.Native.Nat.{_≤_, _-_}
 use lib.ListN.{length, drop, take}
 use Rattle.text.specs.Fields.{fieldsOf}

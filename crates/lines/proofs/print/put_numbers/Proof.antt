@@ -1,6 +1,5 @@
 -- `lines::print::put_numbers` meets its contract: what is put and what is left make the whole at
 -- each turn. Assumes nothing.
-use borrow.Author.Needs.{needs}
 use native.Mathlib.Omega.{arith}
 use mathlib.Core.Path.{_≡_, refl, sym, _∙_}
 use mathlib.Core.List.{_++_}
