@@ -14,8 +14,9 @@ use Rattle.layout.specs.Calls.{new, on}
 use Rattle.lines.specs.Grammar.{commandOf, callOf, opening, asked, fieldsCall, lineCall}
 use Rattle.lines.specs.Print.{answerWord, numbersText, answerText, unreadText}
 
--- `new 2 2 2 1`, `open 0 0 0 0`, `step 0 0`, `issue 0 0 3`, `fetch 0 0`, `open 0 0 1 0`,
--- `issue 0 1 2`, `open 0 0 1 0 1 2 1`, `look 2 0 1`, `evict 0 1`, `prepare 0`, `drop 0`.
+-- Case A's lines, each once: `new 2 2 2 1`, `open 0 0 0 0`, `step 0 0`, `issue 0 0 3`,
+-- `fetch 0 0`, `open 0 0 1 0`, `issue 0 1 2`, `open 0 0 1 0 1 2 1`, `step 0 1`,
+-- `look 2 0 1`, `fetch 1 1`, `evict 0 1`; and `prepare 0`, `drop 0`.
 pub case-lines :
     (lineCall (110 ∷ 101 ∷ 119 ∷ 32 ∷ 50 ∷ 32 ∷ 50 ∷ 32 ∷ 50 ∷ 32 ∷ 49 ∷ []) ≡ some (new 2 2 2
     1))
@@ -31,14 +32,16 @@ pub case-lines :
     (issue 0 1 2)))
     × (lineCall (111 ∷ 112 ∷ 101 ∷ 110 ∷ 32 ∷ 48 ∷ 32 ∷ 48 ∷ 32 ∷ 49 ∷ 32 ∷ 48 ∷ 32 ∷ 49 ∷ 32 ∷
     50 ∷ 32 ∷ 49 ∷ []) ≡ some (on (openRun 0 (0 ∷ 1 ∷ 0 ∷ 1 ∷ 2 ∷ 1 ∷ []))))
+    × (lineCall (115 ∷ 116 ∷ 101 ∷ 112 ∷ 32 ∷ 48 ∷ 32 ∷ 49 ∷ []) ≡ some (on (step 0 1)))
     × (lineCall (108 ∷ 111 ∷ 111 ∷ 107 ∷ 32 ∷ 50 ∷ 32 ∷ 48 ∷ 32 ∷ 49 ∷ []) ≡ some (on (look 2 0
     1)))
+    × (lineCall (102 ∷ 101 ∷ 116 ∷ 99 ∷ 104 ∷ 32 ∷ 49 ∷ 32 ∷ 49 ∷ []) ≡ some (on (fetch 1 1)))
     × (lineCall (101 ∷ 118 ∷ 105 ∷ 99 ∷ 116 ∷ 32 ∷ 48 ∷ 32 ∷ 49 ∷ []) ≡ some (on (evict 0 1)))
     × (lineCall (112 ∷ 114 ∷ 101 ∷ 112 ∷ 97 ∷ 114 ∷ 101 ∷ 32 ∷ 48 ∷ []) ≡ some (on (prepare 0)))
     × (lineCall (100 ∷ 114 ∷ 111 ∷ 112 ∷ 32 ∷ 48 ∷ []) ≡ some (on (dropRun 0)))
 unfolding lineCall fieldsCall fieldsOf inFirst asked commandOf sameBytes callOf opening numbersOf
     numberBefore numberOf isEmpty digitsOnly valueFrom
-case-lines = (refl, refl, refl, refl, refl, refl, refl, refl, refl, refl, refl, refl)
+case-lines = (refl, refl, refl, refl, refl, refl, refl, refl, refl, refl, refl, refl, refl, refl)
 
 -- `fetch 000 00`, `fetch 0 4294967295`, `open 0`, `open 1 7`.
 pub read-lines :
@@ -83,14 +86,16 @@ unfolding lineCall fieldsCall fieldsOf inFirst asked commandOf sameBytes callOf 
     numberBefore numberOf isEmpty digitsOnly valueFrom
 long-lines = (refl, refl)
 
--- `ok 88`, `ok 0 1 0`, `refused 6`, `broken 1`, `ok 4294967295`, `unread`.
+-- `ok 88`, `ok 0 0 0`, `ok 0 1 0`, `ok 2 0 0`, `refused 6`, `broken 1`, `ok 4294967295`, `unread`.
 pub answers :
     (answerText (0 ∷ 88 ∷ []) ≡ 111 ∷ 107 ∷ 32 ∷ 56 ∷ 56 ∷ 10 ∷ [])
+    × (answerText (0 ∷ 0 ∷ 0 ∷ 0 ∷ []) ≡ 111 ∷ 107 ∷ 32 ∷ 48 ∷ 32 ∷ 48 ∷ 32 ∷ 48 ∷ 10 ∷ [])
     × (answerText (0 ∷ 0 ∷ 1 ∷ 0 ∷ []) ≡ 111 ∷ 107 ∷ 32 ∷ 48 ∷ 32 ∷ 49 ∷ 32 ∷ 48 ∷ 10 ∷ [])
+    × (answerText (0 ∷ 2 ∷ 0 ∷ 0 ∷ []) ≡ 111 ∷ 107 ∷ 32 ∷ 50 ∷ 32 ∷ 48 ∷ 32 ∷ 48 ∷ 10 ∷ [])
     × (answerText (2 ∷ 6 ∷ []) ≡ 114 ∷ 101 ∷ 102 ∷ 117 ∷ 115 ∷ 101 ∷ 100 ∷ 32 ∷ 54 ∷ 10 ∷ [])
     × (answerText (1 ∷ 1 ∷ []) ≡ 98 ∷ 114 ∷ 111 ∷ 107 ∷ 101 ∷ 110 ∷ 32 ∷ 49 ∷ 10 ∷ [])
     × (answerText (0 ∷ 4294967295 ∷ []) ≡ 111 ∷ 107 ∷ 32 ∷ 52 ∷ 50 ∷ 57 ∷ 52 ∷ 57 ∷ 54 ∷ 55 ∷ 50
     ∷ 57 ∷ 53 ∷ 10 ∷ [])
     × (unreadText ≡ 117 ∷ 110 ∷ 114 ∷ 101 ∷ 97 ∷ 100 ∷ 10 ∷ [])
 unfolding answerText answerWord numbersText unreadText decimalOf digitsOf
-answers = (refl, refl, refl, refl, refl, refl)
+answers = (refl, refl, refl, refl, refl, refl, refl, refl)
