@@ -1,0 +1,2 @@
+pub mod Pasts
+pub mod Turns
