@@ -1,2 +1,5 @@
 pub mod Pasts
 pub mod Turns
+pub mod Writers
+pub mod Masters
+pub mod Chain

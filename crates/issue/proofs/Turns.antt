@@ -13,6 +13,7 @@ use lib.ListN.{length}
 use lib.Seq.{sets}
 use Rattle.words.specs.Numbers.{foldBelow}
 use Rattle.words.specs.Lists.{putAt}
+use Rattle.words.proofs.Numbers.{fold-keeps}
 use Rattle.words.proofs.Tests.{below-cases}
 use Rattle.words.proofs.Lists.{putAt-same, putAt-other}
 use Rattle.words.proofs.Stores.{sets-all}
@@ -41,9 +42,8 @@ module _ {A : Type 0} {v : ℕ} {words : A → List ℕ} {read : List ℕ → �
       (f : (k : ℕ) (a : A) → k < N → Fit a → G k (sets l at (words a)) ≡ g k a)
       (keep : (k : ℕ) (a : A) → k < N → Fit a → Fit (g k a)) where
     turn-fits : (n : ℕ) → n ≤ N → Fit (foldBelow n g (read l at))
-    unfolding foldBelow
-    turn-fits zero i = L .fits l at
-    turn-fits (suc n) i = keep n (foldBelow n g (read l at)) i (turn-fits n (omega arith))
+    turn-fits n i =
+        fold-keeps Fit n g (λ k a j F. keep k a (omega arith) F) (read l at) (L .fits l at)
 
     pub part-fold : (n : ℕ) → n ≤ N
         → foldBelow n (λ k m. sets m at (words (G k m))) l

@@ -1,12 +1,14 @@
 -- What an issue saves, part by part: a writer's past, and the master's versions.
 -- putPast: a past stored at an index. joinPasts: the larger count at each place.
 -- withPast, takes, takenPast: a writer that takes in pasts. rowSet, rowsSet: rows with a new count.
--- savedWriter, savedVersion, savedPlace: writer and place after it. raiseCause: causes 9 and 10.
--- Takes, Saves: where a writer and a place lie.
+-- savedWriter, savedVersion, savedPlace: writer and place after it.
+-- savedNumber, savedStore: number and store after it, the run aside. raiseCause: causes 9 and 10.
+-- Takes, Saves: where a writer and a place lie. Savable: what holds where there is no cause.
 -- Assumes nothing.
-use mathlib.Core.Bool.{Bool, cond, _&&_}
+use mathlib.Core.Path.{_≡_}
+use mathlib.Core.Bool.{false, cond, _&&_}
 use mathlib.Core.List.{List}
-use Prim.Native.Nat.{ℕ, _+_, _≤_, _<_}
+use Prim.Native.Nat.{ℕ, _+_, _≤_, _<_, _^_}
 use lib.Dec.{eqb}
 use lib.Seq.{sets}
 use Rattle.words.specs.Numbers.{foldBelow}
@@ -17,9 +19,9 @@ use Rattle.sizes.specs.declared.Counts.{Counts}
 use Rattle.sizes.specs.Bounds.{Ranged, placeSize, writerSize}
 use Rattle.model.specs.Algebra.{Place}
 use Rattle.model.specs.Version.{Version, merge}
-use Rattle.model.specs.Store.{Writer, Store}
+use Rattle.model.specs.Store.{Writer, Store, withLast, withMaster, withWriter}
 use Rattle.model.specs.Outcome.{refuse}
-use Rattle.model.specs.Issue.{maxWord}
+use Rattle.model.specs.Issue.{maxWord, issuedWriter, issuedMaster}
 use Rattle.layout.specs.Words.{pastWords}
 
 -- ---- a past
@@ -80,6 +82,25 @@ raiseCause s w =
     refuse (eqb (s .last) maxWord) 9
     (refuse (eqb (s .writer w .count) maxWord) 10
     0)
+
+-- ---- the store
+
+-- "with S empty only the run is freed, and 0 answered"
+unfoldable pub savedNumber : Store → ℕ → ℕ
+savedNumber s S = cond (eqb S 0) 0 (s .last + 1)
+
+-- Last issue number, writer and master after it.
+unfoldable pub savedStore : Store → ℕ → ℕ → ℕ → Store
+savedStore s r w S =
+    let saved = withWriter (withLast s (s .last + 1)) w (issuedWriter s r w S) in
+    cond (eqb S 0) s (withMaster saved (issuedMaster s r w S))
+
+-- Run, writer and mask are in range, and the numbers can be raised if a key is saved.
+pub record Savable (s : Store) (r w S : ℕ) : Type 0 where
+  pub run : r < s .counts .runs
+  pub writer : w < s .counts .writers
+  pub mask : S < 2 ^ s .counts .keys
+  pub raised : eqb S 0 ≡ false → raiseCause s w ≡ 0
 
 -- ---- where a writer and a place lie in a buffer of len words
 
