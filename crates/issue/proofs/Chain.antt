@@ -1,20 +1,18 @@
 -- An issue's stores one after the other: last issue number, writer, master, run.
--- takes-area, saves-area: where writer and places lie. ..-back: a part of a store just written.
--- number-stored, writer-stored, master-stored: the store after each phase. run-freed: the last one.
+-- ..-back: a part of a store just written. run-put: another run stored in it.
+-- number-stored, writer-stored, master-stored: the store after each phase.
 -- Assumes nothing.
 use mathlib.Core.Path.{_≡_, refl, sym, ap, _∙_}
 use mathlib.Core.Bool.{So}
 use mathlib.Core.List.{List}
-use Prim.Native.Nat.{ℕ, _+_, _≤_, _<_, _^_}
-use native.Mathlib.Omega.{arith}
-use lib.ListN.{length, set}
+use Prim.Native.Nat.{ℕ, _+_, _<_, _^_}
+use lib.ListN.{set}
 use Rattle.words.proofs.Lists.{putAt-same}
 use Rattle.sizes.specs.declared.Counts.{Counts}
 use Rattle.sizes.specs.Bounds.{masterAt, writerAt, runAt, snapshotAt}
-use Rattle.sizes.proofs.Offsets.{ordered, writer-lies, run-lies, snapshot-lies}
 use Rattle.model.specs.Algebra.{Place}
 use Rattle.model.specs.Version.{Version}
-use Rattle.model.specs.Store.{Writer, Run, Store, freeRun, withLast, withMaster, withWriter, withRun}
+use Rattle.model.specs.Store.{Writer, Run, Store, withLast, withMaster, withWriter, withRun}
 use Rattle.model.specs.Form.{placeFormed}
 use Rattle.model.specs.Issue.{takenIn, newPast, newVersion, issuedMaster, issuedWriter}
 use Rattle.layout.specs.Reading.{readPlace, readWriter, countsIn, storeOf}
@@ -24,30 +22,10 @@ use Rattle.layout.proofs.Whole.{FitStore, store-fits, counts-back, store-back}
 use Rattle.layout.proofs.Fit.{fit-last, fit-writer}
 use Rattle.layout.proofs.Updates.{put-last, put-master, put-writer, put-run}
 use Rattle.layout.proofs.Readings.{master-in, writer-in, snapshot-in}
-use Rattle.form.specs.Parts.{StoreArea, FormWith}
+use Rattle.form.specs.Parts.{FormWith}
 use Rattle.form.proofs.Known.{form-counts, form-again, master-formed}
-use Rattle.issue.specs.Saves.{savedWriter, savedVersion, savedPlace, Takes, Saves}
+use Rattle.issue.specs.Saves.{savedWriter, savedVersion, savedPlace}
 use Rattle.issue.proofs.Writers.{saved-fits}
-
--- ---- where the parts lie
-
-module _ (len : ℕ) (z : Counts) (A : StoreArea len z) where
-  pub takes-area : (w r : ℕ) → w < z .writers → r < z .runs
-      → Takes len z (writerAt z w) (snapshotAt z r)
-  takes-area w r h i =
-      let o = ordered z (A .ranged) in
-      let x = writer-lies z w h in
-      let a = run-lies z r i in
-      let p = snapshot-lies z r in
-      let top = A .fits in
-      record { ranged = A .ranged; low = omega arith; apart = omega arith; fits = omega arith }
-
-  pub saves-area : (w : ℕ) → w < z .writers → Saves len z (masterAt z) (writerAt z w)
-  saves-area w h =
-      let o = ordered z (A .ranged) in
-      let x = writer-lies z w h in
-      let top = A .fits in
-      record { ranged = A .ranged; low = omega arith; apart = omega arith; fits = omega arith }
 
 -- ---- a store that was just written: its parts, and another one of them
 

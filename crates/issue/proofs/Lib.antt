@@ -1,3 +1,4 @@
+pub mod Areas
 pub mod Pasts
 pub mod Turns
 pub mod Writers

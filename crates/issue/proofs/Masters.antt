@@ -1,36 +1,47 @@
 -- The master's versions, merged with the saved one: what the loop over the keys leaves.
--- saveStep: the turn for one key. save-keys: all of them.
+-- saveStep, save-yes: the turn for one key. save-keys: all of them.
 -- Assumes nothing.
 use mathlib.Core.Path.{_≡_, ap, ap₂, _∙_}
 use mathlib.Core.Bool.{So, cond}
 use mathlib.Core.Logic.{inr}
 use mathlib.Core.List.{List}
-use Prim.Native.Nat.{ℕ, _≤_, _<_}
+use Prim.Native.Nat.{ℕ, _+_, _≤_, _<_, max}
 use native.Mathlib.Omega.{arith}
-use lib.ListN.{length}
+use lib.ListN.{length, getD, set}
 use Rattle.words.specs.Numbers.{foldBelow}
 use Rattle.words.proofs.Bools.{clash}
 use Rattle.masks.specs.Mask.{testBit}
 use Rattle.sizes.specs.declared.Counts.{Counts}
+use Rattle.sizes.specs.Bounds.{keyAt}
 use Rattle.model.specs.Algebra.{Place}
 use Rattle.model.specs.Version.{Version, larger, merge}
 use Rattle.model.specs.Form.{placeFormed}
 use Rattle.model.proofs.Formed.{place-out}
 use Rattle.model.proofs.Merges.{held-iff, merge-larger}
 use Rattle.layout.specs.Words.{placeWords}
-use Rattle.layout.specs.Reading.{readPlace, readWriter}
+use Rattle.layout.specs.Reading.{readPast, readPlace, readWriter}
 use Rattle.layout.specs.Stored.{putPlace}
 use Rattle.layout.proofs.Parts.{place-laws, writer-laws}
 use Rattle.layout.proofs.Places.{place-at, place-ext, place-run, key-back}
 use Rattle.layout.proofs.Merges.{formed-blank}
 use Rattle.layout.proofs.Windows.{part-beside}
 use Rattle.version.specs.Places.{putKey, choice}
-use Rattle.issue.specs.Saves.{savedVersion, savedPlace, Saves}
+use Rattle.issue.specs.Saves.{putPast, joinPasts, savedVersion, savedPlace, Saves}
+use Rattle.issue.proofs.Pasts.{writer-read, version-merged}
 
 abbrev pub saveStep : Counts → ℕ → ℕ → ℕ → ℕ → ℕ → List ℕ → List ℕ
 saveStep z place at S n k l =
     putKey z l place (testBit S) k
     (larger (readPlace z l place k) (savedVersion n (readWriter z l at .past)))
+
+-- What the code stores for a key of the mask.
+pub save-yes : (z : Counts) (l : List ℕ) (place at S n k v : ℕ) → k < z .keys
+    → So (testBit S k) → v ≡ keyAt z place k → v < at
+    → let m = set l v (max (getD l v 0) n) in
+    putPast z m (v + 1) (joinPasts (readPast z m (v + 1)) (readPast z m (at + 1)))
+    ≡ saveStep z place at S n k l
+save-yes z l place at S n k v h t e i =
+    rw (t, place-at z l place k h, writer-read z l at, ← e) (version-merged z l v at n i)
 
 module _ (z : Counts) (l : List ℕ) (place at S n : ℕ) (A : Saves (length l) z place at) where
   abbrev p : Place Version

@@ -1,9 +1,9 @@
 -- A writer in the words of a buffer: what the loops over the keys leave.
--- takeStep, rowStep: the turn for one key. take-keys, row-keys: all of them.
+-- takeStep, rowStep: the turn for one key, ..-yes, ..-no. take-keys, row-keys: all of them.
 -- saved-fits, writer-saved: the two, and the new count.
 -- Assumes nothing.
-use mathlib.Core.Path.{_≡_, refl, ap, _∙_}
-use mathlib.Core.Bool.{Bool, true, false, cond, _&&_}
+use mathlib.Core.Path.{_≡_, sym, ap, _∙_}
+use mathlib.Core.Bool.{Bool, true, false, cond, So, _&&_}
 use mathlib.Core.Logic.{_⊎_, inl, inr}
 use mathlib.Core.List.{List}
 use Prim.Native.Nat.{ℕ, _+_, _≤_, _<_, _^_}
@@ -18,18 +18,19 @@ use Rattle.masks.specs.Mask.{testBit}
 use Rattle.masks.proofs.Bits.{test-high}
 use Rattle.clock.specs.Clock.{Clock, join}
 use Rattle.sizes.specs.declared.Counts.{Counts}
-use Rattle.sizes.specs.Bounds.{placeSize, writerSize}
+use Rattle.sizes.specs.Bounds.{writerSize, keyAt, rowAt}
 use Rattle.model.specs.Algebra.{Place}
 use Rattle.model.specs.Version.{Version}
 use Rattle.model.specs.Store.{Writer}
 use Rattle.layout.specs.Words.{writerWords}
-use Rattle.layout.specs.Reading.{readPlace, readWriter}
+use Rattle.layout.specs.Reading.{readPast, readPlace, readWriter}
 use Rattle.layout.specs.Stored.{putWriter}
 use Rattle.layout.proofs.Parts.{FitPast, FitWriter, FitPlace, place-laws, writer-laws}
 use Rattle.layout.proofs.Fit.{fit-put, past-out, past-in, place-fit}
-use Rattle.layout.proofs.Windows.{part-back, part-beside}
-use Rattle.issue.specs.Saves.{joinPasts, withPast, takes, takenPast, rowSet, rowsSet, savedWriter}
-use Rattle.issue.proofs.Pasts.{writer-ext, writer-counted}
+use Rattle.layout.proofs.Places.{place-at}
+use Rattle.layout.proofs.Windows.{part-back, part-beside, part-again}
+use Rattle.issue.specs.Saves.{putPast, joinPasts, withPast, takes, takenPast, rowSet, rowsSet, savedWriter}
+use Rattle.issue.proofs.Pasts.{set-count, writer-past, writer-read, writer-counted, writer-ext, version-read, row-spot}
 use Rattle.issue.proofs.Turns.{part-over, part-fold, taken-fold, rows-fold, rows-count}
 
 abbrev pub takeStep : Counts → ℕ → ℕ → ℕ → ℕ → List ℕ → List ℕ
@@ -38,6 +39,34 @@ takeStep z at place read k l =
 
 abbrev pub rowStep : Counts → ℕ → ℕ → ℕ → ℕ → ℕ → List ℕ → List ℕ
 rowStep z at w S n k l = putWriter z l at (rowSet S w n k (readWriter z l at))
+
+-- ---- one key: what the code stores, or leaves
+
+module _ (z : Counts) (l : List ℕ) (at : ℕ) where
+  writer-again : l ≡ putWriter z l at (readWriter z l at)
+  writer-again = sym (part-again (writer-laws z) l at)
+
+  pub take-yes : (place read k : ℕ) → k < z .keys → So (testBit read k)
+      → putPast z l (at + 1)
+      (joinPasts (readPast z l (at + 1)) (readPast z l (keyAt z place k + 1)))
+      ≡ takeStep z at place read k l
+  take-yes place read k h t =
+      rw (t, place-at z l place k h, version-read z l (keyAt z place k))
+      (writer-past z l at _ ∙ rw (writer-read z l at))
+
+  pub take-no : (place read k : ℕ) → testBit read k ≡ false → l ≡ takeStep z at place read k l
+  take-no place read k t = rw t writer-again
+
+  pub row-yes : (w S n k : ℕ) → at + writerSize z ≤ length l → w < z .writers → k < z .keys
+      → So (testBit S k) → set l (rowAt z at k + w) n ≡ rowStep z at w S n k l
+  unfolding writerSize
+  row-yes w S n k h i j t =
+      rw (t, row-spot z at k w)
+      (set-count z l (at + 1) k w n (omega arith) j i
+      ∙ writer-past z l at _ ∙ rw (writer-read z l at))
+
+  pub row-no : (w S n k : ℕ) → testBit S k ≡ false → l ≡ rowStep z at w S n k l
+  row-no w S n k t = rw t writer-again
 
 -- ---- nothing stands outside of the counts
 
