@@ -4,3 +4,6 @@ pub mod Turns
 pub mod Writers
 pub mod Masters
 pub mod Chain
+pub mod Known
+pub mod Causes
+pub mod Ends

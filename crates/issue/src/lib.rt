@@ -6,6 +6,7 @@ use form::in_form;
 use form::job::is_below;
 use masks::has;
 use numbers::IssueNumber;
+use numbers::Tally;
 use numbers::WriterCount;
 use numbers::raised;
 use past::merge_saved;
@@ -16,9 +17,9 @@ use status::clear_run;
 use status::run_cause;
 use words::wide;
 ghost use mathlib.Core.Path.{_≡_};
-ghost use mathlib.Core.Bool.{So, not, _||_};
-ghost use Prim.Native.Nat.{_≤_, _<_, _^_};
-ghost use lib.Dec.{leb, eqb};
+ghost use mathlib.Core.Bool.{So, _||_};
+ghost use Prim.Native.Nat.{_+_, _≤_, _<_, _^_};
+ghost use lib.Dec.{leb};
 ghost use Rattle.words.specs.Tests.{allBelow};
 ghost use Rattle.masks.specs.Mask.{testBit};
 ghost use Rattle.sizes.specs.Bounds.{Ranged};
@@ -110,7 +111,6 @@ fn out_of_range(z: Counts, r: usize, w: usize, mask: u32) -> bool
 fn jobs_done(words: &[u32], z: Counts, r: usize) -> bool
     requires { ⌜ FormWith (now words) z ⌝ }
     requires { ⌜ r < z .runs ⌝ }
-    requires { ⌜ storeOf (now words) .run r .jobs ≤ 8 ⌝ }
     ensures { λ b. ⌜ b ≡ allBelow (storeOf (now (words .entry)) .run r .jobs)
         (testBit (storeOf (now (words .entry)) .run r .done)) ⌝ }
 {
@@ -166,6 +166,28 @@ fn save(words: &mut [u32], z: Counts, r: usize, w: usize, mask: u32) -> IssueNum
     save_keys(words, z, r, w, mask)
 }
 
+// The read mask of run r.
+fn read_mask(words: &[u32], z: Counts, r: usize) -> u32
+    requires { ⌜ FormWith (now words) z ⌝ }
+    requires { ⌜ r < z .runs ⌝ }
+    ensures { λ m. ⌜ m ≡ storeOf (now (words .entry)) .run r .read ⌝ }
+{
+    let at = z.run_at(r);
+    words[at + 3]
+}
+
+// The last issue number and the count of writer w, both raised.
+fn next_numbers(words: &[u32], z: Counts, w: usize) -> Tally
+    requires { ⌜ FormWith (now words) z ⌝ }
+    requires { ⌜ w < z .writers ⌝ }
+    requires { ⌜ raiseCause (storeOf (now words)) w ≡ 0 ⌝ }
+    ensures issue { λ t. ⌜ t .issue .0 ≡ storeOf (now (words .entry)) .last + 1 ⌝ }
+    ensures count { λ t. ⌜ t .count .0 ≡ storeOf (now (words .entry)) .writer w .count + 1 ⌝ }
+{
+    let at = z.writer_at(w);
+    raised(IssueNumber(words[4]), WriterCount(words[at]))
+}
+
 // Saves the keys of a mask that isn't empty. The rows are all set before the first version is made
 // of them.
 fn save_keys(words: &mut [u32], z: Counts, r: usize, w: usize, mask: u32) -> IssueNumber
@@ -178,10 +200,9 @@ fn save_keys(words: &mut [u32], z: Counts, r: usize, w: usize, mask: u32) -> Iss
 {
     let areas = z.areas();
     let at = z.writer_at(w);
-    let run = z.run_at(r);
     let snapshot = z.snapshot_at(r);
-    let read = words[run + 3];
-    let tally = raised(IssueNumber(words[4]), WriterCount(words[at]));
+    let read = read_mask(words, z, r);
+    let tally = next_numbers(words, z, w);
     words[4] = tally.issue.0;
     save_writer(words, z, at, snapshot, read, w, mask, tally.count);
     merge_saved(words, z, areas.master, at, mask, tally.issue);
