@@ -3,7 +3,8 @@
 -- withPast, takes, takenPast: a writer that takes in pasts. rowSet, rowsSet: rows with a new count.
 -- savedWriter, savedVersion, savedPlace: writer and place after it.
 -- savedNumber, savedStore: number and store after it, the run aside. raiseCause: causes 9 and 10.
--- Takes, Saves: where a writer and a place lie. Savable: what holds where there is no cause.
+-- Savable: what holds where there is no cause.
+-- WriterArea, Takes, Saves: where a writer lies, and a place before or behind it.
 -- Assumes nothing.
 use mathlib.Core.Path.{_≡_}
 use mathlib.Core.Bool.{false, cond, _&&_}
@@ -103,6 +104,12 @@ pub record Savable (s : Store) (r w S : ℕ) : Type 0 where
   pub raised : eqb S 0 ≡ false → raiseCause s w ≡ 0
 
 -- ---- where a writer and a place lie in a buffer of len words
+
+-- The writer at an index.
+pub record WriterArea (len : ℕ) (z : Counts) (at : ℕ) : Type 0 where
+  pub ranged : Ranged z
+  pub low : at < 1000000
+  pub fits : at + writerSize z ≤ len
 
 -- The writer at an index, and behind it the place that it takes pasts from.
 pub record Takes (len : ℕ) (z : Counts) (at place : ℕ) : Type 0 where

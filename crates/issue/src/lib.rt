@@ -179,8 +179,7 @@ fn read_mask(words: &[u32], z: Counts, r: usize) -> u32
 // The last issue number and the count of writer w, both raised.
 fn next_numbers(words: &[u32], z: Counts, w: usize) -> Tally
     requires { ⌜ FormWith (now words) z ⌝ }
-    requires { ⌜ w < z .writers ⌝ }
-    requires { ⌜ raiseCause (storeOf (now words)) w ≡ 0 ⌝ }
+    requires { ⌜ (w < z .writers) × (raiseCause (storeOf (now words)) w ≡ 0) ⌝ }
     ensures issue { λ t. ⌜ t .issue .0 ≡ storeOf (now (words .entry)) .last + 1 ⌝ }
     ensures count { λ t. ⌜ t .count .0 ≡ storeOf (now (words .entry)) .writer w .count + 1 ⌝ }
 {
@@ -192,8 +191,7 @@ fn next_numbers(words: &[u32], z: Counts, w: usize) -> Tally
 // of them.
 fn save_keys(words: &mut [u32], z: Counts, r: usize, w: usize, mask: u32) -> IssueNumber
     requires { ⌜ FormWith (now words) z ⌝ }
-    requires { ⌜ Savable (storeOf (now words)) r w mask ⌝ }
-    requires { ⌜ 0 < mask ⌝ }
+    requires { ⌜ Savable (storeOf (now words)) r w mask × (0 < mask) ⌝ }
     ensures answers { λ n. ⌜ n .0 ≡ savedNumber (storeOf (now (words .entry))) mask ⌝ }
     ensures leaves { λ _. ⌜ now (words .exit)
         ≡ written (savedStore (storeOf (now (words .entry))) r w mask) (now (words .entry)) ⌝ }

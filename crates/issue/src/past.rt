@@ -11,13 +11,13 @@ ghost use mathlib.Core.Bool.{So};
 ghost use Prim.Native.Nat.{_+_, _≤_, _<_};
 ghost use lib.ListN.{length};
 ghost use Rattle.masks.specs.Mask.{testBit};
-ghost use Rattle.sizes.specs.Bounds.{Ranged, pastSize, writerSize};
+ghost use Rattle.sizes.specs.Bounds.{Ranged, pastSize};
 ghost use Rattle.model.specs.Version.{larger};
 ghost use Rattle.model.specs.Form.{placeFormed};
 ghost use Rattle.layout.specs.Reading.{readPast, readPlace, readWriter};
 ghost use Rattle.layout.specs.Stored.{putPlace, putWriter};
 ghost use Rattle.version.specs.Places.{putKey};
-ghost use Rattle.issue.specs.Saves.{putPast, joinPasts, withPast, takes, takenPast, rowSet, rowsSet, savedWriter, savedVersion, savedPlace, Takes, Saves};
+ghost use Rattle.issue.specs.Saves.{putPast, joinPasts, withPast, takes, takenPast, rowSet, rowsSet, savedWriter, savedVersion, savedPlace, WriterArea, Takes, Saves};
 
 // Merges the past behind the word at src into the one behind the word at dst: each count becomes
 // the larger of the two. The words are a writer's count or a version's issue number, and stay.
@@ -66,8 +66,7 @@ fn take_in(words: &mut [u32], z: Counts, at: usize, place: usize, read: u32)
 
 // Row k of the writer at an index gets the count at writer w, if k is in the mask.
 fn set_if(words: &mut [u32], z: Counts, at: usize, w: usize, mask: u32, made: WriterCount, k: usize)
-    requires { ⌜ Ranged z ⌝ }
-    requires { ⌜ (at < 1000000) × (at + writerSize z ≤ length (now words)) ⌝ }
+    requires { ⌜ WriterArea (length (now words)) z at ⌝ }
     requires { ⌜ (w < z .writers) × (k < z .keys) ⌝ }
     ensures { λ _. ⌜ now (words .exit) ≡ putWriter z (now (words .entry)) at
         (rowSet mask w (made .0) k (readWriter z (now (words .entry)) at)) ⌝ }
@@ -80,8 +79,7 @@ fn set_if(words: &mut [u32], z: Counts, at: usize, w: usize, mask: u32, made: Wr
 
 // The rows of the mask, of the writer at an index, get the count at writer w.
 fn set_rows(words: &mut [u32], z: Counts, at: usize, w: usize, mask: u32, made: WriterCount)
-    requires { ⌜ Ranged z ⌝ }
-    requires { ⌜ (at < 1000000) × (at + writerSize z ≤ length (now words)) ⌝ }
+    requires { ⌜ WriterArea (length (now words)) z at ⌝ }
     requires { ⌜ w < z .writers ⌝ }
     ensures { λ _. ⌜ now (words .exit) ≡ putWriter z (now (words .entry)) at
         (withPast (readWriter z (now (words .entry)) at)
@@ -152,8 +150,7 @@ pub fn merge_saved(
     number: IssueNumber,
 )
     requires { ⌜ Saves (length (now words)) z place at ⌝ }
-    requires { ⌜ So (placeFormed z (readPlace z (now words) place)) ⌝ }
-    requires { ⌜ 1 ≤ number .0 ⌝ }
+    requires { ⌜ So (placeFormed z (readPlace z (now words) place)) × (1 ≤ number .0) ⌝ }
     ensures { λ _. ⌜ now (words .exit) ≡ putPlace z (now (words .entry)) place
         (savedPlace mask (savedVersion (number .0) (readWriter z (now (words .entry)) at .past))
         (readPlace z (now (words .entry)) place)) ⌝ }

@@ -27,7 +27,7 @@ has-requires c κs = omega arith
 returns : tie.Need-returns Inv-loop μ-loop
 returns c =
     let l = c .before .before .before in
-    let a = l .before .before .args in
+    let a = l .before .args in
     loop-fails (a .n) (testBit (a .mask)) (l .loop .j) _ (omega arith)
     (c .before .has .ensures) (c .if1 .taken)
 
@@ -40,7 +40,7 @@ loop-less c = omega arith
 loop-again : tie.Need-loop-again Inv-loop μ-loop
 loop-again c =
     let l = c .before .before .before in
-    let a = l .before .before .args in (
+    let a = l .before .args in (
       omega arith,
       loop-turn (testBit (a .mask)) (l .loop .j) _ (l .loop .inv .1) (c .before .has .ensures)
           (c .if1 .left),
@@ -49,7 +49,7 @@ loop-again c =
 returns-2 : tie.Need-returns-2 Inv-loop μ-loop
 returns-2 c =
     let l = c .before in
-    let a = l .before .before .args in
+    let a = l .before .args in
     loop-ends (a .n) (testBit (a .mask)) (l .loop .j) (omega arith) (l .loop .inv .1)
 
 pub has-all-spec : {M : Type 1} → statement M

@@ -1,35 +1,36 @@
-use native.Mathlib.Omega.{arith}
+-- `issue` is refused on a buffer that is not in form.
+-- Assumes nothing.
+use mathlib.Core.Path.{sym, _∙_}
 use borrow.Author.Needs.{needs}
+use borrow.Author.Tests.{not-true, not-false}
+use Rattle.model.specs.Calls.{issue}
+use Rattle.form.proofs.Known.{ends-unformed}
+use Rattle.issue.specs.Answers.{issuedWords}
 use Rattle.issue.proofs.issue.Statement.{statement}
 use Rattle.issue.proofs.issue.Tie as tie
-use Rattle.issue.proofs.issue.Reads as reads
-use Rattle.issue.proofs.issue.Lts as lts
-use Rattle.form.proofs.in_form.Reads as in-form-reads
-use Rattle.issue.proofs.issue_in.Reads as issue-in-reads
 
--- src/lib.rt:50:9
 in-form-requires : tie.Need-in-form-requires
 in-form-requires c κs = search needs
 
--- src/lib.rt:51:9
 same-length : tie.Need-same-length
 same-length c = search needs
 
--- src/lib.rt:51:9
 returns : tie.Need-returns
-returns c = ?
+unfolding issuedWords
+returns c =
+    let a = c .before .before .before .before .args in
+    ends-unformed (issue (a .run) (a .writer) (a .mask)) (a .words .now)
+    (sym (c .before .in-form .ensures) ∙ not-true _ (c .if1 .taken))
 
--- src/lib.rt:53:5
 issue-in-requires : tie.Need-issue-in-requires
-issue-in-requires c κs = ?
+issue-in-requires c κs =
+    sym (c .before .before .in-form .ensures) ∙ not-false _ (c .before .if1 .left)
 
--- src/lib.rt:42:1
 same-length-2 : tie.Need-same-length-2
 same-length-2 c = search needs
 
--- src/lib.rt:42:1
 returns-2 : tie.Need-returns-2
-returns-2 c = search needs
+returns-2 c = c .before .before .issue-in .ensures
 
 pub issue-spec : {M : Type 1} → statement M
 issue-spec =

@@ -1,26 +1,25 @@
-use native.Mathlib.Omega.{arith}
+-- `save` leaves the store as it is where the mask is empty.
+-- Assumes nothing.
+use mathlib.Core.Path.{sym, _∙_}
 use borrow.Author.Needs.{needs}
+use native.Mathlib.Omega.{arith}
+use Rattle.form.proofs.Known.{form-again}
+use Rattle.issue.specs.Saves.{savedNumber, savedStore}
 use Rattle.issue.proofs.save.Statement.{statement}
 use Rattle.issue.proofs.save.Tie as tie
-use Rattle.issue.proofs.save.Reads as reads
-use Rattle.issue.proofs.save.Lts as lts
-use Rattle.issue.proofs.save_keys.Reads as save-keys-reads
 
--- src/lib.rt:164:9
 returns : tie.Need-returns
+unfolding savedNumber savedStore
 returns c = ?
 
--- src/lib.rt:166:5
 save-keys-requires : tie.Need-save-keys-requires
 save-keys-requires c κs = ?
 
--- src/lib.rt:156:1
 same-length : tie.Need-same-length
 same-length c = search needs
 
--- src/lib.rt:156:1
 returns-2 : tie.Need-returns-2
-returns-2 c = search needs
+returns-2 c = c .before .before .save-keys .ensures
 
 pub save-spec : {M : Type 1} → statement M
 save-spec = tie.close (tie.spec returns save-keys-requires same-length returns-2)

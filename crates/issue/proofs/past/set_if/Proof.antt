@@ -1,47 +1,58 @@
-use native.Mathlib.Omega.{arith}
+-- `set_if` stores the count in one row, if the key is in the mask.
+-- Assumes nothing.
+use mathlib.Core.Path.{sym, _∙_}
+use Prim.Native.Nat.{_+_, _<_}
 use borrow.Author.Needs.{needs}
+use native.Mathlib.Omega.{arith}
+use lib.ListN.{length}
+use Rattle.issue.proofs.Areas.{row-room}
+use Rattle.issue.proofs.Writers.{row-yes, row-no}
 use Rattle.issue.proofs.past.set_if.Statement.{statement}
 use Rattle.issue.proofs.past.set_if.Tie as tie
-use Rattle.issue.proofs.past.set_if.Reads as reads
-use Rattle.issue.proofs.past.set_if.Lts as lts
-use Rattle.masks.proofs.has.Reads as has-reads
-use Rattle.sizes.proofs.Counts.row_at.Reads as row-at-reads
 
--- src/past.rt:75:18
 cast-has : tie.Need-cast-has
 cast-has c = search needs
 
--- src/past.rt:75:8
 has-requires : tie.Need-has-requires
 has-requires c κs = search needs
 
--- src/past.rt:76:13
 row-at-requires : tie.Need-row-at-requires
 row-at-requires c κs = search needs
 
--- src/past.rt:77:15
+here : (c : tie.After-row-at) → let a = c .before .before .before .before .args in
+    c .row-at .result + a .w < length (a .words .now)
+here c =
+    let s = c .before .before .before .before in
+    let a = s .args in
+    rw (c .row-at .ensures)
+    (row-room _ (a .z) (a .at) (a .k) (a .w) (s .pre .0 .fits) (s .pre .1 .1) (s .pre .1 .0))
+
 add-words : tie.Need-add-words
-add-words c = omega arith
+add-words c = omega (arith, here c)
 
--- src/past.rt:77:9
 mul-words : tie.Need-mul-words
-mul-words c = omega arith
+mul-words c = omega (arith, here c)
 
--- src/past.rt:77:9
 slice-write-words : tie.Need-slice-write-words
-slice-write-words c = omega arith
+slice-write-words c = omega (arith, here c)
 
--- src/past.rt:68:1
 same-length : tie.Need-same-length
 same-length c = search needs
 
--- src/past.rt:68:1
 returns : tie.Need-returns
-returns c = ?
+returns c =
+    let t = c .before in
+    let s = t .before .before .before in
+    let a = s .args in
+    rw (c .row-at .ensures)
+    (row-yes (a .z) (a .words .now) (a .at) (a .w) (a .mask) (a .made .0) (a .k) (s .pre .0 .fits)
+    (s .pre .1 .0) (s .pre .1 .1) (sym (t .before .has .ensures) ∙ t .if1 .taken))
 
--- src/past.rt:68:1
 returns-2 : tie.Need-returns-2
-returns-2 c = ?
+returns-2 c =
+    let a = c .before .before .before .args in
+    row-no (a .z) (a .words .now) (a .at) (a .w) (a .mask) (a .made .0) (a .k)
+    (sym (c .before .has .ensures) ∙ c .if1 .left)
 
 pub set-if-spec : {M : Type 1} → statement M
 set-if-spec =
