@@ -1,5 +1,6 @@
 -- Where a writer, a run's snapshot and the master lie in a buffer.
--- takes-area, saves-area: writer and place of a store. ..-room: words of a writer, and of key k.
+-- takes-area, saves-area: writer and place of a store. takes-writer, writer-first: the writer.
+-- ..-room: words of a writer, and of key k.
 -- Assumes nothing.
 use Prim.Native.Nat.{ℕ, _+_, _≤_, _<_}
 use native.Mathlib.Omega.{arith}
@@ -7,7 +8,7 @@ use Rattle.sizes.specs.declared.Counts.{Counts}
 use Rattle.sizes.specs.Bounds.{Ranged, pastSize, versionSize, writerSize, masterAt, writerAt, snapshotAt, keyAt, rowAt}
 use Rattle.sizes.proofs.Offsets.{largest, ordered, writer-lies, run-lies, snapshot-lies, key-lies, row-lies}
 use Rattle.form.specs.Parts.{StoreArea}
-use Rattle.issue.specs.Saves.{Takes, Saves}
+use Rattle.issue.specs.Saves.{WriterArea, Takes, Saves}
 
 -- ---- where the parts lie
 
@@ -28,6 +29,20 @@ module _ (len : ℕ) (z : Counts) (A : StoreArea len z) where
       let x = writer-lies z w h in
       let top = A .fits in
       record { ranged = A .ranged; low = omega arith; apart = omega arith; fits = omega arith }
+
+-- ---- the writer alone
+
+pub takes-writer : (len : ℕ) (z : Counts) (at place : ℕ) → Takes len z at place
+    → WriterArea len z at
+takes-writer len z at place A =
+    let a = A .apart in
+    let b = A .fits in
+    let c = A .low in
+    record { ranged = A .ranged; low = omega arith; fits = omega arith }
+
+pub writer-first : (len : ℕ) (z : Counts) (at : ℕ) → WriterArea len z at → at < len
+unfolding writerSize
+writer-first len z at A = omega (arith, A .fits)
 
 -- ---- one key
 

@@ -1,12 +1,15 @@
 -- An issue's stores one after the other: last issue number, writer, master, run.
 -- ..-back: a part of a store just written. run-put: another run stored in it.
--- number-stored, writer-stored, master-stored: the store after each phase.
+-- saved-number, savable-in: where a key is saved. kept-formed, all-stored: from the words that the
+-- phases leave to the store.
 -- Assumes nothing.
 use mathlib.Core.Path.{_≡_, refl, sym, ap, _∙_}
 use mathlib.Core.Bool.{So}
 use mathlib.Core.List.{List}
 use Prim.Native.Nat.{ℕ, _+_, _<_, _^_}
+use native.Mathlib.Omega.{arith}
 use lib.ListN.{set}
+use Rattle.words.proofs.Bools.{ne-eqb}
 use Rattle.words.proofs.Lists.{putAt-same}
 use Rattle.sizes.specs.declared.Counts.{Counts}
 use Rattle.sizes.specs.Bounds.{masterAt, writerAt, runAt, snapshotAt}
@@ -24,7 +27,7 @@ use Rattle.layout.proofs.Updates.{put-last, put-master, put-writer, put-run}
 use Rattle.layout.proofs.Readings.{master-in, writer-in, snapshot-in}
 use Rattle.form.specs.Parts.{FormWith}
 use Rattle.form.proofs.Known.{form-counts, form-again, master-formed}
-use Rattle.issue.specs.Saves.{savedWriter, savedVersion, savedPlace}
+use Rattle.issue.specs.Saves.{savedWriter, savedVersion, savedPlace, savedNumber, savedStore, Savable}
 use Rattle.issue.proofs.Writers.{saved-fits}
 
 -- ---- a store that was just written: its parts, and another one of them
@@ -77,6 +80,24 @@ master-as : (s : Store) (r w S : ℕ)
 unfolding issuedMaster newVersion issuedWriter
 master-as s r w S = refl
 
+-- ---- a mask that isn't empty
+
+pub saved-number : (s : Store) (S : ℕ) → 0 < S → savedNumber s S ≡ s .last + 1
+unfolding savedNumber
+saved-number s S h = rw (ne-eqb S 0 (omega arith))
+
+saved-store : (s : Store) (r w S : ℕ) → 0 < S
+    → savedStore s r w S
+    ≡ withMaster (withWriter (withLast s (s .last + 1)) w (issuedWriter s r w S))
+    (issuedMaster s r w S)
+unfolding savedStore
+saved-store s r w S h = rw (ne-eqb S 0 (omega arith))
+
+pub savable-in : (l : List ℕ) (z : Counts) (r w S : ℕ) → FormWith l z → Savable (storeOf l) r w S
+    → (r < z .runs) × (w < z .writers) × (S < 2 ^ z .keys)
+savable-in l z r w S H K =
+    let same = form-counts l z H in (rw (← same) (K .run), rw (← same) (K .writer), rw (← same) (K .mask))
+
 -- ---- the phases
 
 module _ (l : List ℕ) (z : Counts) (H : FormWith l z) (r w S : ℕ) (hr : r < z .runs)
@@ -97,7 +118,7 @@ module _ (l : List ℕ) (z : Counts) (H : FormWith l z) (r w S : ℕ) (hr : r < 
   unfolding withLast
   same₁ = form-counts l z H
 
-  pub number-stored : set l 4 (s .last + 1) ≡ written s₁ l
+  number-stored : set l 4 (s .last + 1) ≡ written s₁ l
   number-stored =
       ap (λ (m : List ℕ). set m 4 (s .last + 1)) (sym (form-again l z H))
       ∙ put-last s l (s .last + 1)
@@ -125,7 +146,7 @@ module _ (l : List ℕ) (z : Counts) (H : FormWith l z) (r w S : ℕ) (hr : r < 
   unfolding withWriter
   same₂ = same₁
 
-  pub writer-stored : (m₁ m₂ : List ℕ) (read n : ℕ) → read ≡ s .run r .read
+  writer-stored : (m₁ m₂ : List ℕ) (read n : ℕ) → read ≡ s .run r .read
       → n ≡ s .writer w .count + 1 → m₁ ≡ written s₁ l
       → m₂ ≡ putWriter z m₁ (writerAt z w)
       (savedWriter (z .keys) read (readPlace z m₁ (snapshotAt z r)) w S n
@@ -138,8 +159,7 @@ module _ (l : List ℕ) (z : Counts) (H : FormWith l z) (r w S : ℕ) (hr : r < 
       (ap (putWriter z (written s₁ l) (writerAt z w)) (sym saved-as)
       ∙ writer-put s₁ l z same₁ w (issuedWriter s r w S) hw)
 
-  -- The master is still the one that was in form.
-  pub master-kept : (m₂ : List ℕ) → m₂ ≡ written s₂ l
+  master-kept : (m₂ : List ℕ) → m₂ ≡ written s₂ l
       → So (placeFormed z (readPlace z m₂ (masterAt z)))
   unfolding withWriter withLast
   master-kept m₂ e₂ =
@@ -147,7 +167,7 @@ module _ (l : List ℕ) (z : Counts) (H : FormWith l z) (r w S : ℕ) (hr : r < 
       rw e₂ (master-back s₂ l z fits₂ same₂ ∙ master-in l z (H .counts)) in
       rw same (master-formed l z H)
 
-  pub master-stored : (m₂ m₃ : List ℕ) (i : ℕ) → i ≡ s .last + 1 → m₂ ≡ written s₂ l
+  master-stored : (m₂ m₃ : List ℕ) (i : ℕ) → i ≡ s .last + 1 → m₂ ≡ written s₂ l
       → m₃ ≡ putPlace z m₂ (masterAt z)
       (savedPlace S (savedVersion i (readWriter z m₂ (writerAt z w) .past))
       (readPlace z m₂ (masterAt z)))
@@ -160,3 +180,25 @@ module _ (l : List ℕ) (z : Counts) (H : FormWith l z) (r w S : ℕ) (hr : r < 
       ∙ rw (a, e₂, writer, master-back s₂ l z fits₂ same₂)
       (ap (putPlace z (written s₂ l) (masterAt z)) (sym (master-as s r w S))
       ∙ master-put s₂ l z same₂ (issuedMaster s r w S))
+
+  -- What the code reads and stores, by its own indices and numbers.
+  module _ (at place read i n : ℕ) (p : at ≡ writerAt z w) (q : place ≡ snapshotAt z r)
+      (a : read ≡ s .run r .read) (b : i ≡ s .last + 1) (c : n ≡ s .writer w .count + 1)
+      (m₁ m₂ : List ℕ) (e₁ : m₁ ≡ set l 4 i)
+      (e₂ : m₂ ≡ putWriter z m₁ at
+      (savedWriter (z .keys) read (readPlace z m₁ place) w S n (readWriter z m₁ at))) where
+    stored₂ : m₂ ≡ written s₂ l
+    stored₂ =
+        writer-stored m₁ m₂ read n a c (e₁ ∙ rw b number-stored) (rw (p, q) at e₂)
+
+    -- The master is still the one that was in form,
+    pub kept-formed : (master : ℕ) → master ≡ masterAt z → So (placeFormed z (readPlace z m₂ master))
+    kept-formed master d = rw d (master-kept m₂ stored₂)
+
+    -- and is stored last.
+    pub all-stored : (master : ℕ) (m₃ : List ℕ) → 0 < S → master ≡ masterAt z
+        → m₃ ≡ putPlace z m₂ master
+        (savedPlace S (savedVersion i (readWriter z m₂ at .past)) (readPlace z m₂ master))
+        → m₃ ≡ written (savedStore s r w S) l
+    all-stored master m₃ h d e₃ =
+        rw (saved-store s r w S h) (master-stored m₂ m₃ i b stored₂ (rw (p, d) at e₃))

@@ -65,9 +65,9 @@ tested c =
     let e = d .before .before in
     let s = e .before .before .before in
     let a = s .args in
-    rw (← c .jobs-done .ensures) at
-    cause-jobs (a .words .now) (a .z) (s .pre) (a .r) (a .w) (a .mask) _ (range e)
-    (d .before .run-cause .ensures) (d .if2 .left)
+    rw (c .jobs-done .ensures)
+    (cause-jobs (a .words .now) (a .z) (s .pre) (a .r) (a .w) (a .mask) _ (range e)
+    (d .before .run-cause .ensures) (d .if2 .left))
 
 returns-3 : tie.Need-returns-3
 unfolding refuse

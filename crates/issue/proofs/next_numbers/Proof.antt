@@ -20,7 +20,9 @@ writer-at-requires c κs =
     (form-area (s .args .words .now) (s .args .z) (s .pre .0) .ranged, s .pre .1 .0)
 
 shared-slice-read-t6 : tie.Need-shared-slice-read-t6
-shared-slice-read-t6 c = ?
+shared-slice-read-t6 c =
+    let s = c .before .before .before in
+    omega (arith, form-long (s .args .words .now) (s .pre .0 .form))
 
 here : (c : tie.After-writer-at)
     → c .writer-at .result < length (c .before .before .args .words .now)

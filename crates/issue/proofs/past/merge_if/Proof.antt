@@ -1,10 +1,9 @@
 -- `merge_if` stores the larger issue number and the larger past, if the key is in the mask.
 -- Assumes nothing.
-use mathlib.Core.Path.{_≡_, sym, _∙_}
-use Prim.Native.Nat.{_<_}
+use mathlib.Core.Path.{sym, _∙_}
 use borrow.Author.Needs.{needs}
 use native.Mathlib.Omega.{arith}
-use lib.ListN.{length}
+use lib.ListN.{length, length-set}
 use Rattle.issue.proofs.Areas.{Room, save-room}
 use Rattle.issue.proofs.Masters.{save-yes}
 use Rattle.issue.proofs.past.merge_if.Statement.{statement}
@@ -31,25 +30,43 @@ mul-larger : tie.Need-mul-larger
 mul-larger c = omega (arith, room c .0, room c .2)
 
 slice-read-larger : tie.Need-slice-read-larger
-slice-read-larger c = ?
+slice-read-larger c = omega (arith, room (c .before) .0, room (c .before) .2)
 
 larger-requires : tie.Need-larger-requires
 larger-requires c κs = search needs
 
 mul-words : tie.Need-mul-words
-mul-words c = ?
+mul-words c =
+    let k = c .before .before in omega (arith, room k .0, room k .2)
 
 slice-write-words : tie.Need-slice-write-words
-slice-write-words c = ?
+slice-write-words c =
+    let k = c .before .before in omega (arith, room k .0, room k .2)
 
 merge-past-requires : tie.Need-merge-past-requires
-merge-past-requires c κs = ?
+merge-past-requires c κs =
+    let k = c .before .before .before in
+    (k .before .before .before .before .pre .0 .ranged, rw length-set (room k))
 
 same-length : tie.Need-same-length
-same-length c = ?
+same-length c =
+    let lg = c .before .before .before .before in
+    let k = lg .before .before in
+    let l = k .before .before .before .before .args .words .now in
+    c .before .before .merge-past .kept .0
+    ∙ length-set l (k .key-at .result) (lg .larger .result)
 
 returns : tie.Need-returns
-returns c = ?
+returns c =
+    let lg = c .before .before .before .before in
+    let k = lg .before .before in
+    let t = k .before in
+    let s = t .before .before .before in
+    let a = s .args in
+    (rw (lg .larger .ensures) at (c .before .before .merge-past .ensures))
+    ∙ save-yes (a .z) (a .words .now) (a .place) (a .at) (a .mask) (a .number .0) (a .k)
+    (k .key-at .result) (s .pre .1) (sym (t .before .has .ensures) ∙ t .if1 .taken)
+    (k .key-at .ensures) (room k .0)
 
 returns-2 : tie.Need-returns-2
 returns-2 c = rw (sym (c .before .has .ensures) ∙ c .if1 .left)
