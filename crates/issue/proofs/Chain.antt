@@ -1,7 +1,7 @@
 -- An issue's stores one after the other: last issue number, writer, master, run.
 -- ..-back: a part of a store just written. run-put: another run stored in it.
--- saved-number, savable-in: where a key is saved. kept-formed, all-stored: from the words that the
--- phases leave to the store.
+-- saved-number, savable-in: where a key is saved. countedStore: number and writer are stored.
+-- writer-done, kept-formed, master-done: from the words that the phases leave to the store.
 -- Assumes nothing.
 use mathlib.Core.Path.{_≡_, refl, sym, ap, _∙_}
 use mathlib.Core.Bool.{So}
@@ -86,10 +86,12 @@ pub saved-number : (s : Store) (S : ℕ) → 0 < S → savedNumber s S ≡ s .la
 unfolding savedNumber
 saved-number s S h = rw (ne-eqb S 0 (omega arith))
 
+-- Number and writer are stored, the master isn't yet.
+abbrev pub countedStore : Store → ℕ → ℕ → ℕ → Store
+countedStore s r w S = withWriter (withLast s (s .last + 1)) w (issuedWriter s r w S)
+
 saved-store : (s : Store) (r w S : ℕ) → 0 < S
-    → savedStore s r w S
-    ≡ withMaster (withWriter (withLast s (s .last + 1)) w (issuedWriter s r w S))
-    (issuedMaster s r w S)
+    → savedStore s r w S ≡ withMaster (countedStore s r w S) (issuedMaster s r w S)
 unfolding savedStore
 saved-store s r w S h = rw (ne-eqb S 0 (omega arith))
 
@@ -109,7 +111,7 @@ module _ (l : List ℕ) (z : Counts) (H : FormWith l z) (r w S : ℕ) (hr : r < 
   s₁ = withLast s (s .last + 1)
 
   abbrev s₂ : Store
-  s₂ = withWriter s₁ w (issuedWriter s r w S)
+  s₂ = countedStore s r w S
 
   fits₁ : FitStore s₁
   fits₁ = fit-last s (store-fits l) (s .last + 1)
@@ -181,24 +183,26 @@ module _ (l : List ℕ) (z : Counts) (H : FormWith l z) (r w S : ℕ) (hr : r < 
       (ap (putPlace z (written s₂ l) (masterAt z)) (sym (master-as s r w S))
       ∙ master-put s₂ l z same₂ (issuedMaster s r w S))
 
-  -- What the code reads and stores, by its own indices and numbers.
-  module _ (at place read i n : ℕ) (p : at ≡ writerAt z w) (q : place ≡ snapshotAt z r)
-      (a : read ≡ s .run r .read) (b : i ≡ s .last + 1) (c : n ≡ s .writer w .count + 1)
-      (m₁ m₂ : List ℕ) (e₁ : m₁ ≡ set l 4 i)
-      (e₂ : m₂ ≡ putWriter z m₁ at
-      (savedWriter (z .keys) read (readPlace z m₁ place) w S n (readWriter z m₁ at))) where
-    stored₂ : m₂ ≡ written s₂ l
-    stored₂ =
-        writer-stored m₁ m₂ read n a c (e₁ ∙ rw b number-stored) (rw (p, q) at e₂)
+  -- From what the code reads and stores, by its own indices and numbers: number and writer,
+  pub writer-done : (at place read i n : ℕ) (m₁ m₂ : List ℕ) → at ≡ writerAt z w
+      → place ≡ snapshotAt z r → read ≡ s .run r .read → i ≡ s .last + 1
+      → n ≡ s .writer w .count + 1 → m₁ ≡ set l 4 i
+      → m₂ ≡ putWriter z m₁ at
+      (savedWriter (z .keys) read (readPlace z m₁ place) w S n (readWriter z m₁ at))
+      → m₂ ≡ written s₂ l
+  writer-done at place read i n m₁ m₂ p q a b c e₁ e₂ =
+      writer-stored m₁ m₂ read n a c (e₁ ∙ rw b number-stored) (rw (p, q) at e₂)
 
-    -- The master is still the one that was in form,
-    pub kept-formed : (master : ℕ) → master ≡ masterAt z → So (placeFormed z (readPlace z m₂ master))
-    kept-formed master d = rw d (master-kept m₂ stored₂)
+  -- the master, which is still the one that was in form,
+  pub kept-formed : (master : ℕ) (m₂ : List ℕ) → master ≡ masterAt z → m₂ ≡ written s₂ l
+      → So (placeFormed z (readPlace z m₂ master))
+  kept-formed master m₂ d e₂ = rw d (master-kept m₂ e₂)
 
-    -- and is stored last.
-    pub all-stored : (master : ℕ) (m₃ : List ℕ) → 0 < S → master ≡ masterAt z
-        → m₃ ≡ putPlace z m₂ master
-        (savedPlace S (savedVersion i (readWriter z m₂ at .past)) (readPlace z m₂ master))
-        → m₃ ≡ written (savedStore s r w S) l
-    all-stored master m₃ h d e₃ =
-        rw (saved-store s r w S h) (master-stored m₂ m₃ i b stored₂ (rw (p, d) at e₃))
+  -- and is stored last.
+  pub master-done : (master at i : ℕ) (m₂ m₃ : List ℕ) → 0 < S → master ≡ masterAt z
+      → at ≡ writerAt z w → i ≡ s .last + 1 → m₂ ≡ written s₂ l
+      → m₃ ≡ putPlace z m₂ master
+      (savedPlace S (savedVersion i (readWriter z m₂ at .past)) (readPlace z m₂ master))
+      → m₃ ≡ written (savedStore s r w S) l
+  master-done master at i m₂ m₃ h d p b e₂ e₃ =
+      rw (saved-store s r w S h) (master-stored m₂ m₃ i b e₂ (rw (p, d) at e₃))

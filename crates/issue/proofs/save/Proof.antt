@@ -12,13 +12,13 @@ use Rattle.issue.proofs.save.Tie as tie
 returns : tie.Need-returns
 unfolding savedNumber savedStore
 returns c =
-    let s = c .before in
+    let s = c .before .before in
     rw (eq-eqb (s .args .mask) 0 (c .if1 .taken))
     (refl, sym (form-again (s .args .words .now) (s .args .z) (s .pre .0)))
 
 save-keys-requires : tie.Need-save-keys-requires
 save-keys-requires c κs =
-    let s = c .before .before in (s .pre .0, (s .pre .1, omega arith))
+    let s = c .before .before .before in (s .pre .0, (s .pre .1, omega arith))
 
 same-length : tie.Need-same-length
 same-length c = search needs

@@ -1,56 +1,157 @@
-use borrow.Author.Needs.{needs}
+-- `save_keys` stores the issue number, the writer, then the master.
+-- Assumes nothing.
+use mathlib.Core.Path.{_≡_, refl, sym, _∙_}
+use Prim.Native.Nat.{_<_, _^_}
 use native.Mathlib.Omega.{arith}
+use lib.ListN.{length, length-set}
+use Rattle.words.proofs.Bools.{ne-eqb}
+use Rattle.layout.specs.Reading.{storeOf}
+use Rattle.layout.specs.Buffer.{written}
+use Rattle.form.proofs.Known.{form-long, form-area, master-found}
+use Rattle.issue.specs.Saves.{Takes, Saves}
+use Rattle.issue.proofs.Areas.{takes-area, saves-area}
+use Rattle.issue.proofs.Chain.{savable-in, saved-number, countedStore, writer-done, kept-formed, master-done}
 use Rattle.issue.proofs.save_keys.Statement.{statement}
 use Rattle.issue.proofs.save_keys.Tie as tie
-use Rattle.issue.proofs.save_keys.Reads as reads
-use Rattle.issue.proofs.save_keys.Lts as lts
-use Rattle.issue.proofs.next_numbers.Reads as next-numbers-reads
-use Rattle.issue.proofs.past.merge_saved.Reads as merge-saved-reads
-use Rattle.issue.proofs.past.save_writer.Reads as save-writer-reads
-use Rattle.issue.proofs.read_mask.Reads as read-mask-reads
-use Rattle.sizes.proofs.Counts.areas.Reads as areas-reads
-use Rattle.sizes.proofs.Counts.snapshot_at.Reads as snapshot-at-reads
-use Rattle.sizes.proofs.Counts.writer_at.Reads as writer-at-reads
 
--- src/lib.rt:199:9
 areas-requires : tie.Need-areas-requires
-areas-requires c κs = ?
+areas-requires c κs =
+    let s = c .before in form-area (s .args .words .now) (s .args .z) (s .pre .0) .ranged
 
--- src/lib.rt:200:9
 writer-at-requires : tie.Need-writer-at-requires
-writer-at-requires c κs = ?
+writer-at-requires c κs =
+    let s = c .before .before in
+    let a = s .args in (
+      form-area (a .words .now) (a .z) (s .pre .0) .ranged,
+      savable-in (a .words .now) (a .z) _ _ _ (s .pre .0) (s .pre .1 .0) .1,
+    )
 
--- src/lib.rt:201:9
 snapshot-at-requires : tie.Need-snapshot-at-requires
-snapshot-at-requires c κs = ?
+snapshot-at-requires c κs =
+    let s = c .before .before .before in
+    let a = s .args in (
+      form-area (a .words .now) (a .z) (s .pre .0) .ranged,
+      savable-in (a .words .now) (a .z) _ _ _ (s .pre .0) (s .pre .1 .0) .0,
+    )
 
--- src/lib.rt:202:9
 read-mask-requires : tie.Need-read-mask-requires
-read-mask-requires c κs = ?
+read-mask-requires c κs =
+    let s = c .before .before .before .before .before in
+    let a = s .args in
+    (s .pre .0, savable-in (a .words .now) (a .z) _ _ _ (s .pre .0) (s .pre .1 .0) .0)
 
--- src/lib.rt:203:9
 next-numbers-requires : tie.Need-next-numbers-requires
-next-numbers-requires c κs = ?
+next-numbers-requires c κs =
+    let s = c .before .before .before .before .before .before .before in
+    let a = s .args in
+    let K = s .pre .1 in (
+      s .pre .0,
+      (
+        savable-in (a .words .now) (a .z) _ _ _ (s .pre .0) (K .0) .1,
+        K .0 .raised (ne-eqb (a .mask) 0 (omega (arith, K .1))),
+      ),
+    )
 
--- src/lib.rt:204:5
+-- Run, writer and mask are in range.
+range : (n : tie.After-next-numbers)
+    → let a = n .before .before .before .before .before .before .before .before .args in
+    (a .r < a .z .runs) × (a .w < a .z .writers) × (a .mask < 2 ^ a .z .keys)
+range n =
+    let s = n .before .before .before .before .before .before .before .before in
+    savable-in _ _ _ _ _ (s .pre .0) (s .pre .1 .0)
+
+-- Where the parts lie.
+takes : (n : tie.After-next-numbers)
+    → let a = n .before .before .before .before .before .before .before .before .args in
+    Takes (length (a .words .now)) (a .z) (n .before .before .before .before .before .writer-at .result)
+    (n .before .before .before .before .snapshot-at .result)
+takes n =
+    let p = n .before .before .before .before in
+    let s = p .before .before .before .before in
+    let a = s .args in
+    rw (p .before .writer-at .ensures, p .snapshot-at .ensures)
+    (takes-area _ (a .z) (form-area (a .words .now) (a .z) (s .pre .0)) (a .w) (a .r)
+    (range n .1) (range n .0))
+
+saves : (n : tie.After-next-numbers)
+    → let a = n .before .before .before .before .before .before .before .before .args in
+    Saves (length (a .words .now)) (a .z)
+    (n .before .before .before .before .before .before .areas .result .master)
+    (n .before .before .before .before .before .writer-at .result)
+saves n =
+    let x = n .before .before .before .before .before in
+    let s = x .before .before .before in
+    let a = s .args in
+    rw (x .writer-at .ensures, master-found (a .z) (x .before .areas .result) (x .before .areas .ensures))
+    (saves-area _ (a .z) (form-area (a .words .now) (a .z) (s .pre .0)) (a .w) (range n .1))
+
 slice-write-words : tie.Need-slice-write-words
-slice-write-words c = omega arith
+slice-write-words c =
+    let s = c .before .before .before .before .before .before .before .before in
+    omega (arith, form-long (s .args .words .now) (s .pre .0 .form))
 
--- src/lib.rt:205:5
 save-writer-requires : tie.Need-save-writer-requires
-save-writer-requires c κs = ?
+save-writer-requires c κs = (rw length-set (takes (c .before)), range (c .before) .1)
 
--- src/lib.rt:206:5
+-- Number and writer are stored.
+counted : (v : tie.After-save-writer)
+    → let a = v .before .before .before .before .before .before .before .before .before .before .args in
+    let l = a .words .now in
+    v .save-writer .last .0 ≡ written (countedStore (storeOf l) (a .r) (a .w) (a .mask)) l
+counted v =
+    let n = v .before .before in
+    let p = n .before .before .before .before in
+    let s = p .before .before .before .before in
+    let a = s .args in
+    let R = range n in
+    writer-done (a .words .now) (a .z) (s .pre .0) (a .r) (a .w) (a .mask) (R .0) (R .1) (R .2)
+    _ _ _ _ _ _ _ (p .before .writer-at .ensures) (p .snapshot-at .ensures)
+    (n .before .before .read-mask .ensures) (n .next-numbers .ensures .0)
+    (n .next-numbers .ensures .1) refl (v .save-writer .ensures)
+
 merge-saved-requires : tie.Need-merge-saved-requires
-merge-saved-requires c κs = ?
+merge-saved-requires c κs =
+    let v = c .before .before .before in
+    let n = v .before .before in
+    let x = n .before .before .before .before .before in
+    let s = x .before .before .before in
+    let a = s .args in
+    let R = range n in
+    let long = v .save-writer .kept .0 ∙ length-set (a .words .now) 4 (n .next-numbers .result .issue .0) in (
+      rw long (saves n),
+      (
+        kept-formed (a .words .now) (a .z) (s .pre .0) (a .r) (a .w) (a .mask) (R .0) (R .1)
+            (R .2) _ _ (master-found (a .z) (x .before .areas .result) (x .before .areas .ensures))
+            (counted v),
+        omega (arith, n .next-numbers .ensures .0),
+      ),
+    )
 
--- src/lib.rt:192:1
 same-length : tie.Need-same-length
-same-length c = ?
+same-length c =
+    let m = c .before .before .before in
+    let v = m .before .before .before .before in
+    let n = v .before .before in
+    let s = n .before .before .before .before .before .before .before .before in
+    m .merge-saved .kept .0 ∙ v .save-writer .kept .0
+    ∙ length-set (s .args .words .now) 4 (n .next-numbers .result .issue .0)
 
--- src/lib.rt:192:1
 returns : tie.Need-returns
-returns c = ?
+returns c =
+    let m = c .before .before .before in
+    let v = m .before .before .before .before in
+    let n = v .before .before in
+    let x = n .before .before .before .before .before in
+    let s = x .before .before .before in
+    let a = s .args in
+    let l = a .words .now in
+    let R = range n in (
+      n .next-numbers .ensures .0 ∙ sym (saved-number (storeOf l) (a .mask) (s .pre .1 .1)),
+      master-done l (a .z) (s .pre .0) (a .r) (a .w) (a .mask) (R .0) (R .1) (R .2) _ _ _ _ _
+          (s .pre .1 .1) (master-found (a .z) (x .before .areas .result) (x .before .areas .ensures))
+          (x .writer-at .ensures) (n .next-numbers .ensures .0) (counted v)
+          (m .merge-saved .ensures),
+    )
 
 pub save-keys-spec : {M : Type 1} → statement M
 save-keys-spec =
