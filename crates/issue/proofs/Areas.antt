@@ -5,7 +5,7 @@
 use Prim.Native.Nat.{ℕ, _+_, _≤_, _<_}
 use native.Mathlib.Omega.{arith}
 use Rattle.sizes.specs.declared.Counts.{Counts}
-use Rattle.sizes.specs.Bounds.{Ranged, pastSize, versionSize, writerSize, masterAt, writerAt, snapshotAt, keyAt, rowAt}
+use Rattle.sizes.specs.Bounds.{pastSize, versionSize, writerSize, masterAt, writerAt, snapshotAt, keyAt, rowAt}
 use Rattle.sizes.proofs.Offsets.{largest, ordered, writer-lies, run-lies, snapshot-lies, key-lies, row-lies}
 use Rattle.form.specs.Parts.{StoreArea}
 use Rattle.issue.specs.Saves.{WriterArea, Takes, Saves}

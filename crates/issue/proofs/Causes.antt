@@ -3,7 +3,7 @@
 -- issue-cause: the chain. cause-state, cause-jobs: its lower rows. issue-ready: no cause.
 -- Assumes nothing.
 use mathlib.Core.Path.{_≡_, refl, sym, _∙_}
-use mathlib.Core.Bool.{Bool, true, false, cond, not, So, _&&_, _||_}
+use mathlib.Core.Bool.{Bool, true, false, cond, not, _&&_, _||_}
 use mathlib.Core.Logic.{_≢_}
 use mathlib.Core.List.{List}
 use Prim.Native.Nat.{ℕ, _<_, _^_}
@@ -15,7 +15,7 @@ use Rattle.words.proofs.Bools.{test, or-none, leb-gt, gt-leb, ltb-lt, ltb-ge, l
 use Rattle.masks.specs.Mask.{testBit}
 use Rattle.sizes.specs.declared.Counts.{Counts}
 use Rattle.sizes.specs.Bounds.{writerAt}
-use Rattle.model.specs.Store.{Run, Store}
+use Rattle.model.specs.Store.{Store}
 use Rattle.model.specs.Outcome.{refuse, allowed, issueRow}
 use Rattle.model.specs.Issue.{maxWord, issueCause}
 use Rattle.model.proofs.Outcomes.{no-cause, no-lack}
@@ -29,7 +29,8 @@ use Rattle.issue.proofs.Known.{count-word}
 
 pub not-below : (a b : ℕ) → not (ltb a b) ≡ leb b a
 not-below a b =
-    test (ltb a b) (λ t. rw (t, gt-leb b a (ltb-lt a b t))) (λ t. rw (t, le-leb b a (ltb-ge a b t)))
+    test (ltb a b) (λ t. rw (t, gt-leb b a (ltb-lt a b t)))
+    (λ t. rw (t, le-leb b a (ltb-ge a b t)))
 
 -- ---- the numbers that an issue raises
 

@@ -98,7 +98,8 @@ saved-store s r w S h = rw (ne-eqb S 0 (omega arith))
 pub savable-in : (l : List ℕ) (z : Counts) (r w S : ℕ) → FormWith l z → Savable (storeOf l) r w S
     → (r < z .runs) × (w < z .writers) × (S < 2 ^ z .keys)
 savable-in l z r w S H K =
-    let same = form-counts l z H in (rw (← same) (K .run), rw (← same) (K .writer), rw (← same) (K .mask))
+    let same = form-counts l z H in
+    (rw (← same) (K .run), rw (← same) (K .writer), rw (← same) (K .mask))
 
 -- ---- the phases
 

@@ -1,7 +1,7 @@
 -- What issue comes to on a buffer in form: refused by its cause, or done.
 -- issue-refused, issue-done: answer and buffer. saved-counts: the counts of the store stay.
 -- Assumes nothing.
-use mathlib.Core.Path.{_≡_, refl, sym, ap, _∙_}
+use mathlib.Core.Path.{_≡_, refl, _∙_}
 use mathlib.Core.Bool.{So}
 use mathlib.Core.Logic.{_≢_}
 use mathlib.Core.List.{List, [], _∷_}
@@ -11,7 +11,7 @@ use Rattle.words.proofs.Bools.{test}
 use Rattle.sizes.specs.declared.Counts.{Counts}
 use Rattle.sizes.specs.Bounds.{runAt}
 use Rattle.model.specs.Store.{Store, freeRun, withLast, withMaster, withWriter, withRun}
-use Rattle.model.specs.Outcome.{Outcome, done, answer, unless}
+use Rattle.model.specs.Outcome.{done, answer, unless}
 use Rattle.model.specs.Issue.{issueCause, issueSaved, issueDone, issueRule}
 use Rattle.model.specs.Calls.{issue, ruleOf}
 use Rattle.layout.specs.Reading.{storeOf}
@@ -55,4 +55,5 @@ issue-done l z r w S n m₁ m H free h a e₁ e₂ =
     let stored : m ≡ written (withRun t r freeRun) l =
     e₂ ∙ rw e₁ (run-put t l z (saved-counts s r w S ∙ form-counts l z H) r freeRun h) in
     ends-done (issue r w S) l (issueCause s r w S) (issueDone s r w S) (H .form)
-    (issue-rule r w S s) free (0 ∷ n ∷ []) m (rw (done-as s r w S, a)) (rw (done-as s r w S) stored)
+    (issue-rule r w S s) free (0 ∷ n ∷ []) m (rw (done-as s r w S, a))
+    (rw (done-as s r w S) stored)

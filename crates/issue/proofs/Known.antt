@@ -1,24 +1,21 @@
 -- What is known of a run and a writer of a buffer in form: single words of them.
--- last-word, count-word, jobs-word, done-word, read-word: where a number stands.
+-- count-word, jobs-word, done-word, read-word: where a number stands.
 -- jobs-high: a run has 8 jobs at most. run-words, writer-words: they lie in the buffer.
 -- Assumes nothing.
-use mathlib.Core.Path.{_≡_, ap, _∙_}
-use mathlib.Core.Bool.{So}
+use mathlib.Core.Path.{_≡_, ap}
 use mathlib.Core.List.{List}
 use Prim.Native.Nat.{ℕ, _+_, _≤_, _<_}
 use native.Mathlib.Omega.{arith}
 use lib.Dec.{eqb}
-use lib.ListN.{length, getD}
+use lib.ListN.{length}
 use Rattle.words.proofs.Bools.{test, eqb-eq, eqb-ne}
 use Rattle.sizes.specs.declared.Counts.{Counts}
 use Rattle.sizes.specs.Bounds.{maxJobs, writerSize, writerAt, runAt}
 use Rattle.sizes.proofs.Offsets.{ordered, writer-lies}
-use Rattle.model.specs.Store.{Run}
-use Rattle.model.specs.Form.{runFormed}
 use Rattle.model.proofs.Plans.{plan-out}
 use Rattle.layout.specs.Reading.{readWord, readRun, readWriter, storeOf}
 use Rattle.layout.proofs.Parts.{run-laws}
-use Rattle.layout.proofs.Readings.{last-in, writer-in}
+use Rattle.layout.proofs.Readings.{writer-in}
 use Rattle.form.specs.Parts.{FormWith}
 use Rattle.form.proofs.Known.{form-area}
 use Rattle.status.proofs.Freed.{free-is}

@@ -4,7 +4,7 @@
 -- writer-..: a writer by count and past. version-..: a version by issue number and past.
 -- Assumes nothing.
 use mathlib.Core.Path.{_≡_, refl, sym, ap, _∙_}
-use mathlib.Core.Logic.{inl, inr}
+use mathlib.Core.Logic.{inr}
 use mathlib.Core.List.{List, [], _∷_}
 use Prim.Native.Nat.{ℕ, suc, _+_, _*_, _≤_, _<_, max}
 use native.Mathlib.Nat.{add-zero, mul-one}
@@ -19,8 +19,8 @@ use Rattle.words.proofs.Words.{put-in, put-same}
 use Rattle.words.proofs.Slots.{slot-end}
 use Rattle.clock.specs.Clock.{Clock, join, clockAt}
 use Rattle.sizes.specs.declared.Counts.{Counts}
-use Rattle.sizes.specs.Bounds.{pastSize, versionSize, writerSize, rowAt}
-use Rattle.model.specs.Version.{Version, larger}
+use Rattle.sizes.specs.Bounds.{pastSize, writerSize, rowAt}
+use Rattle.model.specs.Version.{larger}
 use Rattle.model.specs.Store.{Writer}
 use Rattle.layout.specs.Words.{clockWords, pastWords, versionWords, writerWords}
 use Rattle.layout.specs.Reading.{readWord, readClock, readPast, readVersion, readWriter}

@@ -1,6 +1,6 @@
 -- What an issue saves, part by part: a writer's past, and the master's versions.
 -- putPast: a past stored at an index. joinPasts: the larger count at each place.
--- withPast, takes, takenPast: a writer that takes in pasts. rowSet, rowsSet: rows with a new count.
+-- withPast, takes, takenPast: a writer that takes in pasts. rowSet, rowsSet: its rows set.
 -- savedWriter, savedVersion, savedPlace: writer and place after it.
 -- savedNumber, savedStore: number and store after it, the run aside. raiseCause: causes 9 and 10.
 -- Savable: what holds where there is no cause.

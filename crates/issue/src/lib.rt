@@ -1,5 +1,5 @@
 // Issue: a writer saves keys from a finished run. Causes are all tested before a word is stored.
-pub mod past;
+mod past;
 
 use form::header::counts;
 use form::in_form;
@@ -15,7 +15,6 @@ use sizes::Counts;
 use states::ISSUE_ROW;
 use status::clear_run;
 use status::run_cause;
-use words::wide;
 ghost use mathlib.Core.Path.{_≡_};
 ghost use mathlib.Core.Bool.{So, _||_};
 ghost use Prim.Native.Nat.{_+_, _≤_, _<_, _^_};

@@ -65,30 +65,30 @@ fn take_in(words: &mut [u32], z: Counts, at: usize, place: usize, read: u32)
 }
 
 // Row k of the writer at an index gets the count at writer w, if k is in the mask.
-fn set_if(words: &mut [u32], z: Counts, at: usize, w: usize, mask: u32, made: WriterCount, k: usize)
+fn set_if(words: &mut [u32], z: Counts, at: usize, w: usize, mask: u32, new: WriterCount, k: usize)
     requires { ⌜ WriterArea (length (now words)) z at ⌝ }
     requires { ⌜ (w < z .writers) × (k < z .keys) ⌝ }
     ensures { λ _. ⌜ now (words .exit) ≡ putWriter z (now (words .entry)) at
-        (rowSet mask w (made .0) k (readWriter z (now (words .entry)) at)) ⌝ }
+        (rowSet mask w (new .0) k (readWriter z (now (words .entry)) at)) ⌝ }
 {
     if has(mask, k as u32) {
         let row = z.row_at(at, k);
-        words[row + w] = made.0;
+        words[row + w] = new.0;
     }
 }
 
 // The rows of the mask, of the writer at an index, get the count at writer w.
-fn set_rows(words: &mut [u32], z: Counts, at: usize, w: usize, mask: u32, made: WriterCount)
+fn set_rows(words: &mut [u32], z: Counts, at: usize, w: usize, mask: u32, new: WriterCount)
     requires { ⌜ WriterArea (length (now words)) z at ⌝ }
     requires { ⌜ w < z .writers ⌝ }
     ensures { λ _. ⌜ now (words .exit) ≡ putWriter z (now (words .entry)) at
         (withPast (readWriter z (now (words .entry)) at)
-        (rowsSet mask w (made .0) (readWriter z (now (words .entry)) at .past))) ⌝ }
+        (rowsSet mask w (new .0) (readWriter z (now (words .entry)) at .past))) ⌝ }
 {
     let n = z.keys;
     let mut k = 0;
     while k < n {
-        set_if(words, z, at, w, mask, made, k);
+        set_if(words, z, at, w, mask, new, k);
         k += 1;
     }
 }
@@ -103,17 +103,17 @@ pub fn save_writer(
     read: u32,
     w: usize,
     mask: u32,
-    made: WriterCount,
+    new: WriterCount,
 )
     requires { ⌜ Takes (length (now words)) z at place ⌝ }
     requires { ⌜ w < z .writers ⌝ }
     ensures { λ _. ⌜ now (words .exit) ≡ putWriter z (now (words .entry)) at
-        (savedWriter (z .keys) read (readPlace z (now (words .entry)) place) w mask (made .0)
+        (savedWriter (z .keys) read (readPlace z (now (words .entry)) place) w mask (new .0)
         (readWriter z (now (words .entry)) at)) ⌝ }
 {
     take_in(words, z, at, place, read);
-    set_rows(words, z, at, w, mask, made);
-    words[at] = made.0;
+    set_rows(words, z, at, w, mask, new);
+    words[at] = new.0;
 }
 
 // Merges key k of the place with the saved version, if k is in the mask: the issue number, and the

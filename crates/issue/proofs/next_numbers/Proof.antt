@@ -51,7 +51,8 @@ raised-requires c κs =
     let last = last-in l in
     let made = count-word l (a .z) (s .pre .0) (a .w) (s .pre .1 .0) in
     let word = known .shared-slice-known .given in
-    (omega (arith, word 4), rw (n .writer-at .ensures) (omega (arith, word (writerAt (a .z) (a .w)))))
+    let at = writerAt (a .z) (a .w) in
+    (omega (arith, word 4), rw (n .writer-at .ensures) (omega (arith, word at)))
 
 returns : tie.Need-returns
 returns c =

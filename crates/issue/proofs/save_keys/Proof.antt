@@ -63,7 +63,8 @@ range n =
 -- Where the parts lie.
 takes : (n : tie.After-next-numbers)
     → let a = n .before .before .before .before .before .before .before .before .args in
-    Takes (length (a .words .now)) (a .z) (n .before .before .before .before .before .writer-at .result)
+    Takes (length (a .words .now)) (a .z)
+    (n .before .before .before .before .before .writer-at .result)
     (n .before .before .before .before .snapshot-at .result)
 takes n =
     let p = n .before .before .before .before in
@@ -82,7 +83,8 @@ saves n =
     let x = n .before .before .before .before .before in
     let s = x .before .before .before in
     let a = s .args in
-    rw (x .writer-at .ensures, master-found (a .z) (x .before .areas .result) (x .before .areas .ensures))
+    let e = x .before in
+    rw (x .writer-at .ensures, master-found (a .z) (e .areas .result) (e .areas .ensures))
     (saves-area _ (a .z) (form-area (a .words .now) (a .z) (s .pre .0)) (a .w) (range n .1))
 
 slice-write-words : tie.Need-slice-write-words
@@ -95,7 +97,8 @@ save-writer-requires c κs = (rw length-set (takes (c .before)), range (c .befor
 
 -- Number and writer are stored.
 counted : (v : tie.After-save-writer)
-    → let a = v .before .before .before .before .before .before .before .before .before .before .args in
+    → let n = v .before .before in
+    let a = n .before .before .before .before .before .before .before .before .args in
     let l = a .words .now in
     v .save-writer .last .0 ≡ written (countedStore (storeOf l) (a .r) (a .w) (a .mask)) l
 counted v =
@@ -117,7 +120,8 @@ merge-saved-requires c κs =
     let s = x .before .before .before in
     let a = s .args in
     let R = range n in
-    let long = v .save-writer .kept .0 ∙ length-set (a .words .now) 4 (n .next-numbers .result .issue .0) in (
+    let i = n .next-numbers .result .issue .0 in
+    let long = v .save-writer .kept .0 ∙ length-set (a .words .now) 4 i in (
       rw long (saves n),
       (
         kept-formed (a .words .now) (a .z) (s .pre .0) (a .r) (a .w) (a .mask) (R .0) (R .1)
@@ -148,7 +152,8 @@ returns c =
     let R = range n in (
       n .next-numbers .ensures .0 ∙ sym (saved-number (storeOf l) (a .mask) (s .pre .1 .1)),
       master-done l (a .z) (s .pre .0) (a .r) (a .w) (a .mask) (R .0) (R .1) (R .2) _ _ _ _ _
-          (s .pre .1 .1) (master-found (a .z) (x .before .areas .result) (x .before .areas .ensures))
+          (s .pre .1 .1)
+          (master-found (a .z) (x .before .areas .result) (x .before .areas .ensures))
           (x .writer-at .ensures) (n .next-numbers .ensures .0) (counted v)
           (m .merge-saved .ensures),
     )

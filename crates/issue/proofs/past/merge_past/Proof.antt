@@ -19,10 +19,12 @@ row-at-requires-2 : tie.Need-row-at-requires-2
 row-at-requires-2 c κs = search needs
 
 -- Where the two pasts begin.
-to-at : (c : tie.After-row-at2) → c .before .row-at .result ≡ c .before .before .before .before .args .dst + 1
+to-at : (c : tie.After-row-at2)
+    → c .before .row-at .result ≡ c .before .before .before .before .args .dst + 1
 to-at c = c .before .row-at .ensures ∙ row-first _ _
 
-from-at : (c : tie.After-row-at2) → c .row-at2 .result ≡ c .before .before .before .before .args .src + 1
+from-at : (c : tie.After-row-at2)
+    → c .row-at2 .result ≡ c .before .before .before .before .args .src + 1
 from-at c = c .row-at2 .ensures ∙ row-first _ _
 
 merge-into-requires : tie.Need-merge-into-requires

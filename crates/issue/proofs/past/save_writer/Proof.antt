@@ -36,7 +36,7 @@ same-length c =
     let rows = c .before .before in
     let take = rows .before .before .before .before in
     let a = take .before .before .before .args in
-    length-set (rows .set-rows .last .0) (a .at) (a .made .0) ∙ rows .set-rows .kept .0
+    length-set (rows .set-rows .last .0) (a .at) (a .new .0) ∙ rows .set-rows .kept .0
     ∙ take .take-in .kept .0
 
 returns : tie.Need-returns
@@ -46,7 +46,7 @@ returns c =
     let s = take .before .before .before in
     let a = s .args in
     writer-saved (a .z) (a .words .now) _ _ _ (a .at) (a .place) (a .read) (a .w) (a .mask)
-    (a .made .0) (omega (arith, s .pre .0 .apart, s .pre .0 .fits)) (take .take-in .ensures)
+    (a .new .0) (omega (arith, s .pre .0 .apart, s .pre .0 .fits)) (take .take-in .ensures)
     (rows .set-rows .ensures) refl
 
 pub save-writer-spec : {M : Type 1} → statement M

@@ -45,13 +45,13 @@ returns c =
     let s = t .before .before .before in
     let a = s .args in
     rw (c .row-at .ensures)
-    (row-yes (a .z) (a .words .now) (a .at) (a .w) (a .mask) (a .made .0) (a .k) (s .pre .0 .fits)
+    (row-yes (a .z) (a .words .now) (a .at) (a .w) (a .mask) (a .new .0) (a .k) (s .pre .0 .fits)
     (s .pre .1 .0) (s .pre .1 .1) (sym (t .before .has .ensures) ∙ t .if1 .taken))
 
 returns-2 : tie.Need-returns-2
 returns-2 c =
     let a = c .before .before .before .args in
-    row-no (a .z) (a .words .now) (a .at) (a .w) (a .mask) (a .made .0) (a .k)
+    row-no (a .z) (a .words .now) (a .at) (a .w) (a .mask) (a .new .0) (a .k)
     (sym (c .before .has .ensures) ∙ c .if1 .left)
 
 pub set-if-spec : {M : Type 1} → statement M

@@ -12,12 +12,12 @@ use Rattle.issue.proofs.past.set_rows.Statement.{statement}
 use Rattle.issue.proofs.past.set_rows.Tie as tie
 
 abbrev Inv-loop : tie.InvT-loop
-Inv-loop words₀ z at w mask made n k₀ words k =
+Inv-loop words₀ z at w mask new n k₀ words k =
     (k ≤ n) × (length words ≡ length words₀)
-    × (words ≡ foldBelow k (rowStep z at w mask (made .0)) words₀)
+    × (words ≡ foldBelow k (rowStep z at w mask (new .0)) words₀)
 
 abbrev μ-loop : tie.MeasureT-loop
-μ-loop words₀ z at w mask made n k₀ words k = n - k
+μ-loop words₀ z at w mask new n k₀ words k = n - k
 
 loop-holds : tie.Need-loop-holds Inv-loop μ-loop
 unfolding foldBelow
@@ -53,9 +53,9 @@ returns c =
     let s = l .before .before in
     let a = s .args in
     let e : l .loop .k ≡ a .z .keys = omega arith in
-    let step : ℕ → List ℕ → List ℕ = rowStep (a .z) (a .at) (a .w) (a .mask) (a .made .0) in
+    let step : ℕ → List ℕ → List ℕ = rowStep (a .z) (a .at) (a .w) (a .mask) (a .new .0) in
     l .loop .inv .2 ∙ ap (λ (n : ℕ). foldBelow n step (a .words .now)) e
-    ∙ row-keys (a .z) (a .words .now) (a .at) (s .pre .0 .fits) (a .w) (a .mask) (a .made .0)
+    ∙ row-keys (a .z) (a .words .now) (a .at) (s .pre .0 .fits) (a .w) (a .mask) (a .new .0)
     (s .pre .1)
 
 pub set-rows-spec : {M : Type 1} → statement M
