@@ -71,8 +71,8 @@ pub fn issue_in(words: &mut [u32], run: u32, writer: u32, mask: u32) -> Issued
         return Issued::Refused(cause);
     }
     let number = save(words, z, r, w, mask);
-    let at = z.run_at(r);
-    clear_run(words, z, at);
+    let freed = z.run_at(r);
+    clear_run(words, z, freed);
     Issued::Done(number)
 }
 
@@ -159,10 +159,10 @@ fn save(words: &mut [u32], z: Counts, r: usize, w: usize, mask: u32) -> IssueNum
     ensures leaves { λ _. ⌜ now (words .exit)
         ≡ written (savedStore (storeOf (now (words .entry))) r w mask) (now (words .entry)) ⌝ }
 {
-    if mask == 0 {
-        return IssueNumber(0);
+    if 0 < mask {
+        return save_keys(words, z, r, w, mask);
     }
-    save_keys(words, z, r, w, mask)
+    IssueNumber(0)
 }
 
 // The read mask of run r.

@@ -9,22 +9,23 @@ use Rattle.issue.specs.Saves.{savedNumber, savedStore}
 use Rattle.issue.proofs.save.Statement.{statement}
 use Rattle.issue.proofs.save.Tie as tie
 
-returns : tie.Need-returns
-unfolding savedNumber savedStore
-returns c =
-    let s = c .before .before in
-    rw (eq-eqb (s .args .mask) 0 (c .if1 .taken))
-    (refl, sym (form-again (s .args .words .now) (s .args .z) (s .pre .0)))
-
 save-keys-requires : tie.Need-save-keys-requires
 save-keys-requires c κs =
-    let s = c .before .before .before in (s .pre .0, (s .pre .1, omega arith))
+    let t = c .before in
+    let s = t .before .before in (s .pre .0, (s .pre .1, t .if1 .taken))
 
 same-length : tie.Need-same-length
 same-length c = search needs
 
+returns : tie.Need-returns
+returns c = c .before .before .save-keys .ensures
+
 returns-2 : tie.Need-returns-2
-returns-2 c = c .before .before .save-keys .ensures
+unfolding savedNumber savedStore
+returns-2 c =
+    let s = c .before .before in
+    rw (eq-eqb (s .args .mask) 0 (omega (arith, c .if1 .left)))
+    (refl, sym (form-again (s .args .words .now) (s .args .z) (s .pre .0)))
 
 pub save-spec : {M : Type 1} → statement M
-save-spec = tie.close (tie.spec returns save-keys-requires same-length returns-2)
+save-spec = tie.close (tie.spec save-keys-requires same-length returns returns-2)
