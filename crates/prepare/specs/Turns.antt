@@ -4,21 +4,21 @@
 -- UsedRun: a run that isn't free. CardArea: a snapshot that the caches are merged into.
 -- Assumes nothing.
 use mathlib.Core.Path.{_≡_}
-use mathlib.Core.Bool.{cond, So, _&&_}
+use mathlib.Core.Bool.{So, _&&_}
 use mathlib.Core.List.{List}
-use Prim.Native.Nat.{ℕ, _≤_, _<_}
+use Prim.Native.Nat.{ℕ, _+_, _≤_, _<_}
 use lib.ListN.{length}
-use Rattle.words.specs.Tests.{Items}
 use Rattle.masks.specs.Mask.{testBit}
 use Rattle.sizes.specs.declared.Counts.{Counts}
-use Rattle.sizes.specs.Bounds.{siteAt}
+use Rattle.sizes.specs.Bounds.{placeSize, siteAt}
 use Rattle.model.specs.Algebra.{Place}
 use Rattle.model.specs.Version.{Version, merge, versions}
-use Rattle.model.specs.Store.{Store, planned, withSites, withRun, withSnapshot}
+use Rattle.model.specs.Store.{Store, emptyPlace, planned, withSites, withRun, withSnapshot}
 use Rattle.model.specs.Form.{placeFormed}
 use Rattle.model.specs.Prepare.{fetchReads, preparedCaches, usesSite, sitesMerged, siteCaches}
 use Rattle.layout.specs.Reading.{readPlace, storeOf}
-use Rattle.version.specs.Places.{choice, Areas}
+use Rattle.layout.specs.Stored.{putPlace}
+use Rattle.version.specs.Places.{choice, Area}
 use Rattle.form.specs.Parts.{FormWith}
 
 -- ---- the caches
@@ -67,7 +67,9 @@ pub record UsedRun (l : List ℕ) (z : Counts) (r : ℕ) : Type 0 where
   pub run : r < z .runs
   pub used : 1 ≤ storeOf l .run r .state
 
--- A snapshot beside the caches of the sites, which are in form.
+-- An empty snapshot at an index behind the caches of the sites, which are in form.
 pub record CardArea (l : List ℕ) (z : Counts) (card : ℕ) : Type 0 where
-  pub lies : (o : ℕ) → o < z .sites → Areas (length l) z card (siteAt z o)
+  pub area : Area (length l) z card
+  pub behind : (o : ℕ) → o < z .sites → siteAt z o + placeSize z ≤ card
   pub formed : (o : ℕ) → o < z .sites → So (placeFormed z (readPlace z l (siteAt z o)))
+  pub empty : putPlace z l card emptyPlace ≡ l
