@@ -1,1 +1,3 @@
 pub mod Unpreparable
+pub mod Known
+pub mod Fetching
