@@ -1,5 +1,6 @@
 -- The fetches of a run's jobs, as changes of the store.
--- lacking-bits: a mask of lacking keys is their set. job-stored: what one fetch stores.
+-- lacking-bits: a mask of lacking keys is their set. start-as, lacked-as, job-stored: what the
+-- code finds and stores for one job.
 -- no-jobs, more-jobs: the fetches of the first jobs. jobs-fine: they keep the store fine.
 -- Assumes nothing.
 use mathlib.Core.Path.{_≡_, refl, sym, ap, _∙_, fun-ext}
@@ -21,7 +22,7 @@ use Rattle.sizes.specs.declared.Counts.{Counts}
 use Rattle.sizes.specs.Bounds.{masterAt, siteAt}
 use Rattle.model.specs.Algebra.{Algebra, Place, lacking}
 use Rattle.model.specs.Version.{Version, versions}
-use Rattle.model.specs.Sets.{fetched}
+use Rattle.model.specs.Sets.{fetched, unfetchable}
 use Rattle.model.specs.Store.{Site, Store, withSites, withCache}
 use Rattle.model.specs.Prepare.{jobStart, fetchReads, preparedCaches, siteCaches}
 use Rattle.model.proofs.Formed.{well-out, formed-cache}
@@ -87,30 +88,62 @@ job-fine s r j h F =
     (fine-next s (withCache s o (jobCache s r j)) F (fit-cache s (F .fits) o (jobCache s r j) h fits)
     (formed-cache s G o (jobCache s r j) formed) refl)
 
--- What the code stores: start is the mask of what the job has to fetch.
-pub job-stored : (l : List ℕ) (z : Counts) (r j o start : ℕ) (m : List ℕ) → UsedRun l z r
-    → j < storeOf l .run r .jobs → o ≡ storeOf l .run r .job j .site
-    → start ≡ maskBelow (z .keys) (jobStart (versions (z .writers)) (z .keys) (storeOf l .master)
-    (storeOf l .run r .job) j (siteCaches (storeOf l)))
-    → m ≡ putPlace z l (siteAt z o) (fetched (versions (z .writers)) (z .keys)
-    (readPlace z l (masterAt z)) (readPlace z l (siteAt z o)) (testBit start))
-    → m ≡ written (fetchedJob (storeOf l) r j) l
-unfolding jobStart siteCaches
-job-stored l z r j o start m U h p q e =
-    let s = storeOf l in
-    let a = s .run r .job j in
-    let V₁ = job-known l z r U j h in
-    let below : o < z .sites = rw p (V₁ .site) in
-    let alg = versions (z .writers) in
-    let cache = s .site (a .site) .cache in
-    let bits : testBit start ≡ lacking alg (z .keys) cache (testBit (a .reads)) =
-    rw q (lacking-bits alg (z .keys) cache (a .reads) (V₁ .reads)) in
-    let same : fetched alg (z .keys) (readPlace z l (masterAt z)) (readPlace z l (siteAt z o))
-    (testBit start) ≡ jobCache s r j =
-    rw (form-counts l z (U .form), bits, ← master-in l z (U .form .counts), ← p,
-    ← cache-in l z (U .form .counts) o below) in
-    e ∙ cache-stored l z (U .form) o _ below
-    ∙ ap (λ (t : Store). written t l) (ap (withCache s o) same ∙ rw p (job-cache s r j))
+-- ---- the code of one job
+
+module _ (l : List ℕ) (z : Counts) (r j : ℕ) (U : UsedRun l z r) (h : j < storeOf l .run r .jobs)
+    where
+  -- What job j has to fetch.
+  abbrev startOf : Items
+  startOf =
+      jobStart (versions (z .writers)) (z .keys) (storeOf l .master) (storeOf l .run r .job) j
+      (siteCaches (storeOf l))
+
+  start-bits : testBit (maskBelow (z .keys) startOf) ≡ startOf
+  unfolding jobStart
+  start-bits =
+      lacking-bits (versions (z .writers)) (z .keys) _ (storeOf l .run r .job j .reads)
+      (job-known l z r U j h .reads)
+
+  pub start-low : (m : ℕ) → m ≡ maskBelow (z .keys) startOf → m < 2 ^ z .keys
+  start-low m e = rw e (mask-lt (z .keys) startOf (z .keys) (omega arith))
+
+  pub site-low : (o : ℕ) → o ≡ storeOf l .run r .job j .site → o < z .sites
+  site-low o e = rw e (job-known l z r U j h .site)
+
+  -- o, at, reads: the site of the job, where it is, and what the job reads.
+  pub start-as : (o at reads m : ℕ) → o ≡ storeOf l .run r .job j .site → at ≡ siteAt z o
+      → reads ≡ storeOf l .run r .job j .reads
+      → m ≡ maskBelow (z .keys) (lacking (versions (z .writers)) (z .keys) (readPlace z l at)
+      (testBit reads))
+      → m ≡ maskBelow (z .keys) startOf
+  unfolding jobStart siteCaches
+  start-as o at reads m p q f e =
+      rw (← f, ← p, cache-in l z (U .form .counts) o (site-low o p), ← q) e
+
+  -- master, start: where the master is, and the mask of what is to be fetched.
+  pub lacked-as : (master start : ℕ) (b : Bool) → master ≡ masterAt z
+      → start ≡ maskBelow (z .keys) startOf
+      → b ≡ unfetchable (versions (z .writers)) (z .keys) (readPlace z l master) (testBit start)
+      → b ≡ unfetchable (versions (z .writers)) (z .keys) (storeOf l .master) startOf
+  lacked-as master start b p q e =
+      rw (← start-bits, ← q, master-in l z (U .form .counts), ← p) e
+
+  pub job-stored : (o at master start : ℕ) (m : List ℕ) → o ≡ storeOf l .run r .job j .site
+      → at ≡ siteAt z o → master ≡ masterAt z → start ≡ maskBelow (z .keys) startOf
+      → m ≡ putPlace z l at (fetched (versions (z .writers)) (z .keys) (readPlace z l master)
+      (readPlace z l at) (testBit start))
+      → m ≡ written (fetchedJob (storeOf l) r j) l
+  unfolding siteCaches
+  job-stored o at master start m p q f g e =
+      let s = storeOf l in
+      let below = site-low o p in
+      let taken = fetched (versions (z .writers)) (z .keys) (s .master) (s .site o .cache) startOf in
+      let same : taken ≡ jobCache s r j = rw (form-counts l z (U .form), ← p) in
+      let stored : m ≡ putPlace z l (siteAt z o) taken =
+      rw (← start-bits, ← g, master-in l z (U .form .counts), ← f,
+      cache-in l z (U .form .counts) o below, ← q) e in
+      stored ∙ cache-stored l z (U .form) o taken below
+      ∙ ap (λ (t : Store). written t l) (ap (withCache s o) same ∙ rw p (job-cache s r j))
 
 -- ---- the first n jobs
 

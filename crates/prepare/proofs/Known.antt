@@ -45,6 +45,10 @@ module _ (l : List ℕ) (z : Counts) (r : ℕ) (U : UsedRun l z r) where
         jobs = plan-out z (storeOf l .run r) (U .used) formed .jobs;
       }
 
+  -- The index at of the run.
+  pub run-index : (at : ℕ) → at ≡ runAt z r → at + 28 ≤ length l
+  run-index at e = omega (arith, jobs-known .area .fits)
+
   -- Job j: valid, and its words.
   pub job-known : (j : ℕ) → j < storeOf l .run r .jobs → Valid z j (storeOf l .run r .job j)
   job-known j h = valid-out z j (storeOf l .run r .job j) (jobs-known .jobs .valid j h)
@@ -106,3 +110,12 @@ plan-reads n job h =
     ∙ any-same n (λ j. testBit 255 j && testBit (job j .reads) k)
     (λ j. testBit (job j .reads) k)
     (λ j i. rw (all-at maxJobs (testBit 255) every-job j (omega arith))))
+
+-- n, at, m: the number of jobs, the index of the run, and what the code finds.
+pub plan-as : (l : List ℕ) (z : Counts) (r : ℕ) (U : UsedRun l z r) (n at m : ℕ)
+    → n ≡ storeOf l .run r .jobs → at ≡ runAt z r → m ≡ readsOf n (readJobs l (at + 4)) 255
+    → testBit m ≡ planned (storeOf l .run r .jobs) (storeOf l .run r .job)
+plan-as l z r U n at m p q e =
+    let J = jobs-known l z r U in
+    rw (e, q, p, jobs-words l z r U)
+    (plan-reads (storeOf l .run r .jobs) (storeOf l .run r .job) (J .jobs .high))

@@ -1,47 +1,72 @@
-use native.Mathlib.Omega.{arith}
+-- `fetch_job` stores the cache of the job's site.
+-- Assumes nothing.
+use mathlib.Core.Path.{_∙_}
+use Prim.Native.Nat.{_<_}
 use borrow.Author.Needs.{needs}
+use lib.ListN.{length}
+use Rattle.version.proofs.Stores.{site-master}
+use Rattle.form.proofs.Known.{form-area, master-found}
+use Rattle.prepare.proofs.Fetching.{site-low, start-low, job-stored}
 use Rattle.prepare.proofs.fetches.fetch_job.Statement.{statement}
 use Rattle.prepare.proofs.fetches.fetch_job.Tie as tie
-use Rattle.prepare.proofs.fetches.fetch_job.Reads as reads
-use Rattle.prepare.proofs.fetches.fetch_job.Lts as lts
-use Rattle.prepare.proofs.fetches.job_start.Reads as job-start-reads
-use Rattle.prepare.proofs.jobs.job_site.Reads as job-site-reads
-use Rattle.sets.proofs.fetch_keys.Reads as fetch-keys-reads
-use Rattle.sizes.proofs.Counts.areas.Reads as areas-reads
-use Rattle.sizes.proofs.Counts.site_at.Reads as site-at-reads
-use Rattle.words.proofs.wide.Reads as wide-reads
 
--- src/fetches.rt:76:21
 job-site-requires : tie.Need-job-site-requires
 job-site-requires c κs = search needs
 
--- src/fetches.rt:76:9
 wide-requires : tie.Need-wide-requires
 wide-requires c κs = search needs
 
--- src/fetches.rt:77:9
 job-start-requires : tie.Need-job-start-requires
 job-start-requires c κs = search needs
 
--- src/fetches.rt:78:9
+-- The site is one of the store's.
+below : (c : tie.After-job-start)
+    → c .before .wide .result < c .before .before .before .before .args .z .sites
+below c =
+    let w = c .before in
+    let s = w .before .before .before in
+    let a = s .args in
+    site-low (a .words .now) (a .z) (a .r) (a .j) (s .pre .0) (s .pre .1) _
+    (w .wide .ensures ∙ w .before .job-site .ensures)
+
 site-at-requires : tie.Need-site-at-requires
-site-at-requires c κs = ?
+site-at-requires c κs =
+    let s = c .before .before .before .before in
+    (form-area _ _ (s .pre .0 .form) .ranged, below c)
 
--- src/fetches.rt:79:9
 areas-requires : tie.Need-areas-requires
-areas-requires c κs = ?
+areas-requires c κs =
+    let s = c .before .before .before .before .before in form-area _ _ (s .pre .0 .form) .ranged
 
--- src/fetches.rt:80:5
 fetch-keys-requires : tie.Need-fetch-keys-requires
-fetch-keys-requires c κs = ?
+fetch-keys-requires c κs =
+    let t = c .before in
+    let n = t .before in
+    let s = n .before .before .before .before in
+    let a = s .args in
+    let R = form-area (a .words .now) (a .z) (s .pre .0 .form) in (
+      rw (t .site-at .ensures, master-found (a .z) (c .areas .result) (c .areas .ensures))
+          (site-master (length (a .words .now)) (a .z) (R .ranged) (R .fits) _ (below n)),
+      start-low (a .words .now) (a .z) (a .r) (a .j) (s .pre .0) (s .pre .1) _
+          (n .job-start .ensures),
+    )
 
--- src/fetches.rt:70:1
 same-length : tie.Need-same-length
 same-length c = search needs
 
--- src/fetches.rt:70:1
 returns : tie.Need-returns
-returns c = ?
+returns c =
+    let k = c .before .before in
+    let u = k .before .before in
+    let t = u .before in
+    let n = t .before in
+    let w = n .before in
+    let s = w .before .before .before in
+    let a = s .args in
+    job-stored (a .words .now) (a .z) (a .r) (a .j) (s .pre .0) (s .pre .1) _ _ _ _ _
+    (w .wide .ensures ∙ w .before .job-site .ensures) (t .site-at .ensures)
+    (master-found (a .z) (u .areas .result) (u .areas .ensures)) (n .job-start .ensures)
+    (k .fetch-keys .ensures .1)
 
 pub fetch-job-spec : {M : Type 1} → statement M
 fetch-job-spec =
