@@ -21,31 +21,34 @@ job-start-requires c κs = search needs
 
 -- The site is one of the store's.
 below : (c : tie.After-job-start)
-    → c .before .wide .result < c .before .before .before .before .args .z .sites
+    → c .before .before .wide .result
+    < c .before .before .before .before .before .before .args .z .sites
 below c =
-    let w = c .before in
-    let s = w .before .before .before in
+    let w = c .before .before in
+    let s = w .before .before .before .before in
     let a = s .args in
     site-low (a .words .now) (a .z) (a .r) (a .j) (s .pre .0) (s .pre .1) _
     (w .wide .ensures ∙ w .before .job-site .ensures)
 
 site-at-requires : tie.Need-site-at-requires
 site-at-requires c κs =
-    let s = c .before .before .before .before in
+    let s = c .before .before .before .before .before .before in
     (form-area _ _ (s .pre .0 .form) .ranged, below c)
 
 areas-requires : tie.Need-areas-requires
 areas-requires c κs =
-    let s = c .before .before .before .before .before in form-area _ _ (s .pre .0 .form) .ranged
+    let s = c .before .before .before .before .before .before .before in
+    form-area _ _ (s .pre .0 .form) .ranged
 
 fetch-keys-requires : tie.Need-fetch-keys-requires
 fetch-keys-requires c κs =
-    let t = c .before in
+    let u = c .before in
+    let t = u .before in
     let n = t .before in
-    let s = n .before .before .before .before in
+    let s = n .before .before .before .before .before .before in
     let a = s .args in
     let R = form-area (a .words .now) (a .z) (s .pre .0 .form) in (
-      rw (t .site-at .ensures, master-found (a .z) (c .areas .result) (c .areas .ensures))
+      rw (t .site-at .ensures, master-found (a .z) (u .areas .result) (u .areas .ensures))
           (site-master (length (a .words .now)) (a .z) (R .ranged) (R .fits) _ (below n)),
       start-low (a .words .now) (a .z) (a .r) (a .j) (s .pre .0) (s .pre .1) _
           (n .job-start .ensures),
@@ -60,8 +63,8 @@ returns c =
     let u = k .before .before in
     let t = u .before in
     let n = t .before in
-    let w = n .before in
-    let s = w .before .before .before in
+    let w = n .before .before in
+    let s = w .before .before .before .before in
     let a = s .args in
     job-stored (a .words .now) (a .z) (a .r) (a .j) (s .pre .0) (s .pre .1) _ _ _ _ _
     (w .wide .ensures ∙ w .before .job-site .ensures) (t .site-at .ensures)

@@ -1,54 +1,86 @@
+-- `fetch_jobs` makes the fetch of each job. The loop's invariant: the fetches of those passed.
+-- Assumes nothing.
+use mathlib.Core.Path.{_≡_, refl, ap, _∙_}
+use mathlib.Core.List.{List}
+use Prim.Native.Nat.{ℕ, _≤_, _-_}
 use borrow.Author.Needs.{needs}
 use native.Mathlib.Omega.{arith}
+use lib.ListN.{length}
+use Rattle.layout.specs.Reading.{storeOf}
+use Rattle.layout.specs.Buffer.{written}
+use Rattle.prepare.specs.Turns.{fetchedJobs}
+use Rattle.prepare.proofs.Turning.{jobs-start, jobs-used, jobs-same, jobs-turn}
 use Rattle.prepare.proofs.fetches.fetch_jobs.Statement.{statement}
 use Rattle.prepare.proofs.fetches.fetch_jobs.Tie as tie
-use Rattle.prepare.proofs.fetches.fetch_jobs.Reads as reads
-use Rattle.prepare.proofs.fetches.fetch_jobs.Lts as lts
-use Rattle.prepare.proofs.fetches.fetch_job.Reads as fetch-job-reads
-use Rattle.prepare.proofs.jobs.job_count.Reads as job-count-reads
-use Rattle.words.proofs.wide.Reads as wide-reads
 
 abbrev Inv-loop : tie.InvT-loop
-Inv-loop words₀ z r n j₀ words j = ?
+Inv-loop words₀ z r n j₀ words j =
+    (j ≤ n) × (length words ≡ length words₀)
+    × (words ≡ written (fetchedJobs (storeOf words₀) r j) words₀)
 
 abbrev μ-loop : tie.MeasureT-loop
-μ-loop words₀ z r n j₀ words j = ?
+μ-loop words₀ z r n j₀ words j = n - j
 
--- src/fetches.rt:89:18
 job-count-requires : tie.Need-job-count-requires Inv-loop μ-loop
-job-count-requires c κs = ?
+job-count-requires c κs = search needs
 
--- src/fetches.rt:89:9
 wide-requires : tie.Need-wide-requires Inv-loop μ-loop
-wide-requires c κs = ?
+wide-requires c κs = search needs
 
--- src/fetches.rt:91:5
 loop-holds : tie.Need-loop-holds Inv-loop μ-loop
-loop-holds c = ?
+loop-holds c =
+    let s = c .before .before .before .before in
+    (omega arith, refl, jobs-start (s .args .words .now) (s .args .z) (s .args .r) (s .pre))
 
--- src/fetches.rt:92:9
+-- The loop's bound is the number of jobs.
+bound : (l : tie.At-loop Inv-loop μ-loop) → let a = l .before .before .before .before .before .args in
+    l .before .wide .result ≡ storeOf (a .words .now) .run (a .r) .jobs
+bound l = l .before .wide .ensures ∙ l .before .before .job-count .ensures
+
 fetch-job-requires : tie.Need-fetch-job-requires Inv-loop μ-loop
-fetch-job-requires c κs = ?
+fetch-job-requires c κs =
+    let l = c .before .before in
+    let s = l .before .before .before .before .before in
+    let a = s .args in
+    let n = bound l in
+    let j = l .loop .j in
+    let below : j ≤ storeOf (a .words .now) .run (a .r) .jobs = omega arith in
+    let e = l .loop .inv .2 in (
+      jobs-used (a .words .now) (a .z) (a .r) (s .pre) j below (l .loop .words) e,
+      rw (jobs-same (a .words .now) (a .z) (a .r) (s .pre) j below (l .loop .words) e)
+          (omega arith),
+    )
 
--- src/fetches.rt:93:9
 add-j : tie.Need-add-j Inv-loop μ-loop
 add-j c = omega arith
 
--- src/fetches.rt:91:5
 loop-less : tie.Need-loop-less Inv-loop μ-loop
 loop-less c = omega arith
 
--- src/fetches.rt:91:5
 loop-again : tie.Need-loop-again Inv-loop μ-loop
-loop-again c = ?
+loop-again c =
+    let k = c .before .before in
+    let l = k .before .before .before in
+    let s = l .before .before .before .before .before in
+    let a = s .args in
+    let n = bound l in
+    let j = l .loop .j in (
+      omega arith,
+      k .fetch-job .kept .0 ∙ l .loop .inv .1,
+      jobs-turn (a .words .now) (a .z) (a .r) (s .pre) j (omega arith) (l .loop .words)
+          (l .loop .inv .2) _ (k .fetch-job .ensures),
+    )
 
--- src/fetches.rt:84:1
 same-length : tie.Need-same-length Inv-loop μ-loop
-same-length c = ?
+same-length c = c .before .loop .inv .1
 
--- src/fetches.rt:84:1
 returns : tie.Need-returns Inv-loop μ-loop
-returns c = ?
+returns c =
+    let l = c .before in
+    let a = l .before .before .before .before .before .args in
+    let e : l .loop .j ≡ storeOf (a .words .now) .run (a .r) .jobs = omega (arith, bound l) in
+    l .loop .inv .2
+    ∙ ap (λ (n : ℕ). written (fetchedJobs (storeOf (a .words .now)) (a .r) n) (a .words .now)) e
 
 pub fetch-jobs-spec : {M : Type 1} → statement M
 fetch-jobs-spec =
