@@ -111,7 +111,9 @@ module _ (l : List ℕ) (z : Counts) (r : ℕ) (U : UsedRun l z r)
     prepare-done card C c h =
         let s = storeOf l in
         let mask : C ≡ carriedMask s r =
-        rw (form-counts l z (U .form), ← carried card c) h in
+        h ∙ ap (λ (p : Place Version). maskBelow (z .keys) (λ k. held (p k))) (carried card c)
+        ∙ ap (λ (y : Counts). maskBelow (y .keys) (λ k. held (prepareSnapshot s r k)))
+        (sym (form-counts l z (U .form))) in
         ends-done (prepare r) l (prepareCause s r) (prepareDone s r) (U .form .form)
         (prepare-rule r s) free (0 ∷ C ∷ []) m
         (rw (next-as s r) (ap (λ (C : ℕ). 0 ∷ C ∷ []) mask)) (rw (next-as s r) next-left)

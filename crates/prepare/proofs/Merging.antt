@@ -79,20 +79,28 @@ site-passed z l card o sites plan p = rw p (sym (place-again z l card))
 
 -- ---- the loop over the sites
 
+-- The first n sites of the mask, merged and cut down to the plan.
+abbrev pub cardAfter : Counts → List ℕ → ℕ → ℕ → ℕ → Place Version
+cardAfter z l sites plan n =
+    sitesMerged (versions (z .writers)) n (testBit sites) (testBit plan)
+    (λ o. readPlace z l (siteAt z o))
+
 module _ (z : Counts) (l : List ℕ) (card sites plan : ℕ) (C : CardArea l z card) where
-  -- The first n sites of the mask, merged.
-  abbrev cardAfter : ℕ → Place Version
-  cardAfter n =
-      sitesMerged (versions (z .writers)) n (testBit sites) (testBit plan)
-      (λ o. readPlace z l (siteAt z o))
+  -- Short for it.
+  abbrev after : ℕ → Place Version
+  after = cardAfter z l sites plan
+
+  pub card-start : l ≡ putPlace z l card (after 0)
+  unfolding sitesMerged foldBelow
+  card-start = sym (C .empty)
 
   card-good : (n : ℕ) → n ≤ z .sites
-      → FitPlace z (cardAfter n) × PlaceFormed z (cardAfter n)
+      → FitPlace z (after n) × PlaceFormed z (after n)
   unfolding sitesMerged foldBelow
   card-good zero h = (fit-empty z, formed-empty z)
   card-good (suc n) h =
       let G = card-good n (omega arith) in
-      let p = cardAfter n in
+      let p = after n in
       let q = readPlace z l (siteAt z n) in
       let Q = place-out z q (C .formed n h) in
       let S : ℕ → Bool = λ k. testBit sites n && testBit plan k in (
@@ -116,19 +124,19 @@ module _ (z : Counts) (l : List ℕ) (card sites plan : ℕ) (C : CardArea l z c
         apart = inr (inr b);
       }
 
-  module _ (n : ℕ) (h : n < z .sites) (m : List ℕ) (e : m ≡ putPlace z l card (cardAfter n)) where
-    card-read : readPlace z m card ≡ cardAfter n
+  module _ (n : ℕ) (h : n < z .sites) (m : List ℕ) (e : m ≡ putPlace z l card (after n)) where
+    card-read : readPlace z m card ≡ after n
     card-read =
-        rw e (part-back (place-laws z) l card (cardAfter n) (card-good n (omega arith) .0)
+        rw e (part-back (place-laws z) l card (after n) (card-good n (omega arith) .0)
         (C .area .fits))
 
     site-read : readPlace z m (siteAt z n) ≡ readPlace z l (siteAt z n)
-    site-read = rw e (place-beside z l card (siteAt z n) (cardAfter n) (inr (C .behind n h)))
+    site-read = rw e (place-beside z l card (siteAt z n) (after n) (inr (C .behind n h)))
 
     pub card-formed : So (placeFormed z (readPlace z m card))
         × So (placeFormed z (readPlace z m (siteAt z n)))
     card-formed = (
-      rw card-read (place-in z (cardAfter n) (card-good n (omega arith) .1)),
+      rw card-read (place-in z (after n) (card-good n (omega arith) .1)),
       rw site-read (C .formed n h),
     )
 
@@ -137,10 +145,10 @@ module _ (z : Counts) (l : List ℕ) (card sites plan : ℕ) (C : CardArea l z c
     turned p q k = cond (testBit sites n && testBit plan k) (merge (p k) (q k)) (p k)
 
     pub card-turn : (k : List ℕ) → k ≡ putPlace z m card (siteMerged z m card n sites plan)
-        → k ≡ putPlace z l card (cardAfter (n + 1))
+        → k ≡ putPlace z l card (after (n + 1))
     unfolding siteMerged sitesMerged foldBelow
     card-turn k f =
-        let q = turned (cardAfter n) (readPlace z l (siteAt z n)) in
+        let q = turned (after n) (readPlace z l (siteAt z n)) in
         let g : k ≡ putPlace z m card q =
         f ∙ ap₂ (λ (p q : Place Version). putPlace z m card (turned p q)) card-read site-read in
-        rw (add-one n) (g ∙ rw e (place-twice z l card (cardAfter n) q (C .area .fits)))
+        rw (add-one n) (g ∙ rw e (place-twice z l card (after n) q (C .area .fits)))

@@ -1,40 +1,42 @@
-use native.Mathlib.Omega.{arith}
+-- `merge_site` merges the keys of the plan, if the site is one of the mask.
+-- Assumes nothing.
+use mathlib.Core.Path.{sym, _∙_}
 use borrow.Author.Needs.{needs}
+use Rattle.prepare.proofs.Merging.{site-merged, site-passed}
 use Rattle.prepare.proofs.merges.merge_site.Statement.{statement}
 use Rattle.prepare.proofs.merges.merge_site.Tie as tie
-use Rattle.prepare.proofs.merges.merge_site.Reads as reads
-use Rattle.prepare.proofs.merges.merge_site.Lts as lts
-use Rattle.masks.proofs.has.Reads as has-reads
-use Rattle.sizes.proofs.Counts.site_at.Reads as site-at-reads
-use Rattle.version.proofs.merge_keys.Reads as merge-keys-reads
 
--- src/merges.rt:43:19
 cast-has : tie.Need-cast-has
 cast-has c = search needs
 
--- src/merges.rt:43:8
 has-requires : tie.Need-has-requires
 has-requires c κs = search needs
 
--- src/merges.rt:44:13
 site-at-requires : tie.Need-site-at-requires
 site-at-requires c κs = search needs
 
--- src/merges.rt:45:9
 merge-keys-requires : tie.Need-merge-keys-requires
-merge-keys-requires c κs = ?
+merge-keys-requires c κs =
+    let s = c .before .before .before .before .before in
+    rw (c .before .site-at .ensures) (s .pre .0, s .pre .1 .1)
 
--- src/merges.rt:35:1
 same-length : tie.Need-same-length
 same-length c = search needs
 
--- src/merges.rt:35:1
 returns : tie.Need-returns
-returns c = ?
+returns c =
+    let k = c .before .before in
+    let t = k .before .before in
+    let i = t .before in
+    let a = i .before .before .before .args in
+    site-merged (a .z) (a .words .now) (a .card) (a .o) (t .site-at .result) (a .sites) (a .plan) _
+    (sym (i .before .has .ensures) ∙ i .if1 .taken) (t .site-at .ensures) (k .merge-keys .ensures)
 
--- src/merges.rt:35:1
 returns-2 : tie.Need-returns-2
-returns-2 c = ?
+returns-2 c =
+    let a = c .before .before .before .args in
+    site-passed (a .z) (a .words .now) (a .card) (a .o) (a .sites) (a .plan)
+    (sym (c .before .has .ensures) ∙ c .if1 .left)
 
 pub merge-site-spec : {M : Type 1} → statement M
 merge-site-spec =

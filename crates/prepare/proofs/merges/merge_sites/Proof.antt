@@ -1,44 +1,72 @@
-use borrow.Author.Needs.{needs}
+-- `merge_sites` merges the caches one after the other. The loop's invariant: those passed.
+-- Assumes nothing.
+use mathlib.Core.Path.{_≡_, refl, ap, _∙_}
+use Prim.Native.Nat.{ℕ, _≤_, _-_}
 use native.Mathlib.Omega.{arith}
+use lib.ListN.{length}
+use Rattle.layout.specs.Stored.{putPlace}
+use Rattle.prepare.proofs.Merging.{cardAfter, card-start, card-lies, card-formed, card-turn}
 use Rattle.prepare.proofs.merges.merge_sites.Statement.{statement}
 use Rattle.prepare.proofs.merges.merge_sites.Tie as tie
-use Rattle.prepare.proofs.merges.merge_sites.Reads as reads
-use Rattle.prepare.proofs.merges.merge_sites.Lts as lts
-use Rattle.prepare.proofs.merges.merge_site.Reads as merge-site-reads
 
 abbrev Inv-loop : tie.InvT-loop
-Inv-loop words₀ z card sites plan n o₀ words o = ?
+Inv-loop words₀ z card sites plan n o₀ words o =
+    (o ≤ n) × (length words ≡ length words₀)
+    × (words ≡ putPlace z words₀ card (cardAfter z words₀ sites plan o))
 
 abbrev μ-loop : tie.MeasureT-loop
-μ-loop words₀ z card sites plan n o₀ words o = ?
+μ-loop words₀ z card sites plan n o₀ words o = n - o
 
--- src/merges.rt:59:5
 loop-holds : tie.Need-loop-holds Inv-loop μ-loop
-loop-holds c = ?
+loop-holds c =
+    let s = c .before in
+    let a = s .args in
+    (omega arith, refl, card-start (a .z) (a .words .now) (a .card) (a .sites) (a .plan) (s .pre))
 
--- src/merges.rt:60:9
 merge-site-requires : tie.Need-merge-site-requires Inv-loop μ-loop
-merge-site-requires c κs = ?
+merge-site-requires c κs =
+    let l = c .before .before in
+    let s = l .before .before in
+    let a = s .args in
+    let o = l .loop .o in (
+      rw (l .loop .inv .1) (card-lies (a .z) (a .words .now) (a .card) (a .sites) (a .plan)
+          (s .pre) o (omega arith)),
+      (
+        omega arith,
+        card-formed (a .z) (a .words .now) (a .card) (a .sites) (a .plan) (s .pre) o
+            (omega arith) (l .loop .words) (l .loop .inv .2),
+      ),
+    )
 
--- src/merges.rt:61:9
 add-o : tie.Need-add-o Inv-loop μ-loop
 add-o c = omega arith
 
--- src/merges.rt:59:5
 loop-less : tie.Need-loop-less Inv-loop μ-loop
 loop-less c = omega arith
 
--- src/merges.rt:59:5
 loop-again : tie.Need-loop-again Inv-loop μ-loop
-loop-again c = ?
+loop-again c =
+    let k = c .before .before in
+    let l = k .before .before .before in
+    let s = l .before .before in
+    let a = s .args in (
+      omega arith,
+      k .merge-site .kept .0 ∙ l .loop .inv .1,
+      card-turn (a .z) (a .words .now) (a .card) (a .sites) (a .plan) (s .pre) (l .loop .o)
+          (omega arith) (l .loop .words) (l .loop .inv .2) _ (k .merge-site .ensures),
+    )
 
--- src/merges.rt:51:1
 same-length : tie.Need-same-length Inv-loop μ-loop
-same-length c = ?
+same-length c = c .before .loop .inv .1
 
--- src/merges.rt:51:1
 returns : tie.Need-returns Inv-loop μ-loop
-returns c = ?
+returns c =
+    let l = c .before in
+    let a = l .before .before .args in
+    let e : l .loop .o ≡ a .z .sites = omega arith in
+    l .loop .inv .2
+    ∙ ap (λ (n : ℕ). putPlace (a .z) (a .words .now) (a .card)
+    (cardAfter (a .z) (a .words .now) (a .sites) (a .plan) n)) e
 
 pub merge-sites-spec : {M : Type 1} → statement M
 merge-sites-spec =
