@@ -1,7 +1,7 @@
 -- The snapshot of a run of a buffer in form, after all merges.
--- card-area: where it lies, once it is cleared. run-merged: what the store is after them.
+-- merge-area: where it lies, once it is cleared. run-merged: what the store is after them.
 -- Assumes nothing.
-use mathlib.Core.Path.{_≡_, refl, sym, ap, _∙_, fun-ext}
+use mathlib.Core.Path.{_≡_, sym, ap, _∙_, fun-ext}
 use mathlib.Core.Bool.{Bool, cond, _&&_}
 use mathlib.Core.Logic.{inr}
 use mathlib.Core.List.{List}
@@ -9,7 +9,6 @@ use Prim.Native.Nat.{ℕ, _+_, _≤_, _<_}
 use native.Mathlib.Omega.{arith}
 use lib.ListN.{length}
 use lib.Seq.{length-sets}
-use Rattle.words.specs.Numbers.{foldBelow}
 use Rattle.words.proofs.Numbers.{fold-same}
 use Rattle.masks.specs.Mask.{testBit}
 use Rattle.sizes.specs.declared.Counts.{Counts}
@@ -17,7 +16,7 @@ use Rattle.sizes.specs.Bounds.{placeSize, siteSize, siteAt, snapshotAt}
 use Rattle.sizes.proofs.Offsets.{ordered, site-lies, run-lies, snapshot-lies}
 use Rattle.model.specs.Algebra.{Place}
 use Rattle.model.specs.Version.{Version, unheld, merge, versions}
-use Rattle.model.specs.Store.{Store, emptyPlace, planned, withRun, withSnapshot}
+use Rattle.model.specs.Store.{emptyPlace, planned, withRun, withSnapshot}
 use Rattle.model.specs.Prepare.{usesSite, sitesMerged, siteCaches}
 use Rattle.layout.specs.Words.{placeWords}
 use Rattle.layout.specs.Reading.{readPlace, storeOf}
@@ -28,7 +27,7 @@ use Rattle.layout.proofs.Updates.{put-snapshot}
 use Rattle.version.specs.Places.{Area}
 use Rattle.version.proofs.Stores.{place-beside, snapshot-area}
 use Rattle.form.proofs.Known.{form-area, form-counts, form-again, cache-formed}
-use Rattle.prepare.specs.Turns.{mergedSites, merged, UsedRun, CardArea}
+use Rattle.prepare.specs.Turns.{mergedSites, merged, UsedRun, MergeArea}
 use Rattle.prepare.proofs.Merging.{place-twice}
 
 module _ (l : List ℕ) (z : Counts) (r : ℕ) (U : UsedRun l z r) where
@@ -57,25 +56,25 @@ module _ (l : List ℕ) (z : Counts) (r : ℕ) (U : UsedRun l z r) where
       rw (← same) (put-snapshot s l r p (rw same (U .run))) in
       ap (λ (m : List ℕ). putPlace z m (snapshotAt z r) p) (sym (form-again l z (U .form))) ∙ put
 
-  -- card: the snapshot. m: the buffer with it cleared.
-  module _ (card : ℕ) (c : card ≡ snapshotAt z r) (m : List ℕ)
-      (e : m ≡ putPlace z l card emptyPlace) where
-    fits : Area (length l) z card
+  -- snapshot: the snapshot. m: the buffer with it cleared.
+  module _ (snapshot : ℕ) (c : snapshot ≡ snapshotAt z r) (m : List ℕ)
+      (e : m ≡ putPlace z l snapshot emptyPlace) where
+    fits : Area (length l) z snapshot
     fits = rw c snapshot-in-place
 
     cache-beside : (o : ℕ) → o < z .sites
         → readPlace z m (siteAt z o) ≡ readPlace z l (siteAt z o)
     cache-beside o h =
-        rw e (place-beside z l card (siteAt z o) emptyPlace (inr (rw c (behind o h))))
+        rw e (place-beside z l snapshot (siteAt z o) emptyPlace (inr (rw c (behind o h))))
 
-    pub card-area : CardArea m z card
-    card-area =
-        let long : length m ≡ length l = rw e (length-sets l card (placeWords z emptyPlace)) in
+    pub merge-area : MergeArea m z snapshot
+    merge-area =
+        let long : length m ≡ length l = rw e (length-sets l snapshot (placeWords z emptyPlace)) in
         record {
           area = rw long fits;
           behind = λ o h. rw c (behind o h);
           formed = λ o h. rw (cache-beside o h) (cache-formed l z (U .form) o h);
-          empty = rw e (place-twice z l card emptyPlace emptyPlace (fits .fits));
+          empty = rw e (place-twice z l snapshot emptyPlace emptyPlace (fits .fits));
         }
 
     module _ (sites plan : ℕ)
@@ -101,16 +100,16 @@ module _ (l : List ℕ) (z : Counts) (r : ℕ) (U : UsedRun l z r) where
           (cache-beside o h ∙ sym (cache-in l z (U .form .counts) o h)))
           unheld))
 
-      pub run-merged : (k : List ℕ) → k ≡ putPlace z m card found
+      pub run-merged : (k : List ℕ) → k ≡ putPlace z m snapshot found
           → k ≡ written (merged (storeOf l) r) l
       unfolding merged
       run-merged k h =
           let s = storeOf l in
-          let once : putPlace z m card found ≡ putPlace z l card found =
-          ap (λ (t : List ℕ). putPlace z t card found) e
-          ∙ place-twice z l card emptyPlace found (fits .fits) in
+          let once : putPlace z m snapshot found ≡ putPlace z l snapshot found =
+          ap (λ (t : List ℕ). putPlace z t snapshot found) e
+          ∙ place-twice z l snapshot emptyPlace found (fits .fits) in
           h ∙ once
-          ∙ ap (λ (p : Place Version). putPlace z l card p) found-as
+          ∙ ap (λ (p : Place Version). putPlace z l snapshot p) found-as
           ∙ ap (λ (i : ℕ). putPlace z l i (mergedSites s r (z .sites))) c
           ∙ stored (mergedSites s r (z .sites))
           ∙ ap (λ (y : Counts). written

@@ -4,7 +4,7 @@ use mathlib.Core.Path.{_≡_, refl, sym, ap, _∙_}
 use mathlib.Core.Bool.{So}
 use mathlib.Core.Logic.{_≢_}
 use mathlib.Core.List.{List, [], _∷_}
-use Prim.Native.Nat.{ℕ, _≤_}
+use Prim.Native.Nat.{ℕ}
 use native.Mathlib.Omega.{arith}
 use Rattle.words.proofs.Lists.{putAt-same}
 use Rattle.masks.specs.Mask.{maskBelow}
@@ -93,9 +93,9 @@ module _ (l : List ℕ) (z : Counts) (r : ℕ) (U : UsedRun l z r)
         f ∙ rw e (phase s₁ l (λ (t : Store). merged t r)
         (jobs-fits l z r U (s .run r .jobs) (omega arith)) (merged-counts s₁ r))
 
-    carried : (card : ℕ) → card ≡ snapshotAt z r
-        → readPlace z m card ≡ prepareSnapshot (storeOf l) r
-    carried card c =
+    carried : (snapshot : ℕ) → snapshot ≡ snapshotAt z r
+        → readPlace z m snapshot ≡ prepareSnapshot (storeOf l) r
+    carried snapshot c =
         let s = storeOf l in
         let back : storeOf m ≡ next s r = rw next-left (store-back (next s r) l next-fits) in
         let counts : z ≡ countsIn m =
@@ -104,14 +104,14 @@ module _ (l : List ℕ) (z : Counts) (r : ℕ) (U : UsedRun l z r)
         rw c (sym (snapshot-in m z counts r (U .run))
         ∙ ap (λ (t : Store). t .run r .snapshot) back ∙ next-snapshot s r)
 
-    pub prepare-done : (card C : ℕ) → card ≡ snapshotAt z r
-        → C ≡ maskBelow (z .keys) (λ k. held (readPlace z m card k))
+    pub prepare-done : (snapshot C : ℕ) → snapshot ≡ snapshotAt z r
+        → C ≡ maskBelow (z .keys) (λ k. held (readPlace z m snapshot k))
         → Ends (prepare r) l (0 ∷ C ∷ []) m
     unfolding answer leaves
-    prepare-done card C c h =
+    prepare-done snapshot C c h =
         let s = storeOf l in
         let mask : C ≡ carriedMask s r =
-        h ∙ ap (λ (p : Place Version). maskBelow (z .keys) (λ k. held (p k))) (carried card c)
+        h ∙ ap (λ (p : Place Version). maskBelow (z .keys) (λ k. held (p k))) (carried snapshot c)
         ∙ ap (λ (y : Counts). maskBelow (y .keys) (λ k. held (prepareSnapshot s r k)))
         (sym (form-counts l z (U .form))) in
         ends-done (prepare r) l (prepareCause s r) (prepareDone s r) (U .form .form)

@@ -7,7 +7,7 @@ use mathlib.Core.Path.{_≡_, refl, sym, ap, _∙_, fun-ext}
 use mathlib.Core.Bool.{Bool, true, false, cond, not, _&&_}
 use mathlib.Core.Logic.{⊎-elim}
 use mathlib.Core.List.{List}
-use Prim.Native.Nat.{ℕ, zero, suc, _+_, _≤_, _<_, _^_}
+use Prim.Native.Nat.{ℕ, zero, suc, _+_, _<_, _^_}
 use native.Mathlib.Numerals.{add-one}
 use native.Mathlib.Omega.{arith}
 use lib.Dec.{eqb}
@@ -23,7 +23,7 @@ use Rattle.sizes.specs.Bounds.{masterAt, siteAt}
 use Rattle.model.specs.Algebra.{Algebra, Place, lacking}
 use Rattle.model.specs.Version.{Version, versions}
 use Rattle.model.specs.Sets.{fetched, unfetchable}
-use Rattle.model.specs.Store.{Site, Store, withSites, withCache}
+use Rattle.model.specs.Store.{Store, withSites, withCache}
 use Rattle.model.specs.Prepare.{jobStart, fetchReads, preparedCaches, siteCaches}
 use Rattle.model.proofs.Formed.{well-out, formed-cache}
 use Rattle.layout.specs.Reading.{readPlace, storeOf}

@@ -3,9 +3,9 @@
 -- uses-..: the sites that its jobs are at, one job after the other. plan-..: its plan.
 -- Assumes nothing.
 use mathlib.Core.Path.{_≡_, refl, sym, ap, _∙_, fun-ext}
-use mathlib.Core.Bool.{Bool, So, _&&_, _||_}
+use mathlib.Core.Bool.{So, _&&_}
 use mathlib.Core.List.{List}
-use Prim.Native.Nat.{ℕ, _+_, _*_, _≤_, _<_, _^_}
+use Prim.Native.Nat.{ℕ, _+_, _*_, _≤_, _<_}
 use native.Mathlib.Omega.{arith}
 use lib.Dec.{eqb}
 use lib.ListN.{length, getD}
@@ -15,7 +15,7 @@ use Rattle.words.proofs.Tests.{any-same, any-more, all-at}
 use Rattle.masks.specs.Mask.{testBit, withBit}
 use Rattle.masks.proofs.Bits.{test-with, test-none}
 use Rattle.sizes.specs.declared.Counts.{Counts}
-use Rattle.sizes.specs.Bounds.{Ranged, maxJobs, runAt}
+use Rattle.sizes.specs.Bounds.{maxJobs, runAt}
 use Rattle.model.specs.Store.{Job, Run, planned, doneReads}
 use Rattle.model.specs.Form.{runFormed}
 use Rattle.model.specs.Prepare.{usesSite}

@@ -1,9 +1,9 @@
 -- The snapshot, cleared and merged, as a change of the store.
 -- zeros-place: cleared words. place-twice: a place stored twice. site-merged: the code of one turn.
--- card-..: the loop over the sites.
+-- merge-..: the loop over the sites.
 -- Assumes nothing.
-use mathlib.Core.Path.{_≡_, refl, sym, ap, ap₂, _∙_, fun-ext}
-use mathlib.Core.Bool.{Bool, true, false, cond, So, _&&_}
+use mathlib.Core.Path.{_≡_, sym, ap, ap₂, _∙_, fun-ext}
+use mathlib.Core.Bool.{Bool, false, cond, So, _&&_}
 use mathlib.Core.Logic.{inr}
 use mathlib.Core.List.{List, []}
 use Prim.Native.Nat.{ℕ, zero, suc, _+_, _≤_, _<_}
@@ -32,11 +32,11 @@ use Rattle.layout.proofs.Parts.{FitPlace, place-laws}
 use Rattle.layout.proofs.Fit.{fit-empty, fit-choice, fit-merged}
 use Rattle.layout.proofs.Windows.{part-back, part-twice}
 use Rattle.layout.proofs.Places.{place-again}
-use Rattle.version.specs.Places.{choice, Area, Areas}
+use Rattle.version.specs.Places.{choice, Areas}
 use Rattle.version.proofs.Versions.{upto-all, nothing-read}
 use Rattle.version.proofs.Stores.{place-beside}
 use Rattle.status.proofs.Copies.{put-zeros}
-use Rattle.prepare.specs.Turns.{siteMerged, CardArea}
+use Rattle.prepare.specs.Turns.{siteMerged, MergeArea}
 
 -- ---- places
 
@@ -63,43 +63,43 @@ place-twice z l at p q h =
 -- ---- the code of one turn
 
 -- A site of the mask: the keys of the plan are merged.
-pub site-merged : (z : Counts) (l : List ℕ) (card o at sites plan : ℕ) (m : List ℕ)
+pub site-merged : (z : Counts) (l : List ℕ) (snapshot o at sites plan : ℕ) (m : List ℕ)
     → So (testBit sites o) → at ≡ siteAt z o
-    → m ≡ putPlace z l card (choice (testBit plan)
-    (λ k. merge (readPlace z l card k) (readPlace z l at k)) (readPlace z l card))
-    → m ≡ putPlace z l card (siteMerged z l card o sites plan)
+    → m ≡ putPlace z l snapshot (choice (testBit plan)
+    (λ k. merge (readPlace z l snapshot k) (readPlace z l at k)) (readPlace z l snapshot))
+    → m ≡ putPlace z l snapshot (siteMerged z l snapshot o sites plan)
 unfolding siteMerged
-site-merged z l card o at sites plan m p q e = rw (p, ← q) e
+site-merged z l snapshot o at sites plan m p q e = rw (p, ← q) e
 
 -- Any other: nothing is stored.
-pub site-passed : (z : Counts) (l : List ℕ) (card o sites plan : ℕ) → testBit sites o ≡ false
-    → l ≡ putPlace z l card (siteMerged z l card o sites plan)
+pub site-passed : (z : Counts) (l : List ℕ) (snapshot o sites plan : ℕ) → testBit sites o ≡ false
+    → l ≡ putPlace z l snapshot (siteMerged z l snapshot o sites plan)
 unfolding siteMerged
-site-passed z l card o sites plan p = rw p (sym (place-again z l card))
+site-passed z l snapshot o sites plan p = rw p (sym (place-again z l snapshot))
 
 -- ---- the loop over the sites
 
 -- The first n sites of the mask, merged and cut down to the plan.
-abbrev pub cardAfter : Counts → List ℕ → ℕ → ℕ → ℕ → Place Version
-cardAfter z l sites plan n =
+abbrev pub mergedAfter : Counts → List ℕ → ℕ → ℕ → ℕ → Place Version
+mergedAfter z l sites plan n =
     sitesMerged (versions (z .writers)) n (testBit sites) (testBit plan)
     (λ o. readPlace z l (siteAt z o))
 
-module _ (z : Counts) (l : List ℕ) (card sites plan : ℕ) (C : CardArea l z card) where
+module _ (z : Counts) (l : List ℕ) (snapshot sites plan : ℕ) (C : MergeArea l z snapshot) where
   -- Short for it.
   abbrev after : ℕ → Place Version
-  after = cardAfter z l sites plan
+  after = mergedAfter z l sites plan
 
-  pub card-start : l ≡ putPlace z l card (after 0)
+  pub merge-start : l ≡ putPlace z l snapshot (after 0)
   unfolding sitesMerged foldBelow
-  card-start = sym (C .empty)
+  merge-start = sym (C .empty)
 
-  card-good : (n : ℕ) → n ≤ z .sites
+  after-good : (n : ℕ) → n ≤ z .sites
       → FitPlace z (after n) × PlaceFormed z (after n)
   unfolding sitesMerged foldBelow
-  card-good zero h = (fit-empty z, formed-empty z)
-  card-good (suc n) h =
-      let G = card-good n (omega arith) in
+  after-good zero h = (fit-empty z, formed-empty z)
+  after-good (suc n) h =
+      let G = after-good n (omega arith) in
       let p = after n in
       let q = readPlace z l (siteAt z n) in
       let Q = place-out z q (C .formed n h) in
@@ -110,8 +110,8 @@ module _ (z : Counts) (l : List ℕ) (card sites plan : ℕ) (C : CardArea l z c
             (λ k i. version-merge z k (p k) (q k) (G .1 k i) (Q k i)) (G .1),
       )
 
-  pub card-lies : (o : ℕ) → o < z .sites → Areas (length l) z card (siteAt z o)
-  card-lies o h =
+  pub merge-lies : (o : ℕ) → o < z .sites → Areas (length l) z snapshot (siteAt z o)
+  merge-lies o h =
       let A = C .area in
       let b = C .behind o h in
       record {
@@ -124,19 +124,19 @@ module _ (z : Counts) (l : List ℕ) (card sites plan : ℕ) (C : CardArea l z c
         apart = inr (inr b);
       }
 
-  module _ (n : ℕ) (h : n < z .sites) (m : List ℕ) (e : m ≡ putPlace z l card (after n)) where
-    card-read : readPlace z m card ≡ after n
-    card-read =
-        rw e (part-back (place-laws z) l card (after n) (card-good n (omega arith) .0)
+  module _ (n : ℕ) (h : n < z .sites) (m : List ℕ) (e : m ≡ putPlace z l snapshot (after n)) where
+    snapshot-read : readPlace z m snapshot ≡ after n
+    snapshot-read =
+        rw e (part-back (place-laws z) l snapshot (after n) (after-good n (omega arith) .0)
         (C .area .fits))
 
     site-read : readPlace z m (siteAt z n) ≡ readPlace z l (siteAt z n)
-    site-read = rw e (place-beside z l card (siteAt z n) (after n) (inr (C .behind n h)))
+    site-read = rw e (place-beside z l snapshot (siteAt z n) (after n) (inr (C .behind n h)))
 
-    pub card-formed : So (placeFormed z (readPlace z m card))
+    pub merge-formed : So (placeFormed z (readPlace z m snapshot))
         × So (placeFormed z (readPlace z m (siteAt z n)))
-    card-formed = (
-      rw card-read (place-in z (after n) (card-good n (omega arith) .1)),
+    merge-formed = (
+      rw snapshot-read (place-in z (after n) (after-good n (omega arith) .1)),
       rw site-read (C .formed n h),
     )
 
@@ -144,11 +144,11 @@ module _ (z : Counts) (l : List ℕ) (card sites plan : ℕ) (C : CardArea l z c
     abbrev turned : Place Version → Place Version → Place Version
     turned p q k = cond (testBit sites n && testBit plan k) (merge (p k) (q k)) (p k)
 
-    pub card-turn : (k : List ℕ) → k ≡ putPlace z m card (siteMerged z m card n sites plan)
-        → k ≡ putPlace z l card (after (n + 1))
+    pub merge-turn : (k : List ℕ) → k ≡ putPlace z m snapshot (siteMerged z m snapshot n sites plan)
+        → k ≡ putPlace z l snapshot (after (n + 1))
     unfolding siteMerged sitesMerged foldBelow
-    card-turn k f =
+    merge-turn k f =
         let q = turned (after n) (readPlace z l (siteAt z n)) in
-        let g : k ≡ putPlace z m card q =
-        f ∙ ap₂ (λ (p q : Place Version). putPlace z m card (turned p q)) card-read site-read in
-        rw (add-one n) (g ∙ rw e (place-twice z l card (after n) q (C .area .fits)))
+        let g : k ≡ putPlace z m snapshot q =
+        f ∙ ap₂ (λ (p q : Place Version). putPlace z m snapshot (turned p q)) snapshot-read site-read in
+        rw (add-one n) (g ∙ rw e (place-twice z l snapshot (after n) q (C .area .fits)))

@@ -2,7 +2,7 @@
 -- it is the same as asked in turn, for every algebra.
 -- Assumes nothing.
 use mathlib.Core.Path.{_≡_, refl, sym, ap, _∙_}
-use mathlib.Core.Bool.{Bool, false, not, So, _&&_, _||_}
+use mathlib.Core.Bool.{false, not, _&&_, _||_}
 use mathlib.Core.Logic.{⊎-elim}
 use Prim.Native.Nat.{ℕ, _<_}
 use Rattle.words.specs.Tests.{Items, Within, anyBelow}

@@ -1,7 +1,7 @@
 -- What the parts of prepare leave of a store, and what they ask of a buffer.
 -- fetchedJob, fetchedJobs: the fetch of one job, of the first n jobs. mergedSites: the first n
 -- sites merged. merged: the store with all of them in the run's snapshot. siteMerged: one turn.
--- UsedRun: a run that isn't free. CardArea: a snapshot that the caches are merged into.
+-- UsedRun: a run that isn't free. MergeArea: a snapshot that the caches are merged into.
 -- Assumes nothing.
 use mathlib.Core.Path.{_≡_}
 use mathlib.Core.Bool.{So, _&&_}
@@ -55,9 +55,9 @@ merged s r =
 
 -- The snapshot at an index with the cache of site o merged into it, if both masks allow it.
 unfoldable pub siteMerged : Counts → List ℕ → ℕ → ℕ → ℕ → ℕ → Place Version
-siteMerged z l card o sites plan =
+siteMerged z l snapshot o sites plan =
     choice (λ k. testBit sites o && testBit plan k)
-    (λ k. merge (readPlace z l card k) (readPlace z l (siteAt z o) k)) (readPlace z l card)
+    (λ k. merge (readPlace z l snapshot k) (readPlace z l (siteAt z o) k)) (readPlace z l snapshot)
 
 -- ---- the buffer
 
@@ -68,8 +68,8 @@ pub record UsedRun (l : List ℕ) (z : Counts) (r : ℕ) : Type 0 where
   pub used : 1 ≤ storeOf l .run r .state
 
 -- An empty snapshot at an index behind the caches of the sites, which are in form.
-pub record CardArea (l : List ℕ) (z : Counts) (card : ℕ) : Type 0 where
-  pub area : Area (length l) z card
-  pub behind : (o : ℕ) → o < z .sites → siteAt z o + placeSize z ≤ card
+pub record MergeArea (l : List ℕ) (z : Counts) (snapshot : ℕ) : Type 0 where
+  pub area : Area (length l) z snapshot
+  pub behind : (o : ℕ) → o < z .sites → siteAt z o + placeSize z ≤ snapshot
   pub formed : (o : ℕ) → o < z .sites → So (placeFormed z (readPlace z l (siteAt z o)))
-  pub empty : putPlace z l card emptyPlace ≡ l
+  pub empty : putPlace z l snapshot emptyPlace ≡ l

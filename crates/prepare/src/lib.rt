@@ -13,7 +13,6 @@ use sizes::Counts;
 use states::PREPARE_ROW;
 use status::run_cause;
 use version::held_mask;
-use words::wide;
 ghost use mathlib.Core.Path.{_≡_};
 ghost use mathlib.Core.Bool.{So};
 ghost use Rattle.model.specs.Outcome.{answer};
@@ -62,13 +61,13 @@ pub fn prepare_in(words: &mut [u32], run: u32) -> Prepared
     }
     fetch_jobs(words, z, r);
     merge_run(words, z, r);
-    let card = z.snapshot_at(r);
-    let carried = held_mask(words, z, card);
+    let snapshot = z.snapshot_at(r);
+    let carried = held_mask(words, z, snapshot);
     Prepared::Done(carried)
 }
 
 // The first cause for which a prepare is refused, or 0.
-pub fn prepare_cause(words: &[u32], z: Counts, r: usize) -> u32
+fn prepare_cause(words: &[u32], z: Counts, r: usize) -> u32
     requires { ⌜ FormWith (now words) z ⌝ }
     ensures { λ n. ⌜ n ≡ prepareCause (storeOf (now (words .entry))) r ⌝ }
 {

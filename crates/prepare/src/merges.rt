@@ -19,7 +19,7 @@ ghost use Rattle.layout.specs.Reading.{readPlace, storeOf};
 ghost use Rattle.layout.specs.Stored.{putPlace};
 ghost use Rattle.layout.specs.Buffer.{written};
 ghost use Rattle.version.specs.Places.{Area, Areas};
-ghost use Rattle.prepare.specs.Turns.{UsedRun, CardArea, siteMerged, merged};
+ghost use Rattle.prepare.specs.Turns.{UsedRun, MergeArea, siteMerged, merged};
 
 // Clears the place at an index: it holds nothing.
 pub fn clear_place(words: &mut [u32], z: Counts, at: usize)
@@ -32,32 +32,32 @@ pub fn clear_place(words: &mut [u32], z: Counts, at: usize)
 
 // Merges the cache of site o into the snapshot at an index, cut down to a plan, if the site is
 // one of a mask.
-pub fn merge_site(words: &mut [u32], z: Counts, card: usize, o: usize, sites: u32, plan: u32)
-    requires { ⌜ Areas (length (now words)) z card (siteAt z o) ⌝ }
+pub fn merge_site(words: &mut [u32], z: Counts, snapshot: usize, o: usize, sites: u32, plan: u32)
+    requires { ⌜ Areas (length (now words)) z snapshot (siteAt z o) ⌝ }
     requires { ⌜ o < z .sites ⌝ }
-    requires { ⌜ So (placeFormed z (readPlace z (now words) card))
+    requires { ⌜ So (placeFormed z (readPlace z (now words) snapshot))
         × So (placeFormed z (readPlace z (now words) (siteAt z o))) ⌝ }
-    ensures { λ _. ⌜ now (words .exit) ≡ putPlace z (now (words .entry)) card
-        (siteMerged z (now (words .entry)) card o sites plan) ⌝ }
+    ensures { λ _. ⌜ now (words .exit) ≡ putPlace z (now (words .entry)) snapshot
+        (siteMerged z (now (words .entry)) snapshot o sites plan) ⌝ }
 {
     if has(sites, o as u32) {
         let at = z.site_at(o);
-        merge_keys(words, z, card, at, plan);
+        merge_keys(words, z, snapshot, at, plan);
     }
 }
 
 // Merges the caches of the sites of a mask, lowest number first, into the empty snapshot at an
 // index, cut down to a plan.
-pub fn merge_sites(words: &mut [u32], z: Counts, card: usize, sites: u32, plan: u32)
-    requires { ⌜ CardArea (now words) z card ⌝ }
-    ensures { λ _. ⌜ now (words .exit) ≡ putPlace z (now (words .entry)) card
+pub fn merge_sites(words: &mut [u32], z: Counts, snapshot: usize, sites: u32, plan: u32)
+    requires { ⌜ MergeArea (now words) z snapshot ⌝ }
+    ensures { λ _. ⌜ now (words .exit) ≡ putPlace z (now (words .entry)) snapshot
         (sitesMerged (versions (z .writers)) (z .sites) (testBit sites) (testBit plan)
         (λ o. readPlace z (now (words .entry)) (siteAt z o))) ⌝ }
 {
     let n = z.sites;
     let mut o = 0;
     while o < n {
-        merge_site(words, z, card, o, sites, plan);
+        merge_site(words, z, snapshot, o, sites, plan);
         o += 1;
     }
 }
@@ -70,7 +70,7 @@ pub fn merge_run(words: &mut [u32], z: Counts, r: usize)
 {
     let sites = sites_used(words, z, r);
     let plan = plan_keys(words, z, r);
-    let card = z.snapshot_at(r);
-    clear_place(words, z, card);
-    merge_sites(words, z, card, sites, plan);
+    let snapshot = z.snapshot_at(r);
+    clear_place(words, z, snapshot);
+    merge_sites(words, z, snapshot, sites, plan);
 }

@@ -4,7 +4,6 @@ use mathlib.Core.Path.{_∙_}
 use Prim.Native.Nat.{_<_}
 use borrow.Author.Needs.{needs}
 use lib.ListN.{length}
-use Rattle.version.specs.Places.{Area}
 use Rattle.version.proofs.Stores.{site-area}
 use Rattle.form.proofs.Known.{form-area}
 use Rattle.prepare.proofs.Known.{job-known}

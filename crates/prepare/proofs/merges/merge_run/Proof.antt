@@ -2,7 +2,7 @@
 -- Assumes nothing.
 use borrow.Author.Needs.{needs}
 use Rattle.form.proofs.Known.{form-area}
-use Rattle.prepare.proofs.Carrying.{snapshot-in-place, card-area, run-merged}
+use Rattle.prepare.proofs.Carrying.{snapshot-in-place, merge-area, run-merged}
 use Rattle.prepare.proofs.merges.merge_run.Statement.{statement}
 use Rattle.prepare.proofs.merges.merge_run.Tie as tie
 
@@ -29,7 +29,7 @@ merge-sites-requires c κs =
     let t = k .before .before in
     let s = t .before .before .before .before .before .before in
     let a = s .args in
-    card-area (a .words .now) (a .z) (a .r) (s .pre) _ (t .snapshot-at .ensures) _
+    merge-area (a .words .now) (a .z) (a .r) (s .pre) _ (t .snapshot-at .ensures) _
     (k .clear-place .ensures)
 
 same-length : tie.Need-same-length

@@ -29,13 +29,13 @@ returns c =
     let t = k .before .before in
     let i = t .before in
     let a = i .before .before .before .args in
-    site-merged (a .z) (a .words .now) (a .card) (a .o) (t .site-at .result) (a .sites) (a .plan) _
+    site-merged (a .z) (a .words .now) (a .snapshot) (a .o) (t .site-at .result) (a .sites) (a .plan) _
     (sym (i .before .has .ensures) ∙ i .if1 .taken) (t .site-at .ensures) (k .merge-keys .ensures)
 
 returns-2 : tie.Need-returns-2
 returns-2 c =
     let a = c .before .before .before .args in
-    site-passed (a .z) (a .words .now) (a .card) (a .o) (a .sites) (a .plan)
+    site-passed (a .z) (a .words .now) (a .snapshot) (a .o) (a .sites) (a .plan)
     (sym (c .before .has .ensures) ∙ c .if1 .left)
 
 pub merge-site-spec : {M : Type 1} → statement M

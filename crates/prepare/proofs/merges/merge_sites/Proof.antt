@@ -5,23 +5,23 @@ use Prim.Native.Nat.{ℕ, _≤_, _-_}
 use native.Mathlib.Omega.{arith}
 use lib.ListN.{length}
 use Rattle.layout.specs.Stored.{putPlace}
-use Rattle.prepare.proofs.Merging.{cardAfter, card-start, card-lies, card-formed, card-turn}
+use Rattle.prepare.proofs.Merging.{mergedAfter, merge-start, merge-lies, merge-formed, merge-turn}
 use Rattle.prepare.proofs.merges.merge_sites.Statement.{statement}
 use Rattle.prepare.proofs.merges.merge_sites.Tie as tie
 
 abbrev Inv-loop : tie.InvT-loop
-Inv-loop words₀ z card sites plan n o₀ words o =
+Inv-loop words₀ z snapshot sites plan n o₀ words o =
     (o ≤ n) × (length words ≡ length words₀)
-    × (words ≡ putPlace z words₀ card (cardAfter z words₀ sites plan o))
+    × (words ≡ putPlace z words₀ snapshot (mergedAfter z words₀ sites plan o))
 
 abbrev μ-loop : tie.MeasureT-loop
-μ-loop words₀ z card sites plan n o₀ words o = n - o
+μ-loop words₀ z snapshot sites plan n o₀ words o = n - o
 
 loop-holds : tie.Need-loop-holds Inv-loop μ-loop
 loop-holds c =
     let s = c .before in
     let a = s .args in
-    (omega arith, refl, card-start (a .z) (a .words .now) (a .card) (a .sites) (a .plan) (s .pre))
+    (omega arith, refl, merge-start (a .z) (a .words .now) (a .snapshot) (a .sites) (a .plan) (s .pre))
 
 merge-site-requires : tie.Need-merge-site-requires Inv-loop μ-loop
 merge-site-requires c κs =
@@ -29,11 +29,11 @@ merge-site-requires c κs =
     let s = l .before .before in
     let a = s .args in
     let o = l .loop .o in (
-      rw (l .loop .inv .1) (card-lies (a .z) (a .words .now) (a .card) (a .sites) (a .plan)
+      rw (l .loop .inv .1) (merge-lies (a .z) (a .words .now) (a .snapshot) (a .sites) (a .plan)
           (s .pre) o (omega arith)),
       (
         omega arith,
-        card-formed (a .z) (a .words .now) (a .card) (a .sites) (a .plan) (s .pre) o
+        merge-formed (a .z) (a .words .now) (a .snapshot) (a .sites) (a .plan) (s .pre) o
             (omega arith) (l .loop .words) (l .loop .inv .2),
       ),
     )
@@ -52,7 +52,7 @@ loop-again c =
     let a = s .args in (
       omega arith,
       k .merge-site .kept .0 ∙ l .loop .inv .1,
-      card-turn (a .z) (a .words .now) (a .card) (a .sites) (a .plan) (s .pre) (l .loop .o)
+      merge-turn (a .z) (a .words .now) (a .snapshot) (a .sites) (a .plan) (s .pre) (l .loop .o)
           (omega arith) (l .loop .words) (l .loop .inv .2) _ (k .merge-site .ensures),
     )
 
@@ -65,8 +65,8 @@ returns c =
     let a = l .before .before .args in
     let e : l .loop .o ≡ a .z .sites = omega arith in
     l .loop .inv .2
-    ∙ ap (λ (n : ℕ). putPlace (a .z) (a .words .now) (a .card)
-    (cardAfter (a .z) (a .words .now) (a .sites) (a .plan) n)) e
+    ∙ ap (λ (n : ℕ). putPlace (a .z) (a .words .now) (a .snapshot)
+    (mergedAfter (a .z) (a .words .now) (a .sites) (a .plan) n)) e
 
 pub merge-sites-spec : {M : Type 1} → statement M
 merge-sites-spec =
