@@ -12,7 +12,7 @@ use lib.ListN.{length}
 use Rattle.words.proofs.Bools.{and-left}
 use Rattle.sizes.specs.declared.Counts.{Counts}
 use Rattle.sizes.specs.declared.Sizes.{Sizes}
-use Rattle.sizes.specs.Bounds.{sizesOf, masterAt, siteAt, snapshotAt}
+use Rattle.sizes.specs.Bounds.{sizesOf, masterAt, siteAt}
 use Rattle.model.specs.Algebra.{Place}
 use Rattle.model.specs.Version.{Version}
 use Rattle.model.specs.Store.{withCache}
@@ -20,7 +20,7 @@ use Rattle.model.specs.Form.{placeFormed, wellFormed}
 use Rattle.model.specs.Outcome.{Outcome, refused, answer, unless}
 use Rattle.model.specs.Calls.{StoreCall, ruleOf}
 use Rattle.model.proofs.Formed.{place-in, well-out}
-use Rattle.layout.specs.Reading.{readPlace, countsIn, storeOf}
+use Rattle.layout.specs.Reading.{readPlace, storeOf}
 use Rattle.layout.specs.Stored.{putPlace}
 use Rattle.layout.specs.Buffer.{written, shaped, inForm}
 use Rattle.layout.specs.Calls.{on, callOn, leaves}

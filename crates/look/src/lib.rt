@@ -12,11 +12,12 @@ ghost use Rattle.sizes.specs.Bounds.{Ranged};
 ghost use Rattle.model.specs.Outcome.{answer};
 ghost use Rattle.model.specs.Look.{lookLimit, lookCause};
 ghost use Rattle.model.specs.Calls.{look};
-ghost use Rattle.layout.specs.Reading.{countsIn, storeOf};
+ghost use Rattle.layout.specs.Reading.{storeOf};
 ghost use Rattle.layout.specs.Buffer.{inForm};
 ghost use Rattle.layout.specs.Calls.{on, callOn};
+ghost use Rattle.form.specs.Parts.{FormWith};
 ghost use Rattle.look.specs.Places.{placeAt};
-ghost use Rattle.look.specs.Answer.{shown, RowIn, lookedOn};
+ghost use Rattle.look.specs.Answer.{shown, RowIn};
 
 // The issue number, and the index at which the own row's W counts begin; or the number of the
 // cause for which a look is refused.
@@ -55,8 +56,7 @@ fn place_at(z: Counts, place: u32, i: usize) -> usize
 
 // The cause for which a look is refused, or 0.
 fn cause(words: &[u32], z: Counts, place: u32, i: usize, k: usize) -> u32
-    requires { ⌜ So (inForm (now words)) ⌝ }
-    requires { ⌜ z ≡ countsIn (now words) ⌝ }
+    requires { ⌜ FormWith (now words) z ⌝ }
     ensures { λ r. ⌜ r ≡ lookCause (storeOf (now (words .entry))) place i k ⌝ }
 {
     if 3 <= place {
@@ -76,9 +76,11 @@ fn cause(words: &[u32], z: Counts, place: u32, i: usize, k: usize) -> u32
 }
 
 // A look on a buffer in form.
-fn look_in(words: &[u32], place: u32, number: u32, key: u32) -> Looked
+pub fn look_in(words: &[u32], place: u32, number: u32, key: u32) -> Looked
     requires { ⌜ So (inForm (now words)) ⌝ }
-    ensures { λ r. ⌜ r ≡ lookedOn (now (words .entry)) place number key ⌝ }
+    ensures shows { λ r. ⌜ shown (now (words .entry)) r
+        ≡ answer (callOn (on (look place number key)) (now (words .entry))) ⌝ }
+    ensures row { λ r. ⌜ RowIn (now (words .entry)) r ⌝ }
 {
     let z = counts(words);
     let i = wide(number);
@@ -99,7 +101,6 @@ pub fn look(words: &[u32], place: u32, number: u32, key: u32) -> Looked
     ensures shows { λ r. ⌜ shown (now (words .entry)) r
         ≡ answer (callOn (on (look place number key)) (now (words .entry))) ⌝ }
     ensures row { λ r. ⌜ RowIn (now (words .entry)) r ⌝ }
-    ensures settles { λ r. ⌜ r ≡ lookedOn (now (words .entry)) place number key ⌝ }
 {
     if !in_form(words) {
         return Looked::Refused(1);

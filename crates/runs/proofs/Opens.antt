@@ -1,10 +1,10 @@
--- What open comes to: refused on a buffer not in form, refused by its cause, or done.
+-- What open comes to on a buffer in form: refused by its cause, or done.
 -- cause-run, cause-list: its cause, as the code tests it. OpenReady, open-ready: no cause.
 -- Assumes nothing.
 use mathlib.Core.Path.{_≡_, refl, _∙_}
 use mathlib.Core.Bool.{Bool, true, false, cond, not, So, false≢true}
 use mathlib.Core.Logic.{_≢_}
-use mathlib.Core.List.{List}
+use mathlib.Core.List.{List, [], _∷_}
 use Prim.Native.Nat.{ℕ, zero, suc, _<_}
 use native.Mathlib.Omega.{arith}
 use lib.Dec.{eqb, leb}
@@ -13,20 +13,21 @@ use Rattle.words.proofs.Bools.{leb-gt, ne-eqb}
 use Rattle.sizes.specs.declared.Counts.{Counts}
 use Rattle.sizes.specs.Bounds.{runAt}
 use Rattle.model.specs.Store.{Store, freeRun}
-use Rattle.model.specs.Outcome.{openRow, refuse, unless, allowed}
+use Rattle.model.specs.Outcome.{openRow, answer, refuse, unless, allowed}
 use Rattle.model.specs.Runs.{listedCount, listValid, openCause, openDone, openRule, openedRun}
 use Rattle.model.specs.Calls.{openRun, ruleOf}
 use Rattle.layout.specs.Reading.{storeOf, readRun}
 use Rattle.layout.specs.Buffer.{inForm}
-use Rattle.layout.specs.Calls.{on, callOn, leaves}
+use Rattle.layout.specs.Calls.{leaves}
 use Rattle.layout.proofs.Parts.{run-laws}
 use Rattle.model.proofs.Outcomes.{no-cause, no-lack}
 use Rattle.layout.proofs.KeptOpen.{Listed, list-out}
-use Rattle.layout.proofs.Forms.{no-form, form-refused, form-done}
-use Rattle.runs.specs.declared.Opened.{Opened}
-use Rattle.runs.specs.Runs.{opened, runCause, FormWith, putJobs}
-use Rattle.runs.proofs.Freed.{free-is}
-use Rattle.runs.proofs.Known.{form-counts, area-ends, run-known, run-stored}
+use Rattle.form.specs.Parts.{FormWith}
+use Rattle.form.proofs.Known.{form-counts, Ends, ends-refused, ends-done}
+use Rattle.status.specs.Status.{runCause}
+use Rattle.status.proofs.Freed.{free-is}
+use Rattle.status.proofs.Known.{area-ends, run-known, run-stored}
+use Rattle.runs.specs.Runs.{putJobs}
 use Rattle.runs.proofs.Started.{jobs-stored}
 
 -- ---- its cause
@@ -96,36 +97,23 @@ open-rule : (r : ℕ) (jobs : List ℕ) (s : Store)
 unfolding ruleOf openRule
 open-rule r jobs s = refl
 
--- The answer x, and the buffer m after the call.
-abbrev pub OpenEnds : List ℕ → ℕ → List ℕ → Opened → List ℕ → Type 0
-OpenEnds l r jobs x m =
-    (x ≡ opened (callOn (on (openRun r jobs)) l))
-    × (m ≡ leaves (callOn (on (openRun r jobs)) l) l)
-
-pub open-unformed : (l : List ℕ) (r : ℕ) (jobs : List ℕ) → inForm l ≡ false
-    → OpenEnds l r jobs (Opened.Refused 1) l
-unfolding opened leaves
-open-unformed l r jobs e = rw (no-form (openRun r jobs) l e) (refl, refl)
-
 pub open-refused : (l : List ℕ) (r : ℕ) (jobs : List ℕ) (n : ℕ) → So (inForm l)
-    → n ≡ openCause (storeOf l) r jobs → n ≢ 0 → OpenEnds l r jobs (Opened.Refused n) l
-unfolding opened leaves
+    → n ≡ openCause (storeOf l) r jobs → n ≢ 0 → Ends (openRun r jobs) l (2 ∷ n ∷ []) l
 open-refused l r jobs n F e h =
     let s = storeOf l in
     let rule : ruleOf (openRun r jobs) s ≡ unless n (openDone s r jobs) =
     rw e (open-rule r jobs s) in
-    rw (form-refused (openRun r jobs) l n (openDone s r jobs) F rule h) (refl, refl)
+    ends-refused (openRun r jobs) l n (openDone s r jobs) F rule h
 
 pub open-done : (l : List ℕ) (z : Counts) (r : ℕ) (jobs m : List ℕ) → FormWith l z
     → openCause (storeOf l) r jobs ≡ 0 → m ≡ putJobs l (runAt z r) jobs
-    → OpenEnds l r jobs (Opened.Done (listedCount jobs)) m
-unfolding opened leaves openDone
+    → Ends (openRun r jobs) l (0 ∷ listedCount jobs ∷ []) m
+unfolding answer leaves openDone
 open-done l z r jobs m H e f =
     let s = storeOf l in
     let R = open-ready l z r jobs H e in
-    let ends = area-ends _ z _ (run-known l z r H (R .run) .area) in
-    rw (form-done (openRun r jobs) l _ (openDone s r jobs) (H .form) (open-rule r jobs s) e) (
-      refl,
-      f ∙ jobs-stored z l (runAt z r) jobs (R .listed) ends (R .free)
-          ∙ run-stored l z r (openedRun jobs) H (R .run),
-    )
+    let end = area-ends _ z _ (run-known l z r H (R .run) .area) in
+    ends-done (openRun r jobs) l (openCause s r jobs) (openDone s r jobs) (H .form)
+    (open-rule r jobs s) e (0 ∷ listedCount jobs ∷ []) m refl
+    (f ∙ jobs-stored z l (runAt z r) jobs (R .listed) end (R .free)
+    ∙ run-stored l z r (openedRun jobs) H (R .run))

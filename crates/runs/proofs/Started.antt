@@ -24,9 +24,10 @@ use Rattle.layout.proofs.Parts.{jobs-laws, run-laws}
 use Rattle.layout.proofs.Windows.{part-again, part-twice}
 use Rattle.layout.proofs.Readings.{job-at}
 use Rattle.layout.proofs.KeptOpen.{Listed, job-in, job-out}
-use Rattle.runs.specs.Runs.{putRun, putJobs}
-use Rattle.runs.proofs.Copies.{put-list, sets-front}
-use Rattle.runs.proofs.Freed.{no-jobs-words}
+use Rattle.layout.specs.Stored.{putRun}
+use Rattle.status.proofs.Copies.{put-list, sets-front}
+use Rattle.status.proofs.Freed.{no-jobs-words}
+use Rattle.runs.specs.Runs.{putJobs}
 
 -- ---- the list of jobs, as words
 

@@ -1,25 +1,26 @@
 // Open and drop: a run begins, and is freed. Each call tests its causes before it stores a word.
 pub mod jobs;
-pub mod run;
 
 use form::header::counts;
 use form::in_form;
 use jobs::list_valid;
 use jobs::put_jobs;
-use run::clear_run;
-use run::run_cause;
 use sizes::Counts;
 use states::DROP_ROW;
 use states::OPEN_ROW;
+use status::clear_run;
+use status::run_cause;
 use words::wide;
 ghost use mathlib.Core.Path.{_≡_};
 ghost use mathlib.Core.Bool.{So};
+ghost use Rattle.model.specs.Outcome.{answer};
 ghost use Rattle.model.specs.Runs.{openCause};
 ghost use Rattle.model.specs.Calls.{openRun, dropRun};
 ghost use Rattle.layout.specs.Reading.{storeOf};
 ghost use Rattle.layout.specs.Buffer.{inForm};
 ghost use Rattle.layout.specs.Calls.{on, callOn, leaves};
-ghost use Rattle.runs.specs.Runs.{opened, dropped, FormWith};
+ghost use Rattle.form.specs.Parts.{FormWith};
+ghost use Rattle.runs.specs.Runs.{openedWords, droppedWords};
 
 // The number of jobs, or the cause's number.
 pub enum Opened {
@@ -36,9 +37,11 @@ pub enum Dropped {
 // Drop on a buffer in form.
 pub fn drop_in(words: &mut [u32], run: u32) -> Dropped
     requires { ⌜ So (inForm (now words)) ⌝ }
-    ensures answers { λ r. ⌜ r ≡ dropped (callOn (on (dropRun run)) (now (words .entry))) ⌝ }
+    ensures answers { λ r. ⌜ droppedWords r
+        ≡ answer (callOn (on (dropRun run)) (now (words .entry))) ⌝ }
     ensures leaves { λ _. ⌜ now (words .exit)
         ≡ leaves (callOn (on (dropRun run)) (now (words .entry))) (now (words .entry)) ⌝ }
+    ensures form { λ _. ⌜ (So (inForm (now (words .entry))) → So (inForm (now (words .exit)))) ⌝ }
 {
     let r = wide(run);
     let z = counts(words);
@@ -53,11 +56,11 @@ pub fn drop_in(words: &mut [u32], run: u32) -> Dropped
 
 // Frees the run.
 pub fn drop(words: &mut [u32], run: u32) -> Dropped
-    ensures answers { λ r. ⌜ r ≡ dropped (callOn (on (dropRun run)) (now (words .entry))) ⌝ }
+    ensures answers { λ r. ⌜ droppedWords r
+        ≡ answer (callOn (on (dropRun run)) (now (words .entry))) ⌝ }
     ensures leaves { λ _. ⌜ now (words .exit)
         ≡ leaves (callOn (on (dropRun run)) (now (words .entry))) (now (words .entry)) ⌝ }
-    ensures keeps { λ _. ⌜ (So (inForm (now (words .entry)))
-        → So (inForm (now (words .exit)))) ⌝ }
+    ensures form { λ _. ⌜ (So (inForm (now (words .entry))) → So (inForm (now (words .exit)))) ⌝ }
 {
     if !in_form(words) {
         return Dropped::Refused(1);
@@ -83,11 +86,12 @@ pub fn open_cause(words: &[u32], z: Counts, r: usize, jobs: &[u32]) -> u32
 // Open on a buffer in form.
 pub fn open_in(words: &mut [u32], run: u32, jobs: &[u32]) -> Opened
     requires { ⌜ So (inForm (now words)) ⌝ }
-    ensures answers { λ r. ⌜ r
-        ≡ opened (callOn (on (openRun run (now (jobs .entry)))) (now (words .entry))) ⌝ }
+    ensures answers { λ r. ⌜ openedWords r
+        ≡ answer (callOn (on (openRun run (now (jobs .entry)))) (now (words .entry))) ⌝ }
     ensures leaves { λ _. ⌜ now (words .exit)
         ≡ leaves (callOn (on (openRun run (now (jobs .entry)))) (now (words .entry)))
         (now (words .entry)) ⌝ }
+    ensures form { λ _. ⌜ (So (inForm (now (words .entry))) → So (inForm (now (words .exit)))) ⌝ }
 {
     let r = wide(run);
     let z = counts(words);
@@ -102,13 +106,12 @@ pub fn open_in(words: &mut [u32], run: u32, jobs: &[u32]) -> Opened
 
 // Begins a run of the jobs in a list, three words for each. The list may have any length.
 pub fn open(words: &mut [u32], run: u32, jobs: &[u32]) -> Opened
-    ensures answers { λ r. ⌜ r
-        ≡ opened (callOn (on (openRun run (now (jobs .entry)))) (now (words .entry))) ⌝ }
+    ensures answers { λ r. ⌜ openedWords r
+        ≡ answer (callOn (on (openRun run (now (jobs .entry)))) (now (words .entry))) ⌝ }
     ensures leaves { λ _. ⌜ now (words .exit)
         ≡ leaves (callOn (on (openRun run (now (jobs .entry)))) (now (words .entry)))
         (now (words .entry)) ⌝ }
-    ensures keeps { λ _. ⌜ (So (inForm (now (words .entry)))
-        → So (inForm (now (words .exit)))) ⌝ }
+    ensures form { λ _. ⌜ (So (inForm (now (words .entry))) → So (inForm (now (words .exit)))) ⌝ }
 {
     if !in_form(words) {
         return Opened::Refused(1);

@@ -1,5 +1,7 @@
 // The least sets T, E and C as masks of keys, from the places of a buffer, and the caches that T
 // and E leave.
+pub mod missing;
+
 use masks::has;
 use masks::with_if;
 use reach::grow;

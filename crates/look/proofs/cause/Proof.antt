@@ -23,7 +23,7 @@ returns c =
     let s = c .before .before in
     let a = s .args in
     rw (
-      cause-in (a .words .now) (a .z) (s .pre .1) (a .place) (a .i) (a .k),
+      cause-in (a .words .now) (a .z) (s .pre .counts) (a .place) (a .i) (a .k),
       le-leb 3 (a .place) (omega arith),
     )
 
@@ -41,7 +41,7 @@ returns-2 c =
     let s = b .before .before .before in
     let a = s .args in
     rw (
-      cause-in (a .words .now) (a .z) (s .pre .1) (a .place) (a .i) (a .k),
+      cause-in (a .words .now) (a .z) (s .pre .counts) (a .place) (a .i) (a .k),
       lt-leb _ _ (kind (b .before)),
       ← b .limit .ensures,
       le-leb (b .limit .result) (a .i) (omega arith),
@@ -59,7 +59,7 @@ returns-3 c =
     let s = n .before .before .before .before in
     let a = s .args in
     rw (
-      cause-in (a .words .now) (a .z) (s .pre .1) (a .place) (a .i) (a .k),
+      cause-in (a .words .now) (a .z) (s .pre .counts) (a .place) (a .i) (a .k),
       lt-leb _ _ (kind (n .before .before)),
       lt-leb _ _ (number n),
       le-leb (a .z .keys) (a .k) (omega arith),
@@ -76,7 +76,7 @@ area c =
     let n = c .before .before in
     let s = n .before .before .before .before in
     let a = s .args in
-    area-in (a .words .now) (a .z) (s .pre .1) (a .place) (a .i) (s .pre .0) (number n)
+    area-in (a .words .now) (a .z) (s .pre .counts) (a .place) (a .i) (s .pre .form) (number n)
 
 place-at-requires : tie.Need-place-at-requires
 place-at-requires c κs = (area c .ranged, number (c .before .before))
@@ -96,11 +96,11 @@ last c =
     let s = n .before .before .before .before in
     let a = s .args in
     rw (
-      cause-in (a .words .now) (a .z) (s .pre .1) (a .place) (a .i) (a .k),
+      cause-in (a .words .now) (a .z) (s .pre .counts) (a .place) (a .i) (a .k),
       lt-leb _ _ (kind (n .before .before)),
       lt-leb _ _ (number n),
       lt-leb _ _ (key e),
-      held-in (a .words .now) (a .z) (s .pre .1) (a .place) (a .i) (a .k) (number n),
+      held-in (a .words .now) (a .z) (s .pre .counts) (a .place) (a .i) (a .k) (number n),
       ← c .before .place-at .ensures,
       ← c .held .ensures,
     )

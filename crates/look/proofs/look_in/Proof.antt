@@ -7,8 +7,9 @@ use native.Mathlib.Omega.{arith}
 use lib.ListN.{length}
 use Rattle.version.specs.Places.{Area}
 use Rattle.version.proofs.Areas.{issue-in}
+use Rattle.form.proofs.Known.{form-long}
 use Rattle.look.specs.Places.{placeAt, ownRowAt}
-use Rattle.look.proofs.Answers.{form-long, area-in, Found, found, look-refused, look-done}
+use Rattle.look.proofs.Answers.{area-in, Found, found, look-refused, look-done}
 use Rattle.look.proofs.look_in.Statement.{statement}
 use Rattle.look.proofs.look_in.Tie as tie
 
@@ -109,7 +110,7 @@ returns-2 c =
       v .before .place-at .ensures,
     )
     (look-done (a .words .now) (a .place) (i .wide .result) (k .wide2 .result)
-    (n .counts .result) (n .counts .ensures) (there e))
+    (n .counts .result) (n .counts .ensures) (n .before .before .pre) (there e))
 
 pub look-in-spec : {M : Type 1} → statement M
 look-in-spec =

@@ -6,8 +6,12 @@ use borrow.Author.Needs.{needs}
 use Rattle.model.specs.Store.{freeRun}
 use Rattle.model.specs.Outcome.{dropRow}
 use Rattle.layout.specs.Reading.{storeOf}
-use Rattle.runs.specs.Runs.{FormWith, putRun, runCause}
-use Rattle.runs.proofs.Known.{form-long, RunKnown, run-known, cause-below}
+use Rattle.layout.specs.Stored.{putRun}
+use Rattle.form.specs.Parts.{FormWith}
+use Rattle.form.proofs.Known.{form-long}
+use Rattle.status.specs.Status.{runCause}
+use Rattle.status.proofs.Known.{RunKnown, run-known, cause-below}
+use Rattle.runs.specs.Runs.{droppedWords}
 use Rattle.runs.proofs.Drops.{drop-refused, drop-done}
 use Rattle.runs.proofs.drop_in.Statement.{statement}
 use Rattle.runs.proofs.drop_in.Tie as tie
@@ -26,6 +30,7 @@ same-length : tie.Need-same-length
 same-length c = search needs
 
 returns : tie.Need-returns
+unfolding droppedWords
 returns c =
     let w = c .before .before .before .before .before in
     let s = w .before .before in
@@ -64,6 +69,7 @@ same-length-2 : tie.Need-same-length-2
 same-length-2 c = search needs
 
 returns-2 : tie.Need-returns-2
+unfolding droppedWords
 returns-2 c =
     let p = c .before .before .before .before in
     let e = p .before in

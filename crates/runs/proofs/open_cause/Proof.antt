@@ -6,7 +6,7 @@ use borrow.Author.Needs.{needs}
 use Rattle.model.specs.Outcome.{refuse}
 use Rattle.model.specs.Runs.{openCause}
 use Rattle.layout.specs.Reading.{storeOf}
-use Rattle.runs.proofs.Known.{form-area}
+use Rattle.form.proofs.Known.{form-area}
 use Rattle.runs.proofs.Opens.{cause-run, cause-list}
 use Rattle.runs.proofs.open_cause.Statement.{statement}
 use Rattle.runs.proofs.open_cause.Tie as tie

@@ -6,8 +6,10 @@ use borrow.Author.Needs.{needs}
 use native.Mathlib.Omega.{arith}
 use Rattle.model.specs.Runs.{openCause}
 use Rattle.layout.specs.Reading.{storeOf}
-use Rattle.runs.specs.Runs.{FormWith, putJobs}
-use Rattle.runs.proofs.Known.{form-long, RunKnown, run-known}
+use Rattle.form.specs.Parts.{FormWith}
+use Rattle.form.proofs.Known.{form-long}
+use Rattle.status.proofs.Known.{RunKnown, run-known}
+use Rattle.runs.specs.Runs.{openedWords, putJobs}
 use Rattle.runs.proofs.Opens.{OpenReady, open-ready, open-refused, open-done}
 use Rattle.runs.proofs.open_in.Statement.{statement}
 use Rattle.runs.proofs.open_in.Tie as tie
@@ -26,6 +28,7 @@ same-length : tie.Need-same-length
 same-length c = search needs
 
 returns : tie.Need-returns
+unfolding openedWords
 returns c =
     let w = c .before .before .before .before .before in
     let s = w .before .before .before in
@@ -70,6 +73,7 @@ same-length-2 : tie.Need-same-length-2
 same-length-2 c = search needs
 
 returns-2 : tie.Need-returns-2
+unfolding openedWords
 returns-2 c =
     let put = c .before .before .put-jobs .ensures in
     let p = c .before .before .before .before in
