@@ -1,6 +1,6 @@
 -- A job's step as the words of a buffer have it: what it looks at, the sets T and C, and what it
 -- leaves.
--- visitOf: what a step looks at. wantedOf, startOf, takenOf (T), fetchedOf, pulledOf (C),
+-- visitOf, runVisit: what a step looks at. wantedOf, startOf, takenOf (T), fetchedOf, pulledOf (C),
 -- snapshotOf, trialOf: what it finds. VisitArea, VisitFormed: what is asked of the places.
 -- finished: the words that it leaves.
 -- Assumes nothing.
@@ -12,7 +12,7 @@ use lib.ListN.{getD, set}
 use Rattle.words.specs.Tests.{Items}
 use Rattle.masks.specs.Mask.{testBit, withBit, maskBelow}
 use Rattle.sizes.specs.declared.Counts.{Counts}
-use Rattle.sizes.specs.Bounds.{placeSize, masterAt, siteAt}
+use Rattle.sizes.specs.Bounds.{placeSize, masterAt, siteAt, runAt, snapshotAt}
 use Rattle.model.specs.Algebra.{Place, lacking}
 use Rattle.model.specs.Version.{Version, versions}
 use Rattle.model.specs.Sets.{fetchSet, fetched, pullSet, pulled}
@@ -37,6 +37,10 @@ visitOf z l at snapshot read j =
       reads = a .job j .reads;
       read = getD l read 0;
     }
+
+-- Job j of run r, with the run's own snapshot and read mask.
+abbrev pub runVisit : Counts → List ℕ → ℕ → ℕ → Visit
+runVisit z l r j = visitOf z l (runAt z r) (snapshotAt z r) (runAt z r + 3) j
 
 module _ (z : Counts) (l : List ℕ) (v : Visit) where
   -- "every sheet of R that the card lacks"

@@ -11,8 +11,8 @@ use masks::without;
 use sets::View;
 use sets::draw_set;
 use sets::fetch_set;
-use sets::is_unfetchable;
-use sets::lacking;
+use sets::missing::is_unfetchable;
+use sets::missing::lacking;
 use sizes::Counts;
 use states::BROKEN_STATE;
 use version::copy_keys;
@@ -33,7 +33,8 @@ ghost use Rattle.layout.specs.Buffer.{inForm};
 ghost use Rattle.layout.specs.Calls.{on, callOn, leaves};
 ghost use Rattle.form.specs.Parts.{RunArea, FormWith};
 ghost use Rattle.step.specs.Answers.{steppedWords};
-ghost use Rattle.step.specs.Visits.{visitOf, startOf, trialOf, finished, VisitArea, VisitFormed};
+ghost use Rattle.step.specs.Jobs.{jobCause};
+ghost use Rattle.step.specs.Visits.{visitOf, runVisit, startOf, trialOf, finished, VisitArea, VisitFormed};
 
 // The reads from the snapshot, from the cache and from the master; or the keys that would move
 // though the run has read them; or the cause's number.
@@ -91,8 +92,7 @@ pub fn step_in(words: &mut [u32], run: u32, job: u32) -> Stepped
         return Stepped::Refused(cause);
     }
     let at = z.run_at(r);
-    let snapshot = z.snapshot_at(r);
-    let visit = visit_of(words, z, at, snapshot, at + 3, j);
+    let visit = run_visit(words, z, r, j);
     let trial = try_visit(words, z, visit);
     let moved = trial.pulled & visit.read;
     if moved != 0 {
@@ -116,14 +116,23 @@ pub fn step_cause(words: &[u32], z: Counts, r: usize, j: usize) -> u32
     if cause != 0 {
         return cause;
     }
-    let at = z.run_at(r);
-    let snapshot = z.snapshot_at(r);
-    let visit = visit_of(words, z, at, snapshot, at + 3, j);
+    let visit = run_visit(words, z, r, j);
     let start = start_of(words, z, visit);
     if is_unfetchable(words, z, visit.master, start) {
         return 7;
     }
     0
+}
+
+// What a step of job j of run r looks at, with the run's own snapshot and read mask.
+pub fn run_visit(words: &[u32], z: Counts, r: usize, j: usize) -> Visit
+    requires { ⌜ FormWith (now words) z ⌝ }
+    requires { ⌜ (r < z .runs) × (jobCause (storeOf (now words)) r j ≡ 0) ⌝ }
+    ensures { λ v. ⌜ v ≡ runVisit z (now (words .entry)) r j ⌝ }
+{
+    let at = z.run_at(r);
+    let snapshot = z.snapshot_at(r);
+    visit_of(words, z, at, snapshot, at + 3, j)
 }
 
 // What a step of job j looks at, of the run at an index. The snapshot and the read mask are the
