@@ -10,7 +10,7 @@ use lib.ListN.{length, getD}
 use Rattle.words.specs.Tests.{Items}
 use Rattle.masks.specs.Mask.{testBit}
 use Rattle.sizes.specs.declared.Counts.{Counts}
-use Rattle.sizes.specs.Bounds.{siteSize, runAt, snapshotAt}
+use Rattle.sizes.specs.Bounds.{siteSize, siteAt, runAt, snapshotAt}
 use Rattle.sizes.proofs.Offsets.{ordered, site-lies, run-lies, snapshot-lies}
 use Rattle.model.specs.Store.{Run}
 use Rattle.model.specs.Step.{stepSite, stepReads, stepStart, stepFetch, stepCache, stepPlan, stepPull, stepSnapshot, stepMoved}
@@ -73,10 +73,13 @@ module _ (l : List ℕ) (z : Counts) (r j : ℕ) (H : FormWith l z) (Y : Ready l
   unfolding stepSnapshot snapshotOf
   seen-snapshot = rw (seen-cache, seen-plan, seen-reads, old-snapshot, form-counts l z H)
 
-  seen-read : storeOf l .run r .read ≡ runVisit z l r j .read
+  pub seen-read : storeOf l .run r .read ≡ runVisit z l r j .read
   unfolding visitOf
   seen-read =
       ap (λ (a : Run). a .read) (Y .known .run ∙ run-words z l (runAt z r))
+
+  pub seen-done : storeOf l .run r .done ≡ getD l (runAt z r + 2) 0
+  seen-done = ap (λ (a : Run). a .done) (Y .known .run ∙ run-words z l (runAt z r))
 
   pub seen-moved : stepMoved (storeOf l) r j
       ≡ (λ k. pulledOf z l (runVisit z l r j) k && testBit (runVisit z l r j .read) k)
@@ -84,6 +87,18 @@ module _ (l : List ℕ) (z : Counts) (r j : ℕ) (H : FormWith l z) (Y : Ready l
   seen-moved = fun-ext (λ k. rw (seen-pull, seen-read))
 
   -- ---- the visit
+
+  pub visit-cache : runVisit z l r j .cache ≡ siteAt z (stepSite (storeOf l) r j)
+  unfolding visitOf
+  visit-cache = ap (siteAt z) (sym seen-site)
+
+  pub visit-snapshot : runVisit z l r j .snapshot ≡ snapshotAt z r
+  unfolding visitOf
+  visit-snapshot = refl
+
+  pub visit-mask : runVisit z l r j .reads ≡ storeOf l .run r .job j .reads
+  unfolding visitOf
+  visit-mask = ap (λ (a : Run). a .job j .reads) (sym (Y .known .run))
 
   pub visit-reads : runVisit z l r j .reads < 2 ^ z .keys
   unfolding visitOf

@@ -6,7 +6,7 @@ use mathlib.Core.Path.{_≡_, refl, sym, ap, _∙_}
 use mathlib.Core.Bool.{Bool, true, false, cond, So, _&&_}
 use mathlib.Core.Logic.{_≢_}
 use mathlib.Core.List.{List, [], _∷_}
-use Prim.Native.Nat.{ℕ, suc, _+_, _<_}
+use Prim.Native.Nat.{ℕ, suc, _+_, _<_, _^_}
 use native.Mathlib.Omega.{arith}
 use lib.Bits.{bitAnd, bitOr}
 use lib.ListN.{getD, set}
@@ -37,7 +37,7 @@ use Rattle.step.specs.Jobs.{jobCause}
 use Rattle.step.specs.Visits.{visitOf, runVisit, takenOf, fetchedOf, pulledOf, snapshotOf, trialOf, finished}
 use Rattle.step.proofs.Divisions.{from-snapshot, from-cache, from-master, moved-mask, moved-some, moved-none}
 use Rattle.step.proofs.Jobs.{Ready, job-ready, step-free}
-use Rattle.step.proofs.Seen.{seen-reads, seen-site, seen-fetch, seen-cache, seen-pull, seen-snapshot, seen-moved, visit-reads}
+use Rattle.step.proofs.Seen.{seen-site, seen-reads, seen-fetch, seen-cache, seen-pull, seen-snapshot, seen-read, seen-done, seen-moved, visit-cache, visit-snapshot, visit-mask, visit-reads}
 
 -- ---- no cause
 
@@ -64,6 +64,39 @@ step-refused l r j n F e h =
     let s = storeOf l in
     let rule : ruleOf (step r j) s ≡ unless n (act s r j) = rw e (step-rule r j s) in
     ends-refused (step r j) l n (act s r j) F rule h
+
+-- ---- what is stored
+
+-- The snapshot, then the done and the read mask.
+run-stepped : (s : Store) (l : List ℕ) (r : ℕ) (q : Place Version) (x y : ℕ)
+    → r < s .counts .runs → let z = s .counts in
+    set (set (putPlace z (written s l) (snapshotAt z r) q) (runAt z r + 2) x) (runAt z r + 3) y
+    ≡ written (withRun s r (withJobDone (s .run r) x y q)) l
+unfolding withRun withSnapshot withJobDone
+run-stepped s l r q x y h =
+    let z = s .counts in
+    let a = withSnapshot (s .run r) q in
+    let t = withRun s r a in
+    let here : t .run r ≡ a = putAt-same (s .run) r a in
+    let next : runAt z r + 3 ≡ suc (runAt z r + 2) = omega arith in
+    let after : Run → Store = λ b. withRun t r (withJobDone b x y (b .snapshot)) in
+    rw (put-snapshot s l r q h, next)
+    (put-masks t l r x y h ∙ ap (λ (b : Run). written (after b) l) here
+    ∙ ap (λ (s : Store). written s l) (run-twice s r a (withJobDone a x y q)))
+
+-- The cache before them.
+step-stored : (l : List ℕ) (z : Counts) (r o : ℕ) (p q : Place Version) (x y : ℕ) → FormWith l z
+    → r < z .runs → o < z .sites
+    → set (set (putPlace z (putPlace z l (siteAt z o) p) (snapshotAt z r) q) (runAt z r + 2) x)
+    (runAt z r + 3) y
+    ≡ written (withRun (withCache (storeOf l) o p) r
+    (withJobDone (storeOf l .run r) x y q)) l
+unfolding withCache withSites
+step-stored l z r o p q x y H h i =
+    let s = storeOf l in
+    let same = form-counts l z H in
+    rw (cache-stored l z H o p i, ← same)
+    (run-stepped (withCache s o p) l r q x y (rw same h))
 
 -- ---- broken, or done
 
@@ -111,3 +144,54 @@ module _ (l : List ℕ) (z : Counts) (r j : ℕ) (H : FormWith l z)
           rw (← form-counts l z H)
           (put-state s l r brokenState (rw (form-counts l z H) (Y .run))) in
           ap (λ (m : List ℕ). set m (runAt z r) brokenState) (sym (form-again l z H)) ∙ put
+
+  -- The three masks.
+  divided : 0 ∷ without (v .reads) (t .pulled)
+      ∷ without (bitAnd (v .reads) (t .pulled)) (t .taken)
+      ∷ bitAnd (bitAnd (v .reads) (t .pulled)) (t .taken) ∷ []
+      ≡ answer (stepDone s r j)
+  unfolding answer stepDone
+  divided =
+      let K = z .keys in
+      let low : v .reads < 2 ^ K = rw seen (visit-reads l z r j H Y) in
+      let C = pulledOf z l v in
+      let T = takenOf z l v in
+      let a = from-snapshot K (v .reads) (t .pulled) (t .taken) C T low pulled taken in
+      let b = from-cache K (v .reads) (t .pulled) (t .taken) C T low pulled taken in
+      let c = from-master K (v .reads) (t .pulled) (t .taken) C T low pulled taken in
+      rw (
+        seen-reads l z r j H Y,
+        seen-pull l z r j H Y,
+        seen-fetch l z r j H Y,
+        form-counts l z H,
+        ← seen,
+      )
+      (λ i. 0 ∷ a i ∷ b i ∷ c i ∷ [])
+
+  stepped : finished z l v (runAt z r + 2) (runAt z r + 3) j ≡ leaves (stepDone s r j) l
+  unfolding finished leaves stepDone
+  stepped =
+      rw (
+        seen,
+        ← seen-cache l z r j H Y,
+        ← seen-snapshot l z r j H Y,
+        ← seen-done l z r j H Y,
+        ← seen-read l z r j H Y,
+        visit-cache l z r j H Y,
+        visit-snapshot l z r j H Y,
+        visit-mask l z r j H Y,
+      )
+      (step-stored l z r (stepSite s r j) (stepCache s r j) (stepSnapshot s r j) _ _ H (Y .run)
+      (rw (seen-site l z r j H Y) (Y .valid .site)))
+
+  pub step-done : (m : List ℕ) → bitAnd (t .pulled) (v .read) ≡ 0
+      → m ≡ finished z l v (runAt z r + 2) (runAt z r + 3) j
+      → Ends (step r j) l (0 ∷ without (v .reads) (t .pulled)
+      ∷ without (bitAnd (v .reads) (t .pulled)) (t .taken)
+      ∷ bitAnd (bitAnd (v .reads) (t .pulled)) (t .taken) ∷ []) m
+  step-done m h e =
+      let none = moved-none (z .keys) (t .pulled) (v .read) (pulledOf z l v) pulled h in
+      let rule : ruleOf (step r j) s ≡ unless (stepCause s r j) (stepDone s r j) =
+      step-rule r j s ∙ rw (moved ∙ none) in
+      ends-done (step r j) l (stepCause s r j) (stepDone s r j) (H .form) rule free _ m
+      divided (e ∙ stepped)
