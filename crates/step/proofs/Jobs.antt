@@ -1,5 +1,5 @@
 -- The causes of step by its run and job, as the code tests them.
--- limit-in, state-in, unready-in: the parts of a cause, by the words. Ready, ready: what holds of
+-- run-job: a job. limit-in, state-in, unready-in: the parts of a cause, by the words. Ready, ready: what holds of
 -- a job in range of an open run. job-ready: where no cause holds. step-high, step-below: the whole
 -- cause.
 -- Assumes nothing.
@@ -22,13 +22,25 @@ use Rattle.model.specs.Step.{stepStart, jobLimit, notReady, stepCause}
 use Rattle.model.proofs.Outcomes.{no-cause, no-lack, allowed-used}
 use Rattle.model.proofs.Plans.{Plan, plan-out, Valid, valid-out}
 use Rattle.layout.specs.Reading.{readRun, storeOf}
-use Rattle.form.specs.Parts.{FormWith}
+use Rattle.form.specs.Parts.{jobOf, FormWith}
 use Rattle.form.proofs.Known.{form-counts}
 use Rattle.form.proofs.Runs.{run-words, job-words}
 use Rattle.status.proofs.Known.{RunKnown, run-known}
 use Rattle.step.specs.Jobs.{limitOf, unready, jobCause}
 
 -- ---- by the words of the run
+
+-- Job j of the run at an index.
+pub run-job : (z : Counts) (l : List ℕ) (at j : ℕ) → j < maxJobs → let i = at + 4 + j * 3 in
+    readRun z l at .job j ≡ jobOf (getD l i 0) (getD l (i + 1) 0) (getD l (i + 2) 0)
+run-job z l at j h =
+    ap (λ (a : Run). a .job j) (run-words z l at) ∙ job-words l (at + 4) j h
+
+upstream-word : (z : Counts) (l : List ℕ) (at j : ℕ) → j < maxJobs
+    → readRun z l at .job j .upstream ≡ getD l (at + 6 + j * 3) 0
+upstream-word z l at j h =
+    ap (λ (x : Job). x .upstream) (run-job z l at j h)
+    ∙ ap (λ (i : ℕ). getD l i 0) (omega arith)
 
 module _ (l : List ℕ) (z : Counts) (r j : ℕ) (K : RunKnown l z r) where
   pub limit-in : jobLimit (storeOf l) r j
@@ -62,13 +74,6 @@ pub record Ready (l : List ℕ) (z : Counts) (r j : ℕ) : Type 0 where
 step-used : (n : ℕ) → So (allowed stepRow n) → 1 ≤ n
 unfolding allowed
 step-used n p = allowed-used stepRow n refl p
-
-upstream-word : (z : Counts) (l : List ℕ) (at j : ℕ) → j < maxJobs
-    → readRun z l at .job j .upstream ≡ getD l (at + 6 + j * 3) 0
-upstream-word z l at j h =
-    ap (λ (a : Run). a .job j .upstream) (run-words z l at)
-    ∙ ap (λ (x : Job). x .upstream) (job-words l (at + 4) j h)
-    ∙ ap (λ (i : ℕ). getD l i 0) (omega arith)
 
 pub ready : (l : List ℕ) (z : Counts) (r j : ℕ) → FormWith l z → r < z .runs
     → leb (jobLimit (storeOf l) r j) j ≡ false

@@ -1,29 +1,60 @@
 -- What a visit of a job of an open run looks at is what the rule of step does.
--- seen-..: the parts of the rule. visit-..: what holds of the visit.
+-- visit-is: by the words. seen-..: the parts of the rule. visit-..: what holds of the visit.
+-- cause-last: the last cause, as the code tests it.
 -- Assumes nothing.
 use mathlib.Core.Path.{_≡_, refl, sym, ap, _∙_, fun-ext}
-use mathlib.Core.Bool.{So, _&&_}
+use mathlib.Core.Bool.{Bool, So, _&&_}
 use mathlib.Core.List.{List}
-use Prim.Native.Nat.{ℕ, _+_, _<_, _^_}
+use Prim.Native.Nat.{ℕ, _+_, _*_, _<_, _^_}
 use native.Mathlib.Omega.{arith}
 use lib.ListN.{length, getD}
 use Rattle.words.specs.Tests.{Items}
-use Rattle.masks.specs.Mask.{testBit}
+use Rattle.masks.specs.Mask.{testBit, maskBelow}
 use Rattle.sizes.specs.declared.Counts.{Counts}
-use Rattle.sizes.specs.Bounds.{siteSize, siteAt, runAt, snapshotAt}
+use Rattle.sizes.specs.Bounds.{maxJobs, siteSize, masterAt, siteAt, runAt, snapshotAt}
 use Rattle.sizes.proofs.Offsets.{ordered, site-lies, run-lies, snapshot-lies}
 use Rattle.model.specs.Store.{Run}
-use Rattle.model.specs.Step.{stepSite, stepReads, stepStart, stepFetch, stepCache, stepPlan, stepPull, stepSnapshot, stepMoved}
+use Rattle.model.specs.Version.{versions}
+use Rattle.model.specs.Sets.{unfetchable}
+use Rattle.model.specs.Outcome.{refuse}
+use Rattle.model.specs.Step.{stepCause, stepSite, stepReads, stepStart, stepFetch, stepCache, stepPlan, stepPull, stepSnapshot, stepMoved}
 use Rattle.model.proofs.Formed.{place-in}
-use Rattle.layout.specs.Reading.{readPlace, readRun, storeOf}
+use Rattle.layout.specs.Reading.{readPlace, readJobs, readRun, storeOf}
 use Rattle.layout.proofs.Readings.{master-in, cache-in, snapshot-in}
 use Rattle.version.proofs.Stores.{master-area, site-area, snapshot-area}
-use Rattle.form.specs.Parts.{FormWith}
+use Rattle.form.specs.Parts.{readsOf, FormWith}
 use Rattle.form.proofs.Known.{form-area, form-counts, master-formed, cache-formed}
-use Rattle.form.proofs.Runs.{run-words}
+use Rattle.form.proofs.Runs.{run-words, job-words}
+use Rattle.step.specs.declared.Visit.{Visit}
+use Rattle.step.specs.Jobs.{jobCause}
 use Rattle.step.specs.Visits.{visitOf, runVisit, startOf, takenOf, fetchedOf, pulledOf, snapshotOf, VisitArea, VisitFormed}
 use Rattle.step.proofs.Divisions.{plan-mask}
-use Rattle.step.proofs.Jobs.{Ready}
+use Rattle.step.proofs.Jobs.{Ready, step-below}
+use Rattle.step.proofs.Visits.{start-fetchable}
+
+-- A visit by the words of the run at an index.
+pub visit-is : (z : Counts) (l : List ℕ) (at snapshot read j m c p : ℕ) → j < maxJobs
+    → m ≡ masterAt z → c ≡ siteAt z (getD l (at + 4 + j * 3) 0)
+    → p ≡ readsOf (getD l (at + 1) 0) (readJobs l (at + 4)) 255
+    → _≡_ {A = Visit} (record {
+      master = m;
+      cache = c;
+      snapshot = snapshot;
+      plan = p;
+      reads = getD l (at + 4 + j * 3 + 1) 0;
+      read = getD l read 0;
+    })
+    (visitOf z l at snapshot read j)
+unfolding visitOf
+visit-is z l at snapshot read j m c p h d e f =
+    rw (run-words z l at, job-words l (at + 4) j h) (λ i. record {
+      master = d i;
+      cache = e i;
+      snapshot = snapshot;
+      plan = f i;
+      reads = getD l (at + 4 + j * 3 + 1) 0;
+      read = getD l read 0;
+    })
 
 module _ (l : List ℕ) (z : Counts) (r j : ℕ) (H : FormWith l z) (Y : Ready l z r j) where
   -- ---- the parts of the rule
@@ -131,3 +162,20 @@ module _ (l : List ℕ) (z : Counts) (r j : ℕ) (H : FormWith l z) (Y : Ready l
         cache = cache-formed l z H _ (Y .valid .site);
         snapshot = rw (← same) (place-in z _ (Y .plan .snapshot .place));
       }
+
+  -- ---- its last cause
+
+  -- start, b: what the code finds.
+  pub cause-last : (v : Visit) → v ≡ runVisit z l r j → jobCause (storeOf l) r j ≡ 0
+      → (start : ℕ) (b : Bool) → start ≡ maskBelow (z .keys) (startOf z l v)
+      → b ≡ unfetchable (versions (z .writers)) (z .keys) (readPlace z l (v .master))
+      (testBit start)
+      → stepCause (storeOf l) r j ≡ refuse b 7 0
+  cause-last v seen free start b e f =
+      let s = storeOf l in
+      let same : unfetchable (versions (s .counts .writers)) (s .counts .keys) (s .master)
+      (stepStart s r j) ≡ b =
+      rw (seen-start, old-master, form-counts l z H, ← seen)
+      (sym (start-fetchable z l v start e) ∙ sym f) in
+      step-below s r j (rw (form-counts l z H) (Y .run))
+      ∙ rw free (ap (λ (t : Bool). refuse t 7 0) same)

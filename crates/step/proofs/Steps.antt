@@ -37,6 +37,7 @@ use Rattle.step.specs.Jobs.{jobCause}
 use Rattle.step.specs.Visits.{visitOf, runVisit, takenOf, fetchedOf, pulledOf, snapshotOf, trialOf, finished}
 use Rattle.step.proofs.Divisions.{from-snapshot, from-cache, from-master, moved-mask, moved-some, moved-none}
 use Rattle.step.proofs.Jobs.{Ready, job-ready, step-free}
+use Rattle.step.proofs.Visits.{tried-taken, tried-pulled}
 use Rattle.step.proofs.Seen.{seen-site, seen-reads, seen-fetch, seen-cache, seen-pull, seen-snapshot, seen-read, seen-done, seen-moved, visit-cache, visit-snapshot, visit-mask, visit-reads}
 
 -- ---- no cause
@@ -111,12 +112,10 @@ module _ (l : List ℕ) (z : Counts) (r j : ℕ) (H : FormWith l z)
   Y = step-ready l z r j H free
 
   taken : t .taken ≡ maskBelow (z .keys) (takenOf z l v)
-  unfolding trialOf
-  taken = ap (λ (t : Trial). t .taken) tried
+  taken = tried-taken z l v t tried
 
   pulled : t .pulled ≡ maskBelow (z .keys) (pulledOf z l v)
-  unfolding trialOf
-  pulled = ap (λ (t : Trial). t .pulled) tried
+  pulled = tried-pulled z l v t tried
 
   moved : anyBelow (s .counts .keys) (stepMoved s r j)
       ≡ anyBelow (z .keys) (λ k. pulledOf z l v k && testBit (v .read) k)

@@ -1,5 +1,5 @@
 -- A step's visit, and what it finds.
--- start-mask, taken-mask, pulled-mask, trial-is: the masks that the code computes are those of the
+-- start-mask, taken-mask, pulled-mask, trial-is, tried-..: the masks that the code computes are those of the
 -- sets. start-fetchable: cause 7. ..-area, ..-areas: where the places lie.
 -- copied, both-formed, merged: the two stores.
 -- Assumes nothing.
@@ -113,6 +113,15 @@ module _ (z : Counts) (l : List ℕ) (v : Visit) where
       → _≡_ {A = Trial} (record { taken = t; pulled = p }) (trialOf z l v)
   unfolding trialOf
   trial-is t p e f i = record { taken = e i; pulled = f i }
+
+  pub tried-taken : (t : Trial) → t ≡ trialOf z l v → t .taken ≡ maskBelow (z .keys) (takenOf z l v)
+  unfolding trialOf
+  tried-taken t e = ap (λ (t : Trial). t .taken) e
+
+  pub tried-pulled : (t : Trial) → t ≡ trialOf z l v
+      → t .pulled ≡ maskBelow (z .keys) (pulledOf z l v)
+  unfolding trialOf
+  tried-pulled t e = ap (λ (t : Trial). t .pulled) e
 
   -- ---- the two stores
 

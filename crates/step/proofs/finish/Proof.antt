@@ -1,56 +1,90 @@
-use native.Mathlib.Omega.{arith}
+-- `finish` stores the cache, the snapshot and two masks.
+-- Assumes nothing.
+use mathlib.Core.Path.{_≡_, ap, _∙_}
+use mathlib.Core.List.{List}
+use Prim.Native.Nat.{ℕ}
 use borrow.Author.Needs.{needs}
+use native.Mathlib.Omega.{arith}
+use lib.ListN.{length-set}
+use Rattle.layout.specs.Stored.{putPlace}
+use Rattle.step.specs.Visits.{fetchedOf, snapshotOf, finished}
+use Rattle.step.proofs.Visits.{tried-taken, tried-pulled, fetch-areas, merge-areas, copied, both-formed, merged}
 use Rattle.step.proofs.finish.Statement.{statement}
 use Rattle.step.proofs.finish.Tie as tie
-use Rattle.step.proofs.finish.Reads as reads
-use Rattle.step.proofs.finish.Lts as lts
-use Rattle.masks.proofs.with_item.Reads as with-item-reads
-use Rattle.version.proofs.copy_keys.Reads as copy-keys-reads
-use Rattle.version.proofs.merge_keys.Reads as merge-keys-reads
 
--- src/lib.rt:202:31
 mul-with-item : tie.Need-mul-with-item
 mul-with-item c = search needs
 
--- src/lib.rt:202:31
 slice-read-with-item : tie.Need-slice-read-with-item
 slice-read-with-item c = search needs
 
--- src/lib.rt:202:9
 with-item-requires : tie.Need-with-item-requires
 with-item-requires c κs = search needs
 
--- src/lib.rt:203:5
 copy-keys-requires : tie.Need-copy-keys-requires
-copy-keys-requires c κs = ?
+copy-keys-requires c κs =
+    let s = c .before .before .before .before in
+    let a = s .args in
+    fetch-areas (a .z) (a .words .now) (a .visit) (s .pre .0 .0)
 
--- src/lib.rt:204:5
+-- The cache has taken T.
+fetched : (c : tie.After-copy-keys) → let a = c .before .before .before .before .before .args in
+    c .copy-keys .last .0
+    ≡ putPlace (a .z) (a .words .now) (a .visit .cache) (fetchedOf (a .z) (a .words .now) (a .visit))
+fetched c =
+    let s = c .before .before .before .before .before in
+    let a = s .args in
+    let l = a .words .now in
+    c .copy-keys .ensures
+    ∙ copied (a .z) l (a .visit) (s .pre .0 .0) (a .trial .taken)
+    (tried-taken (a .z) l (a .visit) (a .trial) (s .pre .1))
+
 merge-keys-requires : tie.Need-merge-keys-requires
-merge-keys-requires c κs = ?
+merge-keys-requires c κs =
+    let n = c .before .before .before in
+    let s = n .before .before .before .before .before in
+    let a = s .args in
+    let l = a .words .now in (
+      rw (n .copy-keys .kept .0) (merge-areas (a .z) l (a .visit) (s .pre .0 .0)),
+      both-formed (a .z) l (a .visit) (s .pre .0 .0) (n .copy-keys .last .0) (fetched n)
+          (s .pre .0 .1),
+    )
 
--- src/lib.rt:205:5
 mul-words : tie.Need-mul-words
 mul-words c = search needs
 
--- src/lib.rt:205:5
 slice-write-words : tie.Need-slice-write-words
 slice-write-words c = search needs
 
--- src/lib.rt:206:5
 mul-words-2 : tie.Need-mul-words-2
 mul-words-2 c = search needs
 
--- src/lib.rt:206:5
 slice-write-words-2 : tie.Need-slice-write-words-2
-slice-write-words-2 c = omega arith
+slice-write-words-2 c = rw length-set (omega arith)
 
--- src/lib.rt:188:1
 same-length : tie.Need-same-length
-same-length c = ?
+same-length c =
+    let m = c .before .before .before in
+    let n = m .before .before .before .before in
+    rw (length-set, length-set) (m .merge-keys .kept .0 ∙ n .copy-keys .kept .0)
 
--- src/lib.rt:188:1
 returns : tie.Need-returns
-returns c = ?
+unfolding finished
+returns c =
+    let m = c .before .before .before in
+    let n = m .before .before .before .before in
+    let s = n .before .before .before .before .before in
+    let a = s .args in
+    let l = a .words .now in
+    let v = a .visit in
+    let places : m .merge-keys .last .0
+    ≡ putPlace (a .z) (putPlace (a .z) l (v .cache) (fetchedOf (a .z) l v)) (v .snapshot)
+    (snapshotOf (a .z) l v) =
+    m .merge-keys .ensures
+    ∙ merged (a .z) l v (s .pre .0 .0) (n .copy-keys .last .0) (fetched n) (a .trial .pulled)
+    (tried-pulled (a .z) l v (a .trial) (s .pre .1))
+    ∙ ap (λ (m : List ℕ). putPlace (a .z) m (v .snapshot) (snapshotOf (a .z) l v)) (fetched n) in
+    rw (places, n .before .before .with-item .ensures)
 
 pub finish-spec : {M : Type 1} → statement M
 finish-spec =

@@ -1,33 +1,51 @@
-use native.Mathlib.Omega.{arith}
+-- `try_visit` finds T, and C against the cache seen through T.
+-- Assumes nothing.
+use mathlib.Core.Path.{_≡_}
 use borrow.Author.Needs.{needs}
+use native.Mathlib.Omega.{arith}
+use Rattle.masks.specs.Mask.{maskBelow}
+use Rattle.masks.proofs.Sets.{mask-lt}
+use Rattle.step.specs.Visits.{wantedOf, takenOf}
+use Rattle.step.proofs.Visits.{taken-mask, pulled-mask, trial-is, draw-area}
 use Rattle.step.proofs.try_visit.Statement.{statement}
 use Rattle.step.proofs.try_visit.Tie as tie
-use Rattle.step.proofs.try_visit.Reads as reads
-use Rattle.step.proofs.try_visit.Lts as lts
-use Rattle.sets.proofs.draw_set.Reads as draw-set-reads
-use Rattle.sets.proofs.fetch_set.Reads as fetch-set-reads
-use Rattle.sets.proofs.missing.lacking.Reads as lacking-reads
-use Rattle.step.proofs.start_of.Reads as start-of-reads
 
--- src/lib.rt:175:9
 start-of-requires : tie.Need-start-of-requires
 start-of-requires c κs = search needs
 
--- src/lib.rt:176:9
 fetch-set-requires : tie.Need-fetch-set-requires
-fetch-set-requires c κs = ?
+fetch-set-requires c κs =
+    let s = c .before .before in
+    let K = s .args .z .keys in (
+      (s .pre .0 .master-in, s .pre .0 .cache-in),
+      rw (c .start-of .ensures) (mask-lt K _ K (omega arith)),
+    )
 
--- src/lib.rt:177:9
 lacking-requires : tie.Need-lacking-requires
 lacking-requires c κs = search needs
 
--- src/lib.rt:183:9
 draw-set-requires : tie.Need-draw-set-requires
-draw-set-requires c κs = ?
+draw-set-requires c κs =
+    let s = c .before .before .before .before in
+    let a = s .args in
+    let K = a .z .keys in (
+      draw-area (a .z) (a .words .now) (a .visit) (s .pre .0) (c .before .fetch-set .result),
+      rw (c .lacking .ensures) (mask-lt K _ K (omega arith)),
+    )
 
--- src/lib.rt:170:1
 returns : tie.Need-returns
-returns c = ?
+unfolding wantedOf
+returns c =
+    let n = c .before in
+    let f = n .before in
+    let a = f .before .before .before .args in
+    let l = a .words .now in
+    let t : f .fetch-set .result ≡ maskBelow (a .z .keys) (takenOf (a .z) l (a .visit)) =
+    taken-mask (a .z) l (a .visit) (f .before .start-of .result) (f .fetch-set .result)
+    (f .before .start-of .ensures) (f .fetch-set .ensures) in
+    trial-is (a .z) l (a .visit) (f .fetch-set .result) (c .draw-set .result) t
+    (pulled-mask (a .z) l (a .visit) (n .lacking .result) (f .fetch-set .result)
+    (c .draw-set .result) (n .lacking .ensures) t (c .draw-set .ensures))
 
 pub try-visit-spec : {M : Type 1} → statement M
 try-visit-spec =

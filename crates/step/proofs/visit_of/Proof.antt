@@ -1,89 +1,85 @@
-use native.Mathlib.Omega.{arith}
+-- `visit_of` reads the job and the plan.
+-- Assumes nothing.
+use mathlib.Core.Path.{_≡_, sym, ap, _∙_}
+use Prim.Native.Nat.{ℕ, _<_, _+_, _*_}
 use borrow.Author.Needs.{needs}
+use native.Mathlib.Omega.{arith}
+use lib.ListN.{getD}
+use Rattle.sizes.specs.Bounds.{siteAt}
+use Rattle.model.specs.Store.{Job, Run}
+use Rattle.layout.specs.Reading.{readRun}
+use Rattle.form.proofs.Known.{master-found}
+use Rattle.step.proofs.Jobs.{run-job}
+use Rattle.step.proofs.Seen.{visit-is}
 use Rattle.step.proofs.visit_of.Statement.{statement}
 use Rattle.step.proofs.visit_of.Tie as tie
-use Rattle.step.proofs.visit_of.Reads as reads
-use Rattle.step.proofs.visit_of.Lts as lts
-use Rattle.form.proofs.job.reads_of.Reads as reads-of-reads
-use Rattle.sizes.proofs.Counts.areas.Reads as areas-reads
-use Rattle.sizes.proofs.Counts.site_at.Reads as site-at-reads
-use Rattle.words.proofs.wide.Reads as wide-reads
 
--- src/lib.rt:145:15
 add-job : tie.Need-add-job
-add-job c = search needs
+add-job c = omega arith
 
--- src/lib.rt:145:24
 mul-job : tie.Need-mul-job
-mul-job c = search needs
+mul-job c = omega arith
 
--- src/lib.rt:145:15
 add-job-2 : tie.Need-add-job-2
-add-job-2 c = search needs
+add-job-2 c = omega arith
 
--- src/lib.rt:146:9
 areas-requires : tie.Need-areas-requires
 areas-requires c κs = search needs
 
--- src/lib.rt:147:32
 mul-wide : tie.Need-mul-wide
 mul-wide c = search needs
 
--- src/lib.rt:147:32
 shared-slice-read-wide : tie.Need-shared-slice-read-wide
 shared-slice-read-wide c = search needs
 
--- src/lib.rt:147:27
 wide-requires : tie.Need-wide-requires
 wide-requires c κs = search needs
 
--- src/lib.rt:147:9
 site-at-requires : tie.Need-site-at-requires
 site-at-requires c κs = ?
 
--- src/lib.rt:148:32
 add-reads-of : tie.Need-add-reads-of
 add-reads-of c = search needs
 
--- src/lib.rt:148:46
 add-reads-of-2 : tie.Need-add-reads-of-2
 add-reads-of-2 c = search needs
 
--- src/lib.rt:148:40
 mul-reads-of : tie.Need-mul-reads-of
 mul-reads-of c = search needs
 
--- src/lib.rt:148:40
 shared-slice-read-reads-of : tie.Need-shared-slice-read-reads-of
 shared-slice-read-reads-of c = search needs
 
--- src/lib.rt:148:9
 reads-of-requires : tie.Need-reads-of-requires
 reads-of-requires c κs = ?
 
--- src/lib.rt:154:22
 add-t11 : tie.Need-add-t11
 add-t11 c = search needs
 
--- src/lib.rt:154:16
 mul-t12 : tie.Need-mul-t12
 mul-t12 c = search needs
 
--- src/lib.rt:154:16
 shared-slice-read-t14 : tie.Need-shared-slice-read-t14
 shared-slice-read-t14 c = search needs
 
--- src/lib.rt:155:15
 mul-t15 : tie.Need-mul-t15
 mul-t15 c = search needs
 
--- src/lib.rt:155:15
 shared-slice-read-t19 : tie.Need-shared-slice-read-t19
 shared-slice-read-t19 c = search needs
 
--- src/lib.rt:131:1
 returns : tie.Need-returns
-returns c = ?
+returns c =
+    let p = c .before .before in
+    let o = p .before .before in
+    let w = o .before in
+    let m = w .before .before in
+    let s = m .before .before in
+    let a = s .args in
+    visit-is (a .z) (a .words .now) (a .at) (a .snapshot) (a .read) (a .j)
+    (m .areas .result .master) (o .site-at .result) (p .reads-of .result) (s .pre .1 .0)
+    (master-found (a .z) (m .areas .result) (m .areas .ensures))
+    (o .site-at .ensures ∙ ap (siteAt (a .z)) (w .wide .ensures)) (p .reads-of .ensures)
 
 pub visit-of-spec : {M : Type 1} → statement M
 visit-of-spec =

@@ -1,22 +1,22 @@
-use native.Mathlib.Omega.{arith}
+-- `job_limit` is 8 in a free run, and the number of jobs in another.
+-- Assumes nothing.
 use borrow.Author.Needs.{needs}
+use Rattle.words.proofs.Bools.{eq-eqb, ne-eqb}
+use Rattle.step.specs.Jobs.{limitOf}
 use Rattle.step.proofs.causes.job_limit.Statement.{statement}
 use Rattle.step.proofs.causes.job_limit.Tie as tie
-use Rattle.step.proofs.causes.job_limit.Reads as reads
-use Rattle.step.proofs.causes.job_limit.Lts as lts
-use Rattle.words.proofs.wide.Reads as wide-reads
 
--- src/causes.rt:24:9
 wide-requires : tie.Need-wide-requires
 wide-requires c κs = search needs
 
--- src/causes.rt:18:1
 returns : tie.Need-returns
-returns c = ?
+unfolding limitOf
+returns c = rw (eq-eqb (c .before .args .state) 0 (c .if1 .taken))
 
--- src/causes.rt:18:1
 returns-2 : tie.Need-returns-2
-returns-2 c = ?
+unfolding limitOf
+returns-2 c =
+    rw (ne-eqb (c .before .before .args .state) 0 (c .before .if1 .left)) (c .wide .ensures)
 
 pub job-limit-spec : {M : Type 1} → statement M
 job-limit-spec = tie.close (tie.spec wide-requires returns returns-2)
