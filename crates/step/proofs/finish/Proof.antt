@@ -37,7 +37,7 @@ fetched c =
     let l = a .words .now in
     c .copy-keys .ensures
     ∙ copied (a .z) l (a .visit) (s .pre .0 .0) (a .trial .taken)
-    (tried-taken (a .z) l (a .visit) (a .trial) (s .pre .1))
+    (tried-taken (a .z) l (a .visit) (a .trial) (s .pre .1 .0))
 
 merge-keys-requires : tie.Need-merge-keys-requires
 merge-keys-requires c κs =
@@ -82,7 +82,7 @@ returns c =
     (snapshotOf (a .z) l v) =
     m .merge-keys .ensures
     ∙ merged (a .z) l v (s .pre .0 .0) (n .copy-keys .last .0) (fetched n) (a .trial .pulled)
-    (tried-pulled (a .z) l v (a .trial) (s .pre .1))
+    (tried-pulled (a .z) l v (a .trial) (s .pre .1 .0))
     ∙ ap (λ (m : List ℕ). putPlace (a .z) m (v .snapshot) (snapshotOf (a .z) l v)) (fetched n) in
     rw (places, n .before .before .with-item .ensures)
 

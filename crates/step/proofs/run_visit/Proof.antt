@@ -34,8 +34,7 @@ visit-of-requires c κs =
     let Y = ready n in
     rw (n .run-at .ensures) (
       Y .known .area,
-      (Y .low, omega (arith, Y .known .area .fits)),
-      (Y .plan .jobs .high, Y .valid .site),
+      ((Y .low, omega (arith, Y .known .area .fits)), (Y .plan .jobs .high, Y .valid .site)),
     )
 
 returns : tie.Need-returns

@@ -36,7 +36,11 @@ wide-requires : tie.Need-wide-requires
 wide-requires c κs = search needs
 
 site-at-requires : tie.Need-site-at-requires
-site-at-requires c κs = ?
+site-at-requires c κs =
+    let s = c .before .before .before .before in
+    let a = s .args in
+    let job = run-job (a .z) (a .words .now) (a .at) (a .j) (s .pre .1 .0 .0) in
+    (s .pre .0 .ranged, rw (c .wide .ensures, ← ap (λ (x : Job). x .site) job) (s .pre .1 .1 .1))
 
 add-reads-of : tie.Need-add-reads-of
 add-reads-of c = search needs
@@ -51,7 +55,10 @@ shared-slice-read-reads-of : tie.Need-shared-slice-read-reads-of
 shared-slice-read-reads-of c = search needs
 
 reads-of-requires : tie.Need-reads-of-requires
-reads-of-requires c κs = ?
+unfolding readRun
+reads-of-requires c κs =
+    let s = c .before .before .before .before .before .before in
+    (omega (arith, s .pre .0 .fits), s .pre .1 .1 .0)
 
 add-t11 : tie.Need-add-t11
 add-t11 c = search needs
@@ -77,7 +84,7 @@ returns c =
     let s = m .before .before in
     let a = s .args in
     visit-is (a .z) (a .words .now) (a .at) (a .snapshot) (a .read) (a .j)
-    (m .areas .result .master) (o .site-at .result) (p .reads-of .result) (s .pre .1 .0)
+    (m .areas .result .master) (o .site-at .result) (p .reads-of .result) (s .pre .1 .0 .0)
     (master-found (a .z) (m .areas .result) (m .areas .ensures))
     (o .site-at .ensures ∙ ap (siteAt (a .z)) (w .wide .ensures)) (p .reads-of .ensures)
 
