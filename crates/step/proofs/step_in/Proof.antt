@@ -1,84 +1,174 @@
-use native.Mathlib.Omega.{arith}
+-- `step_in` is refused for its cause, breaks the run, or finishes the job.
+-- Assumes nothing.
+use mathlib.Core.Path.{_≡_, sym, ap, _∙_}
+use mathlib.Core.List.{List}
+use Prim.Native.Nat.{ℕ, _+_, _≤_}
 use borrow.Author.Needs.{needs}
+use native.Mathlib.Omega.{arith}
+use lib.ListN.{length, set}
+use Rattle.model.specs.Step.{stepCause}
+use Rattle.layout.specs.Reading.{storeOf}
+use Rattle.form.specs.Parts.{FormWith}
+use Rattle.form.proofs.Known.{form-long, form-counts}
+use Rattle.step.specs.Answers.{steppedWords}
+use Rattle.step.specs.Visits.{finished, VisitArea, VisitFormed}
+use Rattle.step.proofs.Jobs.{Ready, step-free}
+use Rattle.step.proofs.Seen.{visit-reads, visit-area, visit-formed}
+use Rattle.step.proofs.Steps.{step-ready, step-refused, step-broken, step-done}
 use Rattle.step.proofs.step_in.Statement.{statement}
 use Rattle.step.proofs.step_in.Tie as tie
-use Rattle.step.proofs.step_in.Reads as reads
-use Rattle.step.proofs.step_in.Lts as lts
-use Rattle.form.proofs.header.counts.Reads as counts-reads
-use Rattle.sizes.proofs.Counts.run_at.Reads as run-at-reads
-use Rattle.step.proofs.divided.Reads as divided-reads
-use Rattle.step.proofs.finish.Reads as finish-reads
-use Rattle.step.proofs.run_visit.Reads as run-visit-reads
-use Rattle.step.proofs.step_cause.Reads as step-cause-reads
-use Rattle.step.proofs.try_visit.Reads as try-visit-reads
 
--- src/lib.rt:87:9
 counts-requires : tie.Need-counts-requires
-counts-requires c κs = ?
+counts-requires c κs = form-long _ (c .before .before .pre)
 
--- src/lib.rt:90:9
 step-cause-requires : tie.Need-step-cause-requires
 step-cause-requires c κs = search needs
 
--- src/lib.rt:92:9
 same-length : tie.Need-same-length
 same-length c = search needs
 
--- src/lib.rt:92:9
 returns : tie.Need-returns
-returns c = ?
+unfolding steppedWords
+returns c =
+    let s = c .before .before .before .before .before .before in
+    let a = s .args in
+    step-refused (a .words .now) (a .run) (a .job) (c .before .step-cause .result) (s .pre)
+    (c .before .step-cause .ensures) (c .if1 .taken)
 
--- src/lib.rt:94:9
+-- ---- no cause
+
+formed : (c : tie.Else1)
+    → FormWith (c .before .before .before .before .before .before .args .words .now)
+    (c .before .before .before .counts .result)
+formed c = record {
+  form = c .before .before .before .before .before .before .pre;
+  counts = c .before .before .before .counts .ensures;
+}
+
+free : (c : tie.Else1) → let a = c .before .before .before .before .before .before .args in
+    stepCause (storeOf (a .words .now)) (a .run) (a .job) ≡ 0
+free c = sym (c .before .step-cause .ensures) ∙ c .if1 .left
+
+ready : (c : tie.Else1) → let a = c .before .before .before .before .before .before .args in
+    Ready (a .words .now) (c .before .before .before .counts .result) (a .run) (a .job)
+ready c =
+    let a = c .before .before .before .before .before .before .args in
+    step-ready (a .words .now) _ (a .run) (a .job) (formed c) (free c)
+
 run-at-requires : tie.Need-run-at-requires
-run-at-requires c κs = ?
+run-at-requires c κs = (ready c .known .area .ranged, ready c .run)
 
--- src/lib.rt:95:9
+-- The first words of the run.
+here : (c : tie.After-run-at) → c .run-at .result + 28
+    ≤ length (c .before .before .before .before .before .before .before .args .words .now)
+here c = rw (c .run-at .ensures) (omega (arith, ready (c .before) .known .area .fits))
+
 run-visit-requires : tie.Need-run-visit-requires
-run-visit-requires c κs = ?
+run-visit-requires c κs =
+    let e = c .before .before in
+    let a = e .before .before .before .before .before .before .args in
+    let none = step-free (storeOf (a .words .now)) (a .run) (a .job) (free e) in
+    (formed e, (ready e .run, none .1))
 
--- src/lib.rt:96:9
+-- ---- the visit
+
+area : (c : tie.After-run-visit) → let e = c .before .before .before in
+    VisitArea (length (e .before .before .before .before .before .before .args .words .now))
+    (e .before .before .before .counts .result) (c .run-visit .result)
+area c =
+    let e = c .before .before .before in
+    let a = e .before .before .before .before .before .before .args in
+    rw (c .run-visit .ensures)
+    (visit-area (a .words .now) _ (a .run) (a .job) (formed e) (ready e))
+
+places : (c : tie.After-run-visit) → let e = c .before .before .before in
+    VisitFormed (e .before .before .before .before .before .before .args .words .now)
+    (e .before .before .before .counts .result) (c .run-visit .result)
+places c =
+    let e = c .before .before .before in
+    let a = e .before .before .before .before .before .before .args in
+    rw (c .run-visit .ensures)
+    (visit-formed (a .words .now) _ (a .run) (a .job) (formed e) (ready e))
+
 try-visit-requires : tie.Need-try-visit-requires
-try-visit-requires c κs = ?
+try-visit-requires c κs =
+    let v = c .before in
+    let e = v .before .before .before in
+    let a = e .before .before .before .before .before .before .args in (
+      area v,
+      rw (v .run-visit .ensures)
+          (visit-reads (a .words .now) _ (a .run) (a .job) (formed e) (ready e)),
+    )
 
--- src/lib.rt:99:9
+-- ---- broken
+
 mul-words : tie.Need-mul-words
-mul-words c = omega arith
+mul-words c = omega (arith, here (c .before .before .before .before .before .before .before))
 
--- src/lib.rt:99:9
 slice-write-words : tie.Need-slice-write-words
-slice-write-words c = omega arith
+slice-write-words c =
+    omega (arith, here (c .before .before .before .before .before .before .before))
 
--- src/lib.rt:100:9
 same-length-2 : tie.Need-same-length-2
 same-length-2 c = search needs
 
--- src/lib.rt:100:9
 returns-2 : tie.Need-returns-2
-returns-2 c = ?
+unfolding steppedWords
+returns-2 c =
+    let t = c .before .before .before in
+    let v = t .before .before in
+    let n = v .before .before in
+    let e = n .before in
+    let a = e .before .before .before .before .before .before .args in
+    let l = a .words .now in
+    step-broken l _ (a .run) (a .job) (formed e) (free e)
+    (v .run-visit .result) (v .run-visit .ensures) (t .try-visit .result) (t .try-visit .ensures)
+    _ (c .if2 .taken) (ap (λ (at : ℕ). set l at 2) (n .run-at .ensures))
 
--- src/lib.rt:102:36
+-- ---- done
+
 add-finish : tie.Need-add-finish
-add-finish c = omega arith
+add-finish c =
+    omega (arith, here (c .before .before .before .before .before .before .before .before))
 
--- src/lib.rt:102:44
 add-finish-2 : tie.Need-add-finish-2
-add-finish-2 c = omega arith
+add-finish-2 c =
+    omega (arith, here (c .before .before .before .before .before .before .before .before))
 
--- src/lib.rt:102:5
 finish-requires : tie.Need-finish-requires
-finish-requires c κs = ?
+finish-requires c κs =
+    let t = c .before .before .before .before in
+    let v = t .before .before in
+    let n = v .before .before in
+    let Y = ready (n .before) in (
+      (area v, places v),
+      (t .try-visit .ensures, (omega (arith, here n), omega (arith, here n), omega (arith, Y .low))),
+    )
 
--- src/lib.rt:103:5
 divided-requires : tie.Need-divided-requires
 divided-requires c κs = search needs
 
--- src/lib.rt:79:1
 same-length-3 : tie.Need-same-length-3
 same-length-3 c = search needs
 
--- src/lib.rt:79:1
 returns-3 : tie.Need-returns-3
-returns-3 c = ?
+unfolding steppedWords
+returns-3 c =
+    let f = c .before .before .before in
+    let t = f .before .before .before .before .before in
+    let v = t .before .before in
+    let n = v .before .before in
+    let e = n .before in
+    let a = e .before .before .before .before .before .before .args in
+    let l = a .words .now in
+    let z = e .before .before .before .counts .result in
+    let visit = v .run-visit .result in
+    rw (c .divided .ensures)
+    (step-done l z (a .run) (a .job) (formed e) (free e)
+    visit (v .run-visit .ensures) (t .try-visit .result) (t .try-visit .ensures)
+    (f .finish .last .0) (f .before .before .if2 .left)
+    (f .finish .ensures
+    ∙ ap (λ (at : ℕ). finished z l visit (at + 2) (at + 3) (a .job)) (n .run-at .ensures)))
 
 pub step-in-spec : {M : Type 1} → statement M
 step-in-spec =
