@@ -1,8 +1,9 @@
 -- Masks of sets of keys, as step computes them.
--- from-..: the reads divided by where they come from. moved-mask, moved-some: C's keys that the
--- run has read. upstream-some: an upstream job that isn't done. plan-mask: the plan's keys.
+-- item-of: an item of a mask. from-..: the reads divided by where they come from.
+-- moved-mask, moved-some, moved-none: C's keys that the run has read.
+-- upstream-some: an upstream job that isn't done. plan-mask: the plan's keys.
 -- Assumes nothing.
-use mathlib.Core.Path.{_≡_, refl, sym, ap, ap₂, _∙_, fun-ext}
+use mathlib.Core.Path.{_≡_, refl, sym, ap, _∙_, fun-ext}
 use mathlib.Core.Bool.{Bool, true, false, not, So, _&&_}
 use mathlib.Core.Logic.{_≢_}
 use Prim.Native.Nat.{ℕ, _^_, _≤_, _<_}
@@ -10,7 +11,7 @@ use native.Mathlib.Omega.{arith}
 use lib.Bits.{bitAnd, and-le-l}
 use lib.Dec.{eqb}
 use Rattle.words.specs.Tests.{Items, anyBelow}
-use Rattle.words.proofs.Bools.{not-elim, ne-eqb, eq-eqb, so-or-not}
+use Rattle.words.proofs.Bools.{ne-eqb, eq-eqb}
 use Rattle.words.proofs.Tests.{any-same}
 use Rattle.masks.specs.Mask.{testBit, withBit, withIf, maskBelow, without}
 use Rattle.masks.proofs.Bits.{test-and, test-without, without-lt}
@@ -78,7 +79,7 @@ module _ (K p m : ℕ) (C : Items) (e : p ≡ maskBelow K C) where
   pub moved-mask : bitAnd p m ≡ maskBelow K (λ k. C k && testBit m k)
   moved-mask =
       mask-is K (bitAnd p m) (λ k. C k && testBit m k)
-      (omega (arith, and-le-l p m, ap (λ (n : ℕ). n) e, mask-lt K C K (omega arith)))
+      (omega (arith, and-le-l p m, e, mask-lt K C K (omega arith)))
       (λ k i. test-and p m k ∙ ap (λ (b : Bool). b && testBit m k) (item-of K p C e k i))
 
   moved-test : anyBelow K (λ k. C k && testBit m k) ≡ not (eqb (bitAnd p m) 0)

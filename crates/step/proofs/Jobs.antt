@@ -1,7 +1,7 @@
 -- The causes of step by its run and job, as the code tests them.
--- run-job: a job. limit-in, state-in, unready-in: the parts of a cause, by the words. Ready, ready: what holds of
--- a job in range of an open run. job-ready: where no cause holds. step-high, step-below: the whole
--- cause.
+-- run-job: a job. limit-in, state-in, unready-in: the parts of a cause, by the words.
+-- Ready, ready: what holds of a job in range of an open run. job-ready: where no cause holds.
+-- step-high, step-below, step-free: the whole cause.
 -- Assumes nothing.
 use mathlib.Core.Path.{_≡_, refl, sym, ap, _∙_}
 use mathlib.Core.Bool.{Bool, true, false, cond, not, So}
@@ -23,7 +23,6 @@ use Rattle.model.proofs.Outcomes.{no-cause, no-lack, allowed-used}
 use Rattle.model.proofs.Plans.{Plan, plan-out, Valid, valid-out}
 use Rattle.layout.specs.Reading.{readRun, storeOf}
 use Rattle.form.specs.Parts.{jobOf, FormWith}
-use Rattle.form.proofs.Known.{form-counts}
 use Rattle.form.proofs.Runs.{run-words, job-words}
 use Rattle.status.proofs.Known.{RunKnown, run-known}
 use Rattle.step.specs.Jobs.{limitOf, unready, jobCause}
@@ -143,7 +142,8 @@ module _ (s : Store) (r j : ℕ) where
   pub step-free : stepCause s r j ≡ 0 → (r < s .counts .runs) × (jobCause s r j ≡ 0)
   unfolding stepCause
   step-free e =
-      let h = leb-gt (s .counts .runs) r (no-cause (leb (s .counts .runs) r) 3 _ (omega arith) e .0) in
+      let out = no-cause (leb (s .counts .runs) r) 3 _ (omega arith) e .0 in
+      let h = leb-gt (s .counts .runs) r out in
       (h, none (jobCause s r j) _ (sym (step-below h) ∙ e))
     where
       none : (n m : ℕ) → cond (eqb n 0) m n ≡ 0 → n ≡ 0

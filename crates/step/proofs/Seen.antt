@@ -3,12 +3,11 @@
 -- cause-last: the last cause, as the code tests it.
 -- Assumes nothing.
 use mathlib.Core.Path.{_≡_, refl, sym, ap, _∙_, fun-ext}
-use mathlib.Core.Bool.{Bool, So, _&&_}
+use mathlib.Core.Bool.{Bool, _&&_}
 use mathlib.Core.List.{List}
 use Prim.Native.Nat.{ℕ, _+_, _*_, _<_, _^_}
 use native.Mathlib.Omega.{arith}
 use lib.ListN.{length, getD}
-use Rattle.words.specs.Tests.{Items}
 use Rattle.masks.specs.Mask.{testBit, maskBelow}
 use Rattle.sizes.specs.declared.Counts.{Counts}
 use Rattle.sizes.specs.Bounds.{maxJobs, siteSize, masterAt, siteAt, runAt, snapshotAt}
@@ -156,7 +155,8 @@ module _ (l : List ℕ) (z : Counts) (r j : ℕ) (H : FormWith l z) (Y : Ready l
   unfolding visitOf
   visit-formed =
       let same : readRun z l (runAt z r) .snapshot ≡ readPlace z l (snapshotAt z r) =
-      ap (λ (a : Run). a .snapshot) (sym (Y .known .run)) ∙ snapshot-in l z (H .counts) r (Y .run) in
+      ap (λ (a : Run). a .snapshot) (sym (Y .known .run))
+      ∙ snapshot-in l z (H .counts) r (Y .run) in
       record {
         master = master-formed l z H;
         cache = cache-formed l z H _ (Y .valid .site);

@@ -3,27 +3,24 @@
 -- buffer.
 -- Assumes nothing.
 use mathlib.Core.Path.{_≡_, refl, sym, ap, _∙_}
-use mathlib.Core.Bool.{Bool, true, false, cond, So, _&&_}
+use mathlib.Core.Bool.{cond, So, _&&_}
 use mathlib.Core.Logic.{_≢_}
 use mathlib.Core.List.{List, [], _∷_}
 use Prim.Native.Nat.{ℕ, suc, _+_, _<_, _^_}
 use native.Mathlib.Omega.{arith}
-use lib.Bits.{bitAnd, bitOr}
-use lib.ListN.{getD, set}
-use lib.Seq.{sets}
+use lib.Bits.{bitAnd}
+use lib.ListN.{set}
 use Rattle.words.specs.Tests.{anyBelow}
-use Rattle.words.specs.Lists.{putAt}
 use Rattle.words.proofs.Lists.{putAt-same}
-use Rattle.masks.specs.Mask.{testBit, withBit, maskBelow, without}
+use Rattle.masks.specs.Mask.{testBit, maskBelow, without}
 use Rattle.sizes.specs.declared.Counts.{Counts}
 use Rattle.sizes.specs.Bounds.{siteAt, runAt, snapshotAt}
 use Rattle.model.specs.Algebra.{Place}
 use Rattle.model.specs.Version.{Version}
 use Rattle.model.specs.Store.{Run, Store, withSites, withCache, withRun, withState, withSnapshot, withJobDone}
 use Rattle.model.specs.Outcome.{Outcome, answer, unless, brokenState}
-use Rattle.model.specs.Step.{stepSite, stepReads, stepFetch, stepCache, stepPull, stepSnapshot, stepMoved, stepCause, stepBroken, stepDone, stepRule}
+use Rattle.model.specs.Step.{stepSite, stepCache, stepSnapshot, stepMoved, stepCause, stepBroken, stepDone, stepRule}
 use Rattle.model.specs.Calls.{step, ruleOf}
-use Rattle.model.proofs.Outcomes.{no-cause}
 use Rattle.layout.specs.Reading.{storeOf}
 use Rattle.layout.specs.Stored.{putPlace}
 use Rattle.layout.specs.Buffer.{written, inForm}
@@ -33,8 +30,7 @@ use Rattle.form.specs.Parts.{FormWith}
 use Rattle.form.proofs.Known.{form-counts, form-again, cache-stored, Ends, ends-refused, ends-done}
 use Rattle.step.specs.declared.Visit.{Visit}
 use Rattle.step.specs.declared.Trial.{Trial}
-use Rattle.step.specs.Jobs.{jobCause}
-use Rattle.step.specs.Visits.{visitOf, runVisit, takenOf, fetchedOf, pulledOf, snapshotOf, trialOf, finished}
+use Rattle.step.specs.Visits.{runVisit, takenOf, pulledOf, trialOf, finished}
 use Rattle.step.proofs.Divisions.{from-snapshot, from-cache, from-master, moved-mask, moved-some, moved-none}
 use Rattle.step.proofs.Jobs.{Ready, job-ready, step-free}
 use Rattle.step.proofs.Visits.{tried-taken, tried-pulled}

@@ -1,6 +1,7 @@
 -- A step's visit, and what it finds.
--- start-mask, taken-mask, pulled-mask, trial-is, tried-..: the masks that the code computes are those of the
--- sets. start-fetchable: cause 7. ..-area, ..-areas: where the places lie.
+-- drawn-same: a drawn set by what is below K. start-mask, taken-mask, pulled-mask, trial-is,
+-- tried-..: the masks that the code computes are those of the sets. start-fetchable: cause 7.
+-- draw-area, fetch-areas, merge-areas: where the places lie.
 -- copied, both-formed, merged: the two stores.
 -- Assumes nothing.
 use mathlib.Core.Path.{_≡_, refl, ap, _∙_}
@@ -114,7 +115,8 @@ module _ (z : Counts) (l : List ℕ) (v : Visit) where
   unfolding trialOf
   trial-is t p e f i = record { taken = e i; pulled = f i }
 
-  pub tried-taken : (t : Trial) → t ≡ trialOf z l v → t .taken ≡ maskBelow (z .keys) (takenOf z l v)
+  pub tried-taken : (t : Trial) → t ≡ trialOf z l v
+      → t .taken ≡ maskBelow (z .keys) (takenOf z l v)
   unfolding trialOf
   tried-taken t e = ap (λ (t : Trial). t .taken) e
 

@@ -1,8 +1,8 @@
 -- A job's step as the words of a buffer have it: what it looks at, the sets T and C, and what it
 -- leaves.
--- visitOf, runVisit: what a step looks at. wantedOf, startOf, takenOf (T), fetchedOf, pulledOf (C),
--- snapshotOf, trialOf: what it finds. VisitArea, VisitFormed: what is asked of the places.
--- finished: the words that it leaves.
+-- visitOf, runVisit: what a step looks at. wantedOf, startOf, takenOf (T), fetchedOf,
+-- pulledOf (C), snapshotOf, trialOf: what it finds. finished: the words that it leaves.
+-- VisitArea, VisitFormed: what is asked of the places.
 -- Assumes nothing.
 use mathlib.Core.Bool.{So}
 use mathlib.Core.List.{List}

@@ -104,7 +104,7 @@ pub fn step_in(words: &mut [u32], run: u32, job: u32) -> Stepped
 }
 
 // The first cause for which a step is refused, or 0.
-pub fn step_cause(words: &[u32], z: Counts, r: usize, j: usize) -> u32
+fn step_cause(words: &[u32], z: Counts, r: usize, j: usize) -> u32
     requires { ⌜ FormWith (now words) z ⌝ }
     ensures { λ c. ⌜ c ≡ stepCause (storeOf (now (words .entry))) r j ⌝ }
 {
@@ -125,7 +125,7 @@ pub fn step_cause(words: &[u32], z: Counts, r: usize, j: usize) -> u32
 }
 
 // What a step of job j of run r looks at, with the run's own snapshot and read mask.
-pub fn run_visit(words: &[u32], z: Counts, r: usize, j: usize) -> Visit
+fn run_visit(words: &[u32], z: Counts, r: usize, j: usize) -> Visit
     requires { ⌜ FormWith (now words) z ⌝ }
     requires { ⌜ (r < z .runs) × (jobCause (storeOf (now words)) r j ≡ 0) ⌝ }
     ensures { λ v. ⌜ v ≡ runVisit z (now (words .entry)) r j ⌝ }
@@ -137,14 +137,7 @@ pub fn run_visit(words: &[u32], z: Counts, r: usize, j: usize) -> Visit
 
 // What a step of job j looks at, of the run at an index. The snapshot and the read mask are the
 // caller's to choose.
-pub fn visit_of(
-    words: &[u32],
-    z: Counts,
-    at: usize,
-    snapshot: usize,
-    read: usize,
-    j: usize,
-) -> Visit
+fn visit_of(words: &[u32], z: Counts, at: usize, snapshot: usize, read: usize, j: usize) -> Visit
     requires { ⌜ RunArea (length (now words)) z at ⌝ }
     requires { ⌜ (j < maxJobs) × (read < length (now words)) ⌝ }
     requires { ⌜ (readRun z (now words) at .jobs ≤ maxJobs)
@@ -166,7 +159,7 @@ pub fn visit_of(
 }
 
 // The reads that the snapshot and the cache lack.
-pub fn start_of(words: &[u32], z: Counts, visit: Visit) -> u32
+fn start_of(words: &[u32], z: Counts, visit: Visit) -> u32
     requires { ⌜ VisitArea (length (now words)) z visit ⌝ }
     requires { ⌜ visit .reads < 2 ^ z .keys ⌝ }
     ensures { λ r. ⌜ r ≡ maskBelow (z .keys) (startOf z (now (words .entry)) visit) ⌝ }
@@ -176,7 +169,7 @@ pub fn start_of(words: &[u32], z: Counts, visit: Visit) -> u32
 }
 
 // T, and C against the cache as T would leave it.
-pub fn try_visit(words: &[u32], z: Counts, visit: Visit) -> Trial
+fn try_visit(words: &[u32], z: Counts, visit: Visit) -> Trial
     requires { ⌜ VisitArea (length (now words)) z visit ⌝ }
     requires { ⌜ visit .reads < 2 ^ z .keys ⌝ }
     ensures { λ r. ⌜ r ≡ trialOf z (now (words .entry)) visit ⌝ }
@@ -194,7 +187,7 @@ pub fn try_visit(words: &[u32], z: Counts, visit: Visit) -> Trial
 }
 
 // The cache takes T, the snapshot C; the job is done, and its reads are read.
-pub fn finish(
+fn finish(
     words: &mut [u32],
     z: Counts,
     visit: Visit,
@@ -216,7 +209,7 @@ pub fn finish(
 }
 
 // The reads divided by where they come from.
-pub fn divided(reads: u32, trial: Trial) -> Stepped
+fn divided(reads: u32, trial: Trial) -> Stepped
     ensures { λ r. ⌜ r ≡ Stepped.Done (without reads (trial .pulled))
         (without (bitAnd reads (trial .pulled)) (trial .taken))
         (bitAnd (bitAnd reads (trial .pulled)) (trial .taken)) ⌝ }

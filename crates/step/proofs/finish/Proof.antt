@@ -30,7 +30,8 @@ copy-keys-requires c κs =
 -- The cache has taken T.
 fetched : (c : tie.After-copy-keys) → let a = c .before .before .before .before .before .args in
     c .copy-keys .last .0
-    ≡ putPlace (a .z) (a .words .now) (a .visit .cache) (fetchedOf (a .z) (a .words .now) (a .visit))
+    ≡ putPlace (a .z) (a .words .now) (a .visit .cache)
+    (fetchedOf (a .z) (a .words .now) (a .visit))
 fetched c =
     let s = c .before .before .before .before .before in
     let a = s .args in

@@ -1,7 +1,6 @@
 -- `run_visit` visits with the run's own snapshot and read mask.
 -- Assumes nothing.
 use native.Mathlib.Omega.{arith}
-use lib.ListN.{length}
 use Rattle.step.proofs.Jobs.{Ready, job-ready}
 use Rattle.step.proofs.run_visit.Statement.{statement}
 use Rattle.step.proofs.run_visit.Tie as tie
@@ -9,9 +8,11 @@ use Rattle.step.proofs.run_visit.Tie as tie
 run-at-requires : tie.Need-run-at-requires
 run-at-requires c κs =
     let s = c .before in
-    let a = s .args in
-    (job-ready (a .words .now) (a .z) (a .r) (a .j) (s .pre .0) (s .pre .1 .0) (s .pre .1 .1)
-    .known .area .ranged, s .pre .1 .0)
+    let a = s .args in (
+      job-ready (a .words .now) (a .z) (a .r) (a .j) (s .pre .0) (s .pre .1 .0) (s .pre .1 .1)
+          .known .area .ranged,
+      s .pre .1 .0,
+    )
 
 -- The job is in range, in an open run.
 ready : (c : tie.After-run-at) → let a = c .before .before .args in

@@ -1,7 +1,6 @@
 -- `step_in` is refused for its cause, breaks the run, or finishes the job.
 -- Assumes nothing.
 use mathlib.Core.Path.{_≡_, sym, ap, _∙_}
-use mathlib.Core.List.{List}
 use Prim.Native.Nat.{ℕ, _+_, _≤_}
 use borrow.Author.Needs.{needs}
 use native.Mathlib.Omega.{arith}
@@ -9,7 +8,7 @@ use lib.ListN.{length, set}
 use Rattle.model.specs.Step.{stepCause}
 use Rattle.layout.specs.Reading.{storeOf}
 use Rattle.form.specs.Parts.{FormWith}
-use Rattle.form.proofs.Known.{form-long, form-counts}
+use Rattle.form.proofs.Known.{form-long}
 use Rattle.step.specs.Answers.{steppedWords}
 use Rattle.step.specs.Visits.{finished, VisitArea, VisitFormed}
 use Rattle.step.proofs.Jobs.{Ready, step-free}
@@ -140,9 +139,9 @@ finish-requires c κs =
     let t = c .before .before .before .before in
     let v = t .before .before in
     let n = v .before .before in
-    let Y = ready (n .before) in (
+    let low = ready (n .before) .low in (
       (area v, places v),
-      (t .try-visit .ensures, (omega (arith, here n), omega (arith, here n), omega (arith, Y .low))),
+      (t .try-visit .ensures, (omega (arith, here n), omega (arith, here n), omega arith)),
     )
 
 divided-requires : tie.Need-divided-requires

@@ -1,12 +1,10 @@
 -- `visit_of` reads the job and the plan.
 -- Assumes nothing.
-use mathlib.Core.Path.{_≡_, sym, ap, _∙_}
-use Prim.Native.Nat.{ℕ, _<_, _+_, _*_}
+use mathlib.Core.Path.{ap, _∙_}
 use borrow.Author.Needs.{needs}
 use native.Mathlib.Omega.{arith}
-use lib.ListN.{getD}
 use Rattle.sizes.specs.Bounds.{siteAt}
-use Rattle.model.specs.Store.{Job, Run}
+use Rattle.model.specs.Store.{Job}
 use Rattle.layout.specs.Reading.{readRun}
 use Rattle.form.proofs.Known.{master-found}
 use Rattle.step.proofs.Jobs.{run-job}

@@ -8,7 +8,7 @@ use native.Mathlib.Omega.{arith}
 use lib.ListN.{length}
 use Rattle.words.proofs.Bools.{le-leb, gt-leb}
 use Rattle.model.specs.Outcome.{refuse, allowed, stepRow}
-use Rattle.model.specs.Step.{jobLimit, notReady}
+use Rattle.model.specs.Step.{jobLimit}
 use Rattle.layout.specs.Reading.{storeOf}
 use Rattle.form.proofs.Known.{form-area}
 use Rattle.status.proofs.Known.{RunKnown, run-known}
