@@ -6,8 +6,11 @@ pub mod row;
 use caches::Evicted;
 use caches::Fetched;
 use create::Created;
+use issue::Issued;
+use prepare::Prepared;
 use runs::Dropped;
 use runs::Opened;
+use step::Stepped;
 ghost use mathlib.Core.Path.{_≡_};
 ghost use mathlib.Core.List.{[], _∷_};
 ghost use Prim.Native.Nat.{_≤_, _<_};
@@ -15,6 +18,9 @@ ghost use lib.ListN.{length, take};
 ghost use Rattle.create.specs.Answer.{createdWords};
 ghost use Rattle.runs.specs.Runs.{openedWords, droppedWords};
 ghost use Rattle.caches.specs.Answers.{fetchedWords, evictedWords};
+ghost use Rattle.prepare.specs.Answers.{preparedWords};
+ghost use Rattle.step.specs.Answers.{steppedWords};
+ghost use Rattle.issue.specs.Answers.{issuedWords};
 
 // An outcome and one number.
 pub fn put_two(answer: &mut [u32], outcome: u32, number: u32) -> usize
@@ -79,5 +85,52 @@ pub fn put_evicted(answer: &mut [u32], r: Evicted) -> usize
     match r {
         Evicted::Done(gone) => put_two(answer, 0, gone),
         Evicted::Refused(no) => put_two(answer, 2, no),
+    }
+}
+
+pub fn put_prepared(answer: &mut [u32], r: Prepared) -> usize
+    requires { ⌜ 24 ≤ length (now answer) ⌝ }
+    ensures words { λ n. ⌜ take n (now (answer .exit)) ≡ preparedWords r ⌝ }
+    ensures few { λ n. ⌜ (0 < n) × (n ≤ 18) ⌝ }
+{
+    match r {
+        Prepared::Done(carried) => put_two(answer, 0, carried),
+        Prepared::Refused(no) => put_two(answer, 2, no),
+    }
+}
+
+// Done and three masks.
+fn put_masks(answer: &mut [u32], a: u32, b: u32, c: u32) -> usize
+    requires { ⌜ 24 ≤ length (now answer) ⌝ }
+    ensures words { λ n. ⌜ take n (now (answer .exit)) ≡ 0 ∷ a ∷ b ∷ c ∷ [] ⌝ }
+    ensures four { λ n. ⌜ n ≡ 4 ⌝ }
+{
+    answer[0] = 0;
+    answer[1] = a;
+    answer[2] = b;
+    answer[3] = c;
+    4
+}
+
+pub fn put_stepped(answer: &mut [u32], r: Stepped) -> usize
+    requires { ⌜ 24 ≤ length (now answer) ⌝ }
+    ensures words { λ n. ⌜ take n (now (answer .exit)) ≡ steppedWords r ⌝ }
+    ensures few { λ n. ⌜ (0 < n) × (n ≤ 18) ⌝ }
+{
+    match r {
+        Stepped::Done(a, b, c) => put_masks(answer, a, b, c),
+        Stepped::Broken(mask) => put_two(answer, 1, mask),
+        Stepped::Refused(no) => put_two(answer, 2, no),
+    }
+}
+
+pub fn put_issued(answer: &mut [u32], r: Issued) -> usize
+    requires { ⌜ 24 ≤ length (now answer) ⌝ }
+    ensures words { λ n. ⌜ take n (now (answer .exit)) ≡ issuedWords r ⌝ }
+    ensures few { λ n. ⌜ (0 < n) × (n ≤ 18) ⌝ }
+{
+    match r {
+        Issued::Done(number) => put_two(answer, 0, number.0),
+        Issued::Refused(no) => put_two(answer, 2, no),
     }
 }

@@ -91,59 +91,65 @@ job-fine s r j h F =
 -- ---- the code of one job
 
 module _ (l : List ℕ) (z : Counts) (r j : ℕ) (U : UsedRun l z r) (h : j < storeOf l .run r .jobs)
-    where
-  -- What job j has to fetch.
-  abbrev startOf : Items
-  startOf =
-      jobStart (versions (z .writers)) (z .keys) (storeOf l .master) (storeOf l .run r .job) j
-      (siteCaches (storeOf l))
+  where
+    -- What job j has to fetch.
+    abbrev startOf : Items
+    startOf =
+        jobStart (versions (z .writers)) (z .keys) (storeOf l .master) (storeOf l .run r .job) j
+        (siteCaches (storeOf l))
 
-  start-bits : testBit (maskBelow (z .keys) startOf) ≡ startOf
-  unfolding jobStart
-  start-bits =
-      lacking-bits (versions (z .writers)) (z .keys) _ (storeOf l .run r .job j .reads)
-      (job-known l z r U j h .reads)
+    start-bits : testBit (maskBelow (z .keys) startOf) ≡ startOf
+    unfolding jobStart
+    start-bits =
+        lacking-bits (versions (z .writers)) (z .keys) _ (storeOf l .run r .job j .reads)
+        (job-known l z r U j h .reads)
 
-  pub start-low : (m : ℕ) → m ≡ maskBelow (z .keys) startOf → m < 2 ^ z .keys
-  start-low m e = rw e (mask-lt (z .keys) startOf (z .keys) (omega arith))
+    pub start-low : (m : ℕ) → m ≡ maskBelow (z .keys) startOf → m < 2 ^ z .keys
+    start-low m e = rw e (mask-lt (z .keys) startOf (z .keys) (omega arith))
 
-  pub site-low : (o : ℕ) → o ≡ storeOf l .run r .job j .site → o < z .sites
-  site-low o e = rw e (job-known l z r U j h .site)
+    pub site-low : (o : ℕ) → o ≡ storeOf l .run r .job j .site → o < z .sites
+    site-low o e = rw e (job-known l z r U j h .site)
 
-  -- o, at, reads: the site of the job, where it is, and what the job reads.
-  pub start-as : (o at reads m : ℕ) → o ≡ storeOf l .run r .job j .site → at ≡ siteAt z o
-      → reads ≡ storeOf l .run r .job j .reads
-      → m ≡ maskBelow (z .keys) (lacking (versions (z .writers)) (z .keys) (readPlace z l at)
-      (testBit reads))
-      → m ≡ maskBelow (z .keys) startOf
-  unfolding jobStart siteCaches
-  start-as o at reads m p q f e =
-      rw (← f, ← p, cache-in l z (U .form .counts) o (site-low o p), ← q) e
+    -- o, at, reads: the site of the job, where it is, and what the job reads.
+    pub start-as : (o at reads m : ℕ) → o ≡ storeOf l .run r .job j .site → at ≡ siteAt z o
+        → reads ≡ storeOf l .run r .job j .reads
+        → m ≡ maskBelow (z .keys) (lacking (versions (z .writers)) (z .keys) (readPlace z l at)
+        (testBit reads))
+        → m ≡ maskBelow (z .keys) startOf
+    unfolding jobStart siteCaches
+    start-as o at reads m p q f e =
+        rw (← f, ← p, cache-in l z (U .form .counts) o (site-low o p), ← q) e
 
-  -- master, start: where the master is, and the mask of what is to be fetched.
-  pub lacked-as : (master start : ℕ) (b : Bool) → master ≡ masterAt z
-      → start ≡ maskBelow (z .keys) startOf
-      → b ≡ unfetchable (versions (z .writers)) (z .keys) (readPlace z l master) (testBit start)
-      → b ≡ unfetchable (versions (z .writers)) (z .keys) (storeOf l .master) startOf
-  lacked-as master start b p q e =
-      rw (← start-bits, ← q, master-in l z (U .form .counts), ← p) e
+    -- master, start: where the master is, and the mask of what is to be fetched.
+    pub lacked-as : (master start : ℕ) (b : Bool) → master ≡ masterAt z
+        → start ≡ maskBelow (z .keys) startOf
+        → b ≡ unfetchable (versions (z .writers)) (z .keys) (readPlace z l master) (testBit start)
+        → b ≡ unfetchable (versions (z .writers)) (z .keys) (storeOf l .master) startOf
+    lacked-as master start b p q e =
+        rw (← start-bits, ← q, master-in l z (U .form .counts), ← p) e
 
-  pub job-stored : (o at master start : ℕ) (m : List ℕ) → o ≡ storeOf l .run r .job j .site
-      → at ≡ siteAt z o → master ≡ masterAt z → start ≡ maskBelow (z .keys) startOf
-      → m ≡ putPlace z l at (fetched (versions (z .writers)) (z .keys) (readPlace z l master)
-      (readPlace z l at) (testBit start))
-      → m ≡ written (fetchedJob (storeOf l) r j) l
-  unfolding siteCaches
-  job-stored o at master start m p q f g e =
-      let s = storeOf l in
-      let below = site-low o p in
-      let taken = fetched (versions (z .writers)) (z .keys) (s .master) (s .site o .cache) startOf in
-      let same : taken ≡ jobCache s r j = rw (form-counts l z (U .form), ← p) in
-      let stored : m ≡ putPlace z l (siteAt z o) taken =
-      rw (← start-bits, ← g, master-in l z (U .form .counts), ← f,
-      cache-in l z (U .form .counts) o below, ← q) e in
-      stored ∙ cache-stored l z (U .form) o taken below
-      ∙ ap (λ (t : Store). written t l) (ap (withCache s o) same ∙ rw p (job-cache s r j))
+    pub job-stored : (o at master start : ℕ) (m : List ℕ) → o ≡ storeOf l .run r .job j .site
+        → at ≡ siteAt z o → master ≡ masterAt z → start ≡ maskBelow (z .keys) startOf
+        → m ≡ putPlace z l at (fetched (versions (z .writers)) (z .keys) (readPlace z l master)
+        (readPlace z l at) (testBit start))
+        → m ≡ written (fetchedJob (storeOf l) r j) l
+    unfolding siteCaches
+    job-stored o at master start m p q f g e =
+        let s = storeOf l in
+        let below = site-low o p in
+        let taken = fetched (versions (z .writers)) (z .keys) (s .master) (s .site o .cache) startOf in
+        let same : taken ≡ jobCache s r j = rw (form-counts l z (U .form), ← p) in
+        let stored : m ≡ putPlace z l (siteAt z o) taken =
+        rw (
+          ← start-bits,
+          ← g,
+          master-in l z (U .form .counts),
+          ← f,
+          cache-in l z (U .form .counts) o below,
+          ← q,
+        ) e in
+        stored ∙ cache-stored l z (U .form) o taken below
+        ∙ ap (λ (t : Store). written t l) (ap (withCache s o) same ∙ rw p (job-cache s r j))
 
 -- ---- the first n jobs
 
