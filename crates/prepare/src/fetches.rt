@@ -69,11 +69,11 @@ pub fn fetch_job(words: &mut [u32], z: Counts, r: usize, j: usize)
     ensures { λ _. ⌜ now (words .exit)
         ≡ written (fetchedJob (storeOf (now (words .entry))) r j) (now (words .entry)) ⌝ }
 {
-    let site = wide(job_site(words, z, r, j));
+    let o = wide(job_site(words, z, r, j));
     let start = job_start(words, z, r, j);
-    let at = z.site_at(site);
+    let cache = z.site_at(o);
     let areas = z.areas();
-    fetch_keys(words, z, areas.master, at, start);
+    fetch_keys(words, z, areas.master, cache, start);
 }
 
 // The fetches of all jobs of run r.
