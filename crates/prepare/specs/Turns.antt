@@ -1,7 +1,6 @@
 -- What the parts of prepare leave of a store, and what they ask of a buffer.
 -- startOf: what a job has to fetch. fetchedJob, fetchedJobs: the fetch of one job, of the first n.
--- mergedSites: the first n sites merged. merged: the store with all of them in the run's snapshot.
--- siteMerged: one turn.
+-- mergedSites, merged: the merge of the first n sites, of all. siteMerged: of one, in words.
 -- UsedRun: a run that isn't free. MergeArea: a snapshot that the caches are merged into.
 -- Assumes nothing.
 use mathlib.Core.Path.{_≡_}
@@ -56,6 +55,7 @@ mergedSites s r n =
     sitesMerged (versions (s .counts .writers)) n (usesSite (a .jobs) (a .job))
     (planned (a .jobs) (a .job)) (siteCaches s)
 
+-- The store with all sites merged in the snapshot of run r.
 unfoldable pub merged : Store → ℕ → Store
 merged s r =
     withRun s r (withSnapshot (s .run r) (mergedSites s r (s .counts .sites)))
