@@ -36,6 +36,9 @@ ghost use Rattle.step.specs.Answers.{steppedWords};
 ghost use Rattle.step.specs.Jobs.{jobCause};
 ghost use Rattle.step.specs.Visits.{visitOf, runVisit, startOf, trialOf, finished, VisitArea, VisitFormed};
 
+// The mask of every job.
+const EVERY_JOB: u32 = 255;
+
 // The reads from the snapshot, from the cache and from the master; or the keys that would move
 // though the run has read them; or the cause's number.
 pub enum Stepped {
@@ -147,7 +150,7 @@ fn visit_of(words: &[u32], z: Counts, at: usize, snapshot: usize, read: usize, j
     let job = at + 4 + j * 3;
     let areas = z.areas();
     let cache = z.site_at(wide(words[job]));
-    let plan = reads_of(words, at + 4, words[at + 1], 255);
+    let plan = reads_of(words, at + 4, words[at + 1], EVERY_JOB);
     Visit {
         master: areas.master,
         cache,
@@ -222,9 +225,9 @@ fn divided(reads: u32, trial: Trial) -> Stepped
         (without (bitAnd reads (trial .pulled)) (trial .taken))
         (bitAnd (bitAnd reads (trial .pulled)) (trial .taken)) ⌝ }
 {
-    let pulled = reads & trial.pulled;
+    let reads_pulled = reads & trial.pulled;
     let from_snapshot = without(reads, trial.pulled);
-    let from_cache = without(pulled, trial.taken);
-    let from_master = pulled & trial.taken;
+    let from_cache = without(reads_pulled, trial.taken);
+    let from_master = reads_pulled & trial.taken;
     Stepped::Done(from_snapshot, from_cache, from_master)
 }
