@@ -191,7 +191,7 @@ fn try_visit(words: &[u32], z: Counts, visit: Visit) -> Trial
 
 // Breaks the run at an index: its state becomes 2, and nothing else changes.
 fn break_run(words: &mut [u32], at: usize)
-    requires { ⌜ at < length (now words) ⌝ }
+    requires { ⌜ at + 28 ≤ length (now words) ⌝ }
     ensures { λ _. ⌜ now (words .exit) ≡ set (now (words .entry)) at brokenState ⌝ }
 {
     words[at] = BROKEN_STATE;
