@@ -11,7 +11,7 @@ without-requires-2 : tie.Need-without-requires-2
 without-requires-2 c κs = search needs
 
 returns : tie.Need-returns
-returns c = rw (c .before .without .ensures, c .without2 .ensures)
+returns c = rw (c .before .before .without .ensures, c .before .without2 .ensures)
 
 pub divided-spec : {M : Type 1} → statement M
 divided-spec = tie.close (tie.spec without-requires without-requires-2 returns)
