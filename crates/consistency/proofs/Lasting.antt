@@ -153,7 +153,8 @@ module _ (s : Store) (F : Fine s) (r : ℕ) (h : r < s .counts .runs) where
   unfolding stepRule
   step-lasts x j =
       let moved = anyBelow (s .counts .keys) (stepMoved s x j) in
-      unless-cases (Now (step x j)) (stepCause s x j) (cond moved (stepBroken s x j) (stepDone s x j))
+      unless-cases (Now (step x j)) (stepCause s x j)
+      (cond moved (stepBroken s x j) (stepDone s x j))
       (λ free. test moved (λ y. rw y (broken-lasts x j free)) (λ n. rw n (done-lasts x j)))
       (λ _. lasts-refused (step x j) r (stepCause s x j) (s .run r))
 
@@ -168,8 +169,8 @@ module _ (s : Store) (F : Fine s) (r : ℕ) (h : r < s .counts .runs) where
   unfolding openRule openDone withRun openedRun opens frees isOk
   open-lasts x l =
       unless-cases (Now (openRun x l)) (openCause s x l) (openDone s x l)
-      (λ free. putAt-cases (λ b. Lasts (openRun x l) r (openDone s x l) (s .run r) b) (s .run) x _ r
-      (λ e. record {
+      (λ free. putAt-cases (λ b. Lasts (openRun x l) r (openDone s x l) (s .run r) b) (s .run) x _
+      r (λ e. record {
         lasts = λ u _. absurd (u (open-free l (rw e free)));
         freed = λ p. absurd (false≢true p);
         begun = λ _ _. rw (eq-eqb r x e);
