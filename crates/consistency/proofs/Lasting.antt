@@ -2,17 +2,17 @@
 -- lasts-same: a run that the call leaves in its state, with its jobs. lasting: the claim.
 -- Assumes nothing.
 use mathlib.Core.Path.{_≡_, refl, sym, _∙_}
-use mathlib.Core.Bool.{Bool, true, false, cond, So, _&&_, false≢true}
+use mathlib.Core.Bool.{Bool, true, false, cond, _&&_, false≢true}
 use mathlib.Core.Logic.{_≢_}
 use mathlib.Core.List.{List}
-use Prim.Native.Nat.{ℕ, zero, suc, _<_}
+use Prim.Native.Nat.{ℕ, _<_}
 use native.Mathlib.Omega.{arith}
 use lib.Dec.{eqb}
 use Rattle.words.specs.Lists.{putAt}
-use Rattle.words.proofs.Bools.{test, clash, eq-eqb, ne-eqb, eqb-eq, eqb-ne}
+use Rattle.words.proofs.Bools.{test, clash, eq-eqb, ne-eqb}
 use Rattle.words.proofs.Lists.{putAt-cases}
 use Rattle.model.specs.Store.{Run, Store, freeRun, withSnapshot, withState, withJobDone, withRun, withSites, withCache, withLast, withMaster, withWriter}
-use Rattle.model.specs.Outcome.{Outcome, refused, broken, done, allowed, openRow, stepRow, freeState}
+use Rattle.model.specs.Outcome.{Outcome, refused, broken, done, allowed, stepRow, freeState}
 use Rattle.model.specs.Runs.{openCause, openDone, openRule, openedRun, dropCause, dropDone, dropRule}
 use Rattle.model.specs.Caches.{fetchCause, fetchDone, fetchRule, evictCause, evictDone, evictRule}
 use Rattle.model.specs.Prepare.{prepareCause, prepareDone, prepareRule}
@@ -20,9 +20,9 @@ use Rattle.model.specs.Step.{stepCause, stepBroken, stepDone, stepRule, stepMov
 use Rattle.model.specs.Issue.{issueCause, issueSaved, issueDone, issueRule}
 use Rattle.model.specs.Look.{lookCause, lookDone, lookRule}
 use Rattle.model.specs.Calls.{StoreCall, openRun, fetch, evict, prepare, step, issue, dropRun, look, ruleOf}
-use Rattle.model.proofs.Outcomes.{no-cause, no-lack, allowed-used, unless-cases, nextStore}
+use Rattle.model.proofs.Outcomes.{no-cause, no-lack, allowed-used, free-state, unless-cases, nextStore}
 use Rattle.model.proofs.Formed.{well-out}
-use Rattle.model.proofs.Plans.{plan-out}
+use Rattle.model.proofs.Plans.{state-low}
 use Rattle.words.specs.Tests.{anyBelow}
 use Rattle.layout.specs.Reading.{storeOf}
 use Rattle.layout.specs.Calls.{leaves, isOk}
@@ -56,14 +56,6 @@ and-yes : (b : Bool) → b && true ≡ b
 and-yes true = refl
 and-yes false = refl
 
--- Only a free run may be opened.
-free-state : (n : ℕ) → n < 3 → So (allowed openRow n) → n ≡ freeState
-unfolding allowed
-free-state zero h p = refl
-free-state (suc zero) h p = absurd (false≢true p)
-free-state (suc (suc zero)) h p = absurd (false≢true p)
-free-state (suc (suc (suc n))) h p = absurd (omega arith)
-
 lasts-refused : (c : StoreCall) (r n : ℕ) (a : Run) → Lasts c r (refused n) a a
 unfolding isOk
 lasts-refused c r n a = lasts-it c r (refused n) a (and-no (frees r c))
@@ -74,14 +66,6 @@ module _ (s : Store) (F : Fine s) (r : ℕ) (h : r < s .counts .runs) where
   -- The run before the call and after it.
   abbrev Now : StoreCall → Outcome → Type 0
   Now c x = Lasts c r x (s .run r) (nextStore x s .run r)
-
-  state-low : s .run r .state < 3
-  state-low =
-      let z = s .counts in
-      let a = s .run r in
-      test (eqb (a .state) 0) (λ t. omega (arith, eqb-eq (a .state) 0 t)) (λ t.
-      let used = eqb-ne (a .state) 0 t in
-      omega (arith, plan-out z a (omega arith) (well-out s (F .formed) .run r h) .state))
 
   fetch-lasts : (o k : ℕ) → Now (fetch o k) (fetchRule o k s)
   unfolding fetchRule fetchDone withCache withSites frees
@@ -163,7 +147,8 @@ module _ (s : Store) (F : Fine s) (r : ℕ) (h : r < s .counts .runs) where
   unfolding openCause
   open-free l e =
       let a = no-cause _ 3 _ (omega arith) e in
-      free-state (s .run r .state) state-low (no-lack _ 4 _ (omega arith) (a .1) .0)
+      let low = state-low (s .counts) (s .run r) (well-out s (F .formed) .run r h) in
+      free-state (s .run r .state) low (no-lack _ 4 _ (omega arith) (a .1) .0)
 
   open-lasts : (x : ℕ) (l : List ℕ) → Now (openRun x l) (openRule x l s)
   unfolding openRule openDone withRun openedRun opens frees isOk

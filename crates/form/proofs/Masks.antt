@@ -4,7 +4,7 @@
 use mathlib.Core.Path.{_≡_, sym, ap, _∙_}
 use mathlib.Core.Bool.{So, _&&_}
 use mathlib.Core.List.{List}
-use Prim.Native.Nat.{ℕ, _+_, _*_, _≤_, _<_, _^_}
+use Prim.Native.Nat.{ℕ, _+_, _≤_, _<_, _^_}
 use native.Mathlib.Omega.{arith}
 use lib.Bits.{bitOr}
 use lib.Dec.{eqb, ltb}
@@ -15,7 +15,7 @@ use Rattle.words.proofs.Numbers.{when-le}
 use Rattle.words.proofs.Tests.{any-same}
 use Rattle.masks.specs.Mask.{testBit, maskBelow, unionBelow}
 use Rattle.masks.proofs.Sets.{union-more, mask-lt, test-mask, mask-ext-below, union-lt, test-union}
-use Rattle.sizes.specs.Bounds.{maxJobs, between}
+use Rattle.sizes.specs.Bounds.{maxJobs, jobAt, between}
 use Rattle.sizes.specs.declared.Counts.{Counts}
 use Rattle.model.specs.Form.{jobsFormed, masksFormed}
 use Rattle.model.specs.Store.{Job, Run, doneReads}
@@ -28,7 +28,7 @@ use Rattle.reach.proofs.Masked.{test-when}
 -- One job more.
 pub reads-step : (l : List ℕ) (at mask j : ℕ) → j < maxJobs
     → readsOf (j + 1) (readJobs l at) mask
-    ≡ bitOr (readsOf j (readJobs l at) mask) (when (testBit mask j) (getD l (at + j * 3 + 1) 0))
+    ≡ bitOr (readsOf j (readJobs l at) mask) (when (testBit mask j) (getD l (jobAt at j + 1) 0))
 unfolding readsOf
 reads-step l at mask j h =
     let f : ℕ → ℕ = λ j. when (testBit mask j) (readJobs l at j .reads) in

@@ -6,17 +6,17 @@ use mathlib.Core.List.{List}
 use Prim.Native.Nat.{ℕ, _+_, _*_, _<_}
 use native.Mathlib.Omega.{arith}
 use lib.ListN.{getD}
-use Rattle.sizes.specs.Bounds.{maxJobs}
+use Rattle.sizes.specs.Bounds.{maxJobs, jobAt}
 use Rattle.sizes.specs.declared.Counts.{Counts}
-use Rattle.model.specs.Store.{Run, Job}
+use Rattle.model.specs.Store.{Run}
 use Rattle.layout.specs.Reading.{readPlace, readJob, readJobs, readRun}
 use Rattle.layout.proofs.Readings.{job-at}
 use Rattle.form.specs.Parts.{jobOf}
 
 -- Job i, of three words.
-pub job-words : (l : List ℕ) (at i : ℕ) → i < maxJobs → let j = at + i * 3 in
+pub job-words : (l : List ℕ) (at i : ℕ) → i < maxJobs → let j = jobAt at i in
     readJobs l at i ≡ jobOf (getD l j 0) (getD l (j + 1) 0) (getD l (j + 2) 0)
-unfolding readJob
+unfolding readJob jobAt
 job-words l at i h =
     let e : at + i * 3 + 1 + 1 ≡ at + i * 3 + 2 = omega arith in job-at l at i h ∙ rw e
 

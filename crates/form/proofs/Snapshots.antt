@@ -1,8 +1,8 @@
 -- The snapshot of a run by masks: the keys that it holds, the plan's and those read.
--- without-none: one mask within another.
+-- without-none: one mask within another. test-plan: the plan as a mask.
 -- carried-test, empty-test, free-test: what the code tests is what is asked.
 -- Assumes nothing.
-use mathlib.Core.Path.{_≡_, refl, ap, ap₂, _∙_}
+use mathlib.Core.Path.{_≡_, refl, ap, ap₂, _∙_, fun-ext}
 use mathlib.Core.Bool.{Bool, true, false, cond, not, So, _&&_, _||_, and-true, and-false}
 use mathlib.Core.List.{List}
 use Prim.Native.Nat.{ℕ, zero, suc, _+_, _≤_, _<_, _^_}
@@ -73,13 +73,13 @@ unfolding allBelow testBit
 every-job = refl
 
 -- The keys that are read by any job are the plan's.
-test-plan : (n : ℕ) (job : ℕ → Job) (k : ℕ) → n ≤ maxJobs
-    → testBit (readsOf n job 255) k ≡ planned n job k
+pub test-plan : (n : ℕ) (job : ℕ → Job) → n ≤ maxJobs
+    → testBit (readsOf n job 255) ≡ planned n job
 unfolding doneReads planned
-test-plan n job k h =
-    test-reads n job 255 k
+test-plan n job h =
+    fun-ext (λ k. test-reads n job 255 k
     ∙ any-same n (λ j. testBit 255 j && testBit (job j .reads) k) (λ j. testBit (job j .reads) k)
-    (λ j i. rw (all-at maxJobs (testBit 255) every-job j (omega arith)))
+    (λ j i. rw (all-at maxJobs (testBit 255) every-job j (omega arith))))
 
 -- The mask of the keys that a place holds.
 abbrev heldMask : Counts → Place Version → ℕ
@@ -104,7 +104,7 @@ carried-test z a J M =
     (ap₂ _&&_
     (without-none n h plan (mask-lt n holds n (omega arith))
     ∙ all-same n (λ k. implies (testBit h k) (testBit plan k)) A
-    (λ k i. rw (test-mask n holds k i, test-plan (a .jobs) (a .job) k most)))
+    (λ k i. rw (test-mask n holds k i, test-plan (a .jobs) (a .job) most)))
     (without-none n (a .read) h low
     ∙ all-same n (λ k. implies (testBit (a .read) k) (testBit h k)) B
     (λ k i. rw (test-mask n holds k i)))

@@ -3,6 +3,7 @@ use masks::has;
 use masks::mask_if;
 use sizes::Counts;
 use sizes::Sizes;
+use sizes::job_at;
 use words::wide;
 ghost use mathlib.Core.Path.{_≡_};
 ghost use Prim.Native.Nat.{_+_, _^_, _≤_, _<_};
@@ -44,7 +45,7 @@ pub fn job_formed(words: &[u32], z: Counts, at: usize, n: usize, i: usize) -> bo
     requires { ⌜ (at + 24 ≤ length (now words)) × (i < maxJobs) ⌝ }
     ensures { λ r. ⌜ r ≡ jobFormed z n i (readJobs (now (words .entry)) at i) ⌝ }
 {
-    let job = at + i * 3;
+    let job = job_at(at, i);
     let site = words[job];
     let reads = words[job + 1];
     let upstream = words[job + 2];
@@ -80,7 +81,7 @@ pub fn reads_of(words: &[u32], at: usize, n: u32, mask: u32) -> u32
     let mut all: u32 = 0;
     let mut j: u32 = 0;
     while j < n {
-        let job = at + wide(j) * 3;
+        let job = job_at(at, wide(j));
         all = all | mask_if(has(mask, j), words[job + 1]);
         j += 1;
     }

@@ -14,7 +14,7 @@ use native.Mathlib.Omega.{arith}
 use lib.ListN.{length, getD, set}
 use lib.Seq.{sets, set-getD}
 use Rattle.words.specs.Words.{put}
-use Rattle.words.specs.Lists.{window, putAt}
+use Rattle.words.specs.Lists.{putAt}
 use Rattle.words.proofs.Lists.{upto-in, blocks-ext}
 use Rattle.words.proofs.Words.{put-in, put-same}
 use Rattle.words.proofs.Slots.{slot-end}
@@ -27,7 +27,7 @@ use Rattle.layout.specs.Words.{clockWords, pastWords, versionWords, writerWords
 use Rattle.layout.specs.Reading.{readWord, readClock, readPast, readVersion, readWriter}
 use Rattle.layout.specs.Stored.{putVersion, putWriter}
 use Rattle.layout.proofs.Codec.{Laws, many-put, many-part}
-use Rattle.layout.proofs.Parts.{Any, clock-laws, past-laws, writer-laws}
+use Rattle.layout.proofs.Parts.{word-laws, clock-laws, past-laws, writer-laws}
 use Rattle.layout.proofs.Windows.{part-beside, part-again, part-twice}
 use Rattle.layout.proofs.Merges.{put-table}
 use Rattle.version.proofs.Versions.{table-window}
@@ -87,15 +87,6 @@ merge-past z l dst src h =
     ∙ rw (past-word z l dst d u i j, past-word z l src d u i j)))
 
 -- ---- one count stored
-
-word-laws : Laws 1 (λ x. x ∷ []) readWord Any
-unfolding window
-word-laws = record {
-  long = λ a. refl;
-  round = λ l at. refl;
-  fits = λ l at. record {};
-  same = λ a b _ _ e. ap (λ (l : List ℕ). getD l 0 0) e;
-}
 
 clock-set : (z : Counts) (c : Clock) (u n : ℕ) → u < z .writers
     → sets (clockWords z c) u (n ∷ []) ≡ clockWords z (putAt c u n)

@@ -27,7 +27,7 @@ pub record Any (x : ℕ) : Type 0 where
 cons-same : (x y : ℕ) (a b : List ℕ) → x ∷ a ≡ y ∷ b → (x ≡ y) × (a ≡ b)
 cons-same x y a b e = (ap (λ (l : List ℕ). getD l 0 0) e, ap (drop 1) e)
 
-word-laws : Laws 1 (λ x. x ∷ []) readWord Any
+pub word-laws : Laws 1 (λ x. x ∷ []) readWord Any
 unfolding window
 word-laws = record {
   long = λ a. refl;

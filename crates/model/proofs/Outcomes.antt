@@ -1,16 +1,16 @@
 -- Laws of outcomes: the rows of the refusal table, the table of states, and a call refused or not.
--- no-cause, no-lack: a row that is passed. allowed-used: the run isn't free.
+-- no-cause, no-lack: a row that is passed. allowed-used: the run isn't free. free-state: it is.
 -- unless-..: refused for a cause, or what the call does. nextStore: the store after a call.
 -- Assumes nothing.
 use mathlib.Core.Path.{_≡_, refl}
-use mathlib.Core.Bool.{Bool, true, false, not, So}
+use mathlib.Core.Bool.{Bool, true, false, not, So, false≢true}
 use mathlib.Core.Logic.{_≢_}
 use Prim.Native.Nat.{ℕ, zero, suc, _≤_, _<_}
 use native.Mathlib.Omega.{arith}
 use lib.Dec.{eqb}
 use Rattle.words.proofs.Bools.{test, clash, eqb-eq, eqb-ne, ne-eqb}
 use Rattle.model.specs.Store.{Store}
-use Rattle.model.specs.Outcome.{Outcome, refused, broken, done, refuse, unless, allowed, freeState}
+use Rattle.model.specs.Outcome.{Outcome, refused, broken, done, refuse, unless, allowed, openRow, freeState}
 
 -- A row of the refusal table that is passed: its cause doesn't hold, and the rows below are left.
 pub no-cause : (b : Bool) (n rest : ℕ) → 0 < n → refuse b n rest ≡ 0 → (b ≡ false) × (rest ≡ 0)
@@ -28,6 +28,14 @@ no-lack false n rest l e = absurd (omega arith)
 pub allowed-used : (row n : ℕ) → allowed row freeState ≡ false → So (allowed row n) → 1 ≤ n
 allowed-used row zero e p = clash p e
 allowed-used row (suc n) e p = omega arith
+
+-- Only a free run may be opened.
+pub free-state : (n : ℕ) → n < 3 → So (allowed openRow n) → n ≡ freeState
+unfolding allowed
+free-state zero h p = refl
+free-state (suc zero) h p = absurd (false≢true p)
+free-state (suc (suc zero)) h p = absurd (false≢true p)
+free-state (suc (suc (suc n))) h p = absurd (omega arith)
 
 -- ---- a call that may be refused
 

@@ -1,6 +1,6 @@
 -- Laws of the form of a run.
 -- Valid: a valid job. Plan: the form of a run that isn't free, as a record; plan-out, plan-in.
--- free-formed: a free run. read-planned: what is read is in the plan.
+-- free-formed: a free run. read-planned: what is read is in the plan. state-low: its state.
 -- Assumes nothing.
 use mathlib.Core.Path.{_≡_, refl, ap}
 use mathlib.Core.Bool.{Bool, cond, not, So, _&&_}
@@ -206,3 +206,11 @@ read-planned z a F k l p =
     (λ n. let used : 1 ≤ a .state = omega (arith, eqb-ne (a .state) 0 n) in
     let P = plan-out z a used F in
     P .snapshot .carried k l (P .snapshot .has k l p))
+
+-- ---- states
+
+pub state-low : (z : Counts) (a : Run) → So (runFormed z a) → a .state < 3
+state-low z a p =
+    test (eqb (a .state) 0) (λ t. omega (arith, eqb-eq (a .state) 0 t)) (λ t.
+    let used = eqb-ne (a .state) 0 t in
+    omega (arith, plan-out z a (omega arith) p .state))

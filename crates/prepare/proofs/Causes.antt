@@ -3,7 +3,7 @@
 -- isn't free.
 -- Assumes nothing.
 use mathlib.Core.Path.{_≡_, refl, sym, ap, _∙_}
-use mathlib.Core.Bool.{Bool, true, false, cond, not}
+use mathlib.Core.Bool.{Bool, cond, not}
 use mathlib.Core.Logic.{_≢_}
 use mathlib.Core.List.{List}
 use Prim.Native.Nat.{ℕ}
@@ -20,16 +20,8 @@ use Rattle.layout.specs.Reading.{storeOf}
 use Rattle.form.specs.Parts.{FormWith}
 use Rattle.form.proofs.Known.{form-counts}
 use Rattle.status.specs.Status.{runCause}
-use Rattle.status.proofs.Known.{cause-below}
+use Rattle.status.proofs.Known.{cause-below, first-two}
 use Rattle.prepare.specs.Turns.{UsedRun}
-
--- Of two causes and what is left: the two, and where neither holds what is left.
-first-two : (a b : Bool) (m : ℕ) → let n = refuse a 3 (refuse b 4 0) in
-    refuse a 3 (refuse b 4 m) ≡ cond (eqb n 0) m n
-unfolding refuse
-first-two true b m = refl
-first-two false true m = refl
-first-two false false m = refl
 
 -- What is asked of the run's jobs.
 jobsCause : Store → ℕ → ℕ

@@ -2,27 +2,27 @@
 -- JobsKnown, jobs-known: where it lies, and its jobs. job-known: one of them. ..-word: what is
 -- read where. uses-..: the sites that its jobs are at, one job after the other. plan-..: its plan.
 -- Assumes nothing.
-use mathlib.Core.Path.{_≡_, refl, sym, ap, _∙_, fun-ext}
-use mathlib.Core.Bool.{So, _&&_}
+use mathlib.Core.Path.{_≡_, sym, ap, _∙_, fun-ext}
+use mathlib.Core.Bool.{So}
 use mathlib.Core.List.{List}
-use Prim.Native.Nat.{ℕ, _+_, _*_, _≤_, _<_}
+use Prim.Native.Nat.{ℕ, _+_, _≤_, _<_}
 use native.Mathlib.Omega.{arith}
 use lib.Dec.{eqb}
 use lib.ListN.{length, getD}
-use Rattle.words.specs.Tests.{allBelow, anyBelow}
-use Rattle.words.proofs.Bools.{same-test, eqb-eq, eq-eqb}
-use Rattle.words.proofs.Tests.{any-same, any-more, all-at}
+use Rattle.words.specs.Tests.{anyBelow}
+use Rattle.words.proofs.Bools.{eqb-sym}
+use Rattle.words.proofs.Tests.{any-more}
 use Rattle.masks.specs.Mask.{testBit, withBit}
 use Rattle.masks.proofs.Bits.{test-with, test-none}
 use Rattle.sizes.specs.declared.Counts.{Counts}
-use Rattle.sizes.specs.Bounds.{maxJobs, runAt}
-use Rattle.model.specs.Store.{Job, Run, planned, doneReads}
+use Rattle.sizes.specs.Bounds.{maxJobs, runAt, jobAt}
+use Rattle.model.specs.Store.{Job, Run, planned}
 use Rattle.model.specs.Form.{runFormed}
 use Rattle.model.specs.Prepare.{usesSite}
 use Rattle.model.proofs.Plans.{Valid, Jobs, valid-out, plan-out}
 use Rattle.layout.specs.Reading.{readJobs, storeOf}
 use Rattle.form.specs.Parts.{RunArea, jobOf, readsOf}
-use Rattle.form.proofs.Masks.{test-reads}
+use Rattle.form.proofs.Snapshots.{test-plan}
 use Rattle.form.proofs.Runs.{job-words, wordsRun, run-words}
 use Rattle.status.proofs.Known.{run-known}
 use Rattle.prepare.specs.Turns.{UsedRun}
@@ -66,15 +66,15 @@ module _ (l : List ℕ) (z : Counts) (r : ℕ) (U : UsedRun l z r) where
     pub job-low : j < maxJobs
     job-low = omega (arith, jobs-known .jobs .high)
 
-    job-word : let at = runAt z r + 4 + j * 3 in
+    job-word : let at = jobAt (runAt z r + 4) j in
         storeOf l .run r .job j ≡ jobOf (getD l at 0) (getD l (at + 1) 0) (getD l (at + 2) 0)
     job-word =
         ap (λ (f : ℕ → Job). f j) (sym jobs-words) ∙ job-words l (runAt z r + 4) j job-low
 
-    pub site-word : getD l (runAt z r + 4 + j * 3) 0 ≡ storeOf l .run r .job j .site
+    pub site-word : getD l (jobAt (runAt z r + 4) j) 0 ≡ storeOf l .run r .job j .site
     site-word = sym (ap (λ (a : Job). a .site) job-word)
 
-    pub reads-word : getD l (runAt z r + 4 + j * 3 + 1) 0 ≡ storeOf l .run r .job j .reads
+    pub reads-word : getD l (jobAt (runAt z r + 4) j + 1) 0 ≡ storeOf l .run r .job j .reads
     reads-word = sym (ap (λ (a : Job). a .reads) job-word)
 
 -- ---- the sites of the jobs
@@ -82,10 +82,6 @@ module _ (l : List ℕ) (z : Counts) (r : ℕ) (U : UsedRun l z r) where
 pub uses-none : (job : ℕ → Job) → testBit 0 ≡ usesSite 0 job
 unfolding usesSite anyBelow
 uses-none job = fun-ext (λ o. test-none o)
-
-eqb-sym : (m n : ℕ) → eqb m n ≡ eqb n m
-eqb-sym m n =
-    same-test (λ p. eq-eqb n m (sym (eqb-eq m n p))) (λ p. eq-eqb m n (sym (eqb-eq n m p)))
 
 -- One job more.
 pub uses-more : (job : ℕ → Job) (n m : ℕ) → testBit m ≡ usesSite n job
@@ -97,20 +93,6 @@ uses-more job n m e =
 
 -- ---- the plan
 
--- 255 is the mask of 8 jobs.
-every-job : So (allBelow maxJobs (testBit 255))
-unfolding allBelow testBit
-every-job = refl
-
-pub plan-reads : (n : ℕ) (job : ℕ → Job) → n ≤ maxJobs
-    → testBit (readsOf n job 255) ≡ planned n job
-unfolding doneReads planned
-plan-reads n job h =
-    fun-ext (λ k. test-reads n job 255 k
-    ∙ any-same n (λ j. testBit 255 j && testBit (job j .reads) k)
-    (λ j. testBit (job j .reads) k)
-    (λ j i. rw (all-at maxJobs (testBit 255) every-job j (omega arith))))
-
 -- n, at, m: the number of jobs, the index of the run, and what the code finds.
 pub plan-as : (l : List ℕ) (z : Counts) (r : ℕ) (U : UsedRun l z r) (n at m : ℕ)
     → n ≡ storeOf l .run r .jobs → at ≡ runAt z r → m ≡ readsOf n (readJobs l (at + 4)) 255
@@ -118,4 +100,4 @@ pub plan-as : (l : List ℕ) (z : Counts) (r : ℕ) (U : UsedRun l z r) (n at m 
 plan-as l z r U n at m p q e =
     let J = jobs-known l z r U in
     rw (e, q, p, jobs-words l z r U)
-    (plan-reads (storeOf l .run r .jobs) (storeOf l .run r .job) (J .jobs .high))
+    (test-plan (storeOf l .run r .jobs) (storeOf l .run r .job) (J .jobs .high))

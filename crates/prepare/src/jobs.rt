@@ -3,6 +3,7 @@
 use form::job::reads_of;
 use masks::with_item;
 use sizes::Counts;
+use sizes::job_at;
 use words::wide;
 ghost use mathlib.Core.Path.{_≡_};
 ghost use Prim.Native.Nat.{_<_};
@@ -28,7 +29,8 @@ pub fn job_site(words: &[u32], z: Counts, r: usize, j: usize) -> u32
     ensures { λ o. ⌜ o ≡ storeOf (now (words .entry)) .run r .job j .site ⌝ }
 {
     let at = z.run_at(r);
-    words[at + 4 + j * 3]
+    let job = job_at(at + 4, j);
+    words[job]
 }
 
 // The reads of job j of run r.
@@ -38,7 +40,8 @@ pub fn job_reads(words: &[u32], z: Counts, r: usize, j: usize) -> u32
     ensures { λ m. ⌜ m ≡ storeOf (now (words .entry)) .run r .job j .reads ⌝ }
 {
     let at = z.run_at(r);
-    words[at + 4 + j * 3 + 1]
+    let job = job_at(at + 4, j);
+    words[job + 1]
 }
 
 // The sites that a job of run r is at.

@@ -2,10 +2,10 @@
 -- cause-run, cause-list: its cause, as the code tests it. OpenReady, open-ready: no cause.
 -- Assumes nothing.
 use mathlib.Core.Path.{_≡_, refl, _∙_}
-use mathlib.Core.Bool.{Bool, true, false, cond, not, So, false≢true}
+use mathlib.Core.Bool.{Bool, cond, not, So}
 use mathlib.Core.Logic.{_≢_}
 use mathlib.Core.List.{List, [], _∷_}
-use Prim.Native.Nat.{ℕ, zero, suc, _<_}
+use Prim.Native.Nat.{ℕ, _<_}
 use native.Mathlib.Omega.{arith}
 use lib.Dec.{eqb, leb}
 use lib.ListN.{getD}
@@ -20,25 +20,17 @@ use Rattle.layout.specs.Reading.{storeOf, readRun}
 use Rattle.layout.specs.Buffer.{inForm}
 use Rattle.layout.specs.Calls.{leaves}
 use Rattle.layout.proofs.Parts.{run-laws}
-use Rattle.model.proofs.Outcomes.{no-cause, no-lack}
+use Rattle.model.proofs.Outcomes.{no-cause, no-lack, free-state}
 use Rattle.layout.proofs.KeptOpen.{Listed, list-out}
 use Rattle.form.specs.Parts.{FormWith}
 use Rattle.form.proofs.Known.{form-counts, Ends, ends-refused, ends-done}
 use Rattle.status.specs.Status.{runCause}
 use Rattle.status.proofs.Freed.{free-is}
-use Rattle.status.proofs.Known.{area-ends, run-known, run-stored}
+use Rattle.status.proofs.Known.{area-ends, run-known, run-stored, first-two}
 use Rattle.runs.specs.Runs.{putJobs}
 use Rattle.runs.proofs.Started.{jobs-stored}
 
 -- ---- its cause
-
--- Of two causes and what is left: the two, and where neither holds what is left.
-first-two : (a b : Bool) (m : ℕ) → let n = refuse a 3 (refuse b 4 0) in
-    refuse a 3 (refuse b 4 m) ≡ cond (eqb n 0) m n
-unfolding refuse
-first-two true b m = refl
-first-two false true m = refl
-first-two false false m = refl
 
 open-cause : (s : Store) (r : ℕ) (jobs : List ℕ)
     → openCause s r jobs
@@ -57,14 +49,6 @@ pub cause-list : (l : List ℕ) (z : Counts) (r : ℕ) (jobs : List ℕ) (b : Bo
     → refuse (not b) 5 0 ≡ openCause (storeOf l) r jobs
 cause-list l z r jobs b H e f =
     rw (open-cause (storeOf l) r jobs, e, form-counts l z H, ← f)
-
--- Only a free run may be opened.
-free-state : (n : ℕ) → n < 3 → So (allowed openRow n) → n ≡ 0
-unfolding allowed
-free-state zero h p = refl
-free-state (suc zero) h p = absurd (false≢true p)
-free-state (suc (suc zero)) h p = absurd (false≢true p)
-free-state (suc (suc (suc n))) h p = absurd (omega arith)
 
 pub record OpenReady (l : List ℕ) (z : Counts) (r : ℕ) (jobs : List ℕ) : Type 0 where
   pub run : r < z .runs

@@ -1,21 +1,18 @@
 -- The keys that a place lacks, as a mask.
 -- lacking-mask: a mask without the held keys. lacking-some: whether there are any.
 -- Assumes nothing.
-use mathlib.Core.Path.{_≡_, refl, sym, ap, _∙_}
-use mathlib.Core.Bool.{Bool, true, false, not, _&&_}
+use mathlib.Core.Path.{_≡_, sym, ap, _∙_}
+use mathlib.Core.Bool.{Bool, not, _&&_}
 use Prim.Native.Nat.{ℕ, _^_, _<_}
 use native.Mathlib.Omega.{arith}
 use lib.Dec.{eqb}
 use Rattle.words.specs.Tests.{Items}
+use Rattle.words.proofs.Bools.{not-not}
 use Rattle.masks.specs.Mask.{testBit, maskBelow, without}
 use Rattle.masks.proofs.Bits.{test-without, without-lt}
 use Rattle.masks.proofs.Sets.{mask-lt, test-mask, mask-ext-below, set-none}
 use Rattle.model.specs.Algebra.{Algebra, Place, lacking}
 use Rattle.model.specs.Sets.{unfetchable}
-
-not-not : (b : Bool) → not (not b) ≡ b
-not-not true = refl
-not-not false = refl
 
 module _ {A : Type 0} (alg : Algebra A) (K : ℕ) (p : Place A) (m : ℕ) where
   pub lacking-mask : (held r : ℕ) → m < 2 ^ K → held ≡ maskBelow K (λ k. alg .held (p k))

@@ -11,7 +11,7 @@ use lib.Dec.{leb}
 use Rattle.words.proofs.Bools.{and-intro, and-left, and-right, leb-le, le-leb}
 use Rattle.words.proofs.Slots.{slot-end}
 use Rattle.sizes.specs.declared.Counts.{Counts}
-use Rattle.sizes.specs.Bounds.{maxKeys, maxWriters, maxSites, maxRuns, between, ranged, Ranged, pastSize, versionSize, placeSize, siteSize, writerSize, runSize, masterAt, sitesAt, writersAt, runsAt, totalOf, siteAt, writerAt, runAt, snapshotAt, keyAt, rowAt}
+use Rattle.sizes.specs.Bounds.{maxKeys, maxWriters, maxSites, maxRuns, maxJobs, between, ranged, Ranged, pastSize, versionSize, placeSize, siteSize, writerSize, runSize, masterAt, sitesAt, writersAt, runsAt, totalOf, siteAt, writerAt, runAt, snapshotAt, jobAt, keyAt, rowAt}
 
 -- ---- counts in range
 
@@ -158,3 +158,10 @@ unfolding rowAt versionSize pastSize
 row-lies z at d h =
     let e = part-lies (at + 1) d (z .keys) (z .writers) h in
     record { starts = omega (arith, e .starts); ends = omega (arith, e .ends) }
+
+-- ---- jobs
+
+-- A job lies in the 24 words of the jobs.
+pub job-lies : (at i : ℕ) → i < maxJobs → (at ≤ jobAt at i) × (jobAt at i + 3 ≤ at + 24)
+unfolding jobAt
+job-lies at i h = (omega arith, omega arith)

@@ -120,6 +120,10 @@ runAt z r = runsAt z + r * runSize z
 unfoldable pub snapshotAt : Counts → ℕ → ℕ
 snapshotAt z r = runAt z r + 28
 
+-- Job i of the jobs at an index: "office, reads mask, upstream mask".
+unfoldable pub jobAt : ℕ → ℕ → ℕ
+jobAt at i = at + i * 3
+
 -- The version of key k in the place at an index.
 unfoldable pub keyAt : Counts → ℕ → ℕ → ℕ
 keyAt z at k = at + k * versionSize z

@@ -1,7 +1,7 @@
 // The counts of a store, their limits, and the offsets and total that follow from them.
 ghost use mathlib.Core.Path.{_≡_};
-ghost use Prim.Native.Nat.{_<_};
-ghost use Rattle.sizes.specs.Bounds.{between, ranged, Ranged, countsOf, sizesOf, maxKeys, maxWriters, maxSites, maxRuns, maxJobs, pastSize, versionSize, placeSize, siteSize, writerSize, runSize, siteAt, writerAt, runAt, snapshotAt, keyAt, rowAt};
+ghost use Prim.Native.Nat.{_<_, _^_};
+ghost use Rattle.sizes.specs.Bounds.{between, ranged, Ranged, countsOf, sizesOf, maxKeys, maxWriters, maxSites, maxRuns, maxJobs, pastSize, versionSize, placeSize, siteSize, writerSize, runSize, siteAt, writerAt, runAt, snapshotAt, jobAt, keyAt, rowAt};
 
 // Sheets, writers, offices and runs (document 01: K, W, N, P).
 pub struct Counts {
@@ -66,6 +66,14 @@ pub fn is_between(x: usize, top: usize) -> bool
     ensures { λ r. ⌜ r ≡ between top x ⌝ }
 {
     (1 <= x) & (x <= top)
+}
+
+// Where job i begins in the jobs at an index.
+pub fn job_at(at: usize, i: usize) -> usize
+    requires { ⌜ (at < 2 ^ 62) × (i < maxJobs) ⌝ }
+    ensures { λ r. ⌜ r ≡ jobAt at i ⌝ }
+{
+    at + i * 3
 }
 
 impl Counts {

@@ -1,15 +1,16 @@
 -- What is known of run r of a buffer in form, where it is one of its runs.
 -- RunKnown, run-known: where it lies, and its state. run-stored: another run stored there.
--- cause-..: the causes that calls on a run share, as the code tests them.
+-- cause-..: the causes that calls on a run share, as the code tests them. first-two: with others
+-- behind them.
 -- Assumes nothing.
-use mathlib.Core.Path.{_≡_, sym, ap, _∙_}
-use mathlib.Core.Bool.{Bool, So, not}
+use mathlib.Core.Path.{_≡_, refl, sym, ap, _∙_}
+use mathlib.Core.Bool.{Bool, true, false, cond, So, not}
 use mathlib.Core.List.{List}
 use Prim.Native.Nat.{ℕ, _+_, _≤_, _<_}
 use native.Mathlib.Omega.{arith}
 use lib.Dec.{eqb}
 use lib.ListN.{length, getD}
-use Rattle.words.proofs.Bools.{test, le-leb, gt-leb, leb-gt, eqb-eq, eqb-ne}
+use Rattle.words.proofs.Bools.{le-leb, gt-leb, leb-gt}
 use Rattle.sizes.specs.declared.Counts.{Counts}
 use Rattle.sizes.specs.Bounds.{runSize, runAt}
 use Rattle.model.specs.Store.{Run, withRun}
@@ -21,7 +22,7 @@ use Rattle.layout.specs.Buffer.{written}
 use Rattle.layout.proofs.Updates.{put-run}
 use Rattle.layout.proofs.Readings.{run-in}
 use Rattle.model.proofs.Formed.{well-out}
-use Rattle.model.proofs.Plans.{plan-out}
+use Rattle.model.proofs.Plans.{state-low}
 use Rattle.layout.proofs.Follow.{form-fine}
 use Rattle.model.proofs.Outcomes.{no-cause}
 use Rattle.form.specs.Parts.{RunArea, FormWith}
@@ -34,12 +35,6 @@ use Rattle.status.specs.Status.{runCause}
 pub area-ends : (len : ℕ) (z : Counts) (at : ℕ) → RunArea len z at → at + runSize z ≤ len
 unfolding runSize
 area-ends len z at A = omega (arith, A .fits)
-
-state-low : (z : Counts) (a : Run) → So (runFormed z a) → a .state < 3
-state-low z a p =
-    test (eqb (a .state) 0) (λ t. omega (arith, eqb-eq (a .state) 0 t)) (λ t.
-    let used = eqb-ne (a .state) 0 t in
-    omega (arith, plan-out z a (omega arith) p .state))
 
 pub record RunKnown (l : List ℕ) (z : Counts) (r : ℕ) : Type 0 where
   pub area : RunArea (length l) z (runAt z r)
@@ -91,3 +86,11 @@ pub cause-below : (l : List ℕ) (z : Counts) (row r : ℕ) → FormWith l z
 unfolding runCause
 cause-below l z row r H e =
     rw (← form-counts l z H) (leb-gt _ _ (no-cause _ 3 _ (omega arith) e .0))
+
+-- Of these two causes and what is left: the two, and where neither holds what is left.
+pub first-two : (a b : Bool) (m : ℕ) → let n = refuse a 3 (refuse b 4 0) in
+    refuse a 3 (refuse b 4 m) ≡ cond (eqb n 0) m n
+unfolding refuse
+first-two true b m = refl
+first-two false true m = refl
+first-two false false m = refl

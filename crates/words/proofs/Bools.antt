@@ -131,3 +131,11 @@ ne-eqb m n h = test (eqb m n) (λ p. absurd (h (eqb-eq m n p))) (λ p. p)
 
 pub eqb-ne : (m n : ℕ) → eqb m n ≡ false → m ≢ n
 eqb-ne m n p e = clash (eq-eqb m n e) p
+
+pub not-not : (b : Bool) → not (not b) ≡ b
+not-not true = refl
+not-not false = refl
+
+pub eqb-sym : (m n : ℕ) → eqb m n ≡ eqb n m
+eqb-sym m n =
+    same-test (λ p. eq-eqb n m (sym (eqb-eq m n p))) (λ p. eq-eqb m n (sym (eqb-eq n m p)))

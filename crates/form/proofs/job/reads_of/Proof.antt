@@ -2,10 +2,13 @@
 -- The loop's invariant: the union over the jobs passed.
 -- Assumes nothing.
 use mathlib.Core.Path.{_≡_, refl, ap, _∙_}
-use Prim.Native.Nat.{ℕ, _≤_, _-_}
+use Prim.Native.Nat.{ℕ, _+_, _≤_, _<_, _-_}
+use lib.ListN.{length}
 use borrow.Author.Needs.{needs}
 use native.Mathlib.Omega.{arith}
 use Rattle.masks.specs.Mask.{unionBelow}
+use Rattle.sizes.specs.Bounds.{maxJobs}
+use Rattle.sizes.proofs.Offsets.{job-lies}
 use Rattle.layout.specs.Reading.{readJobs}
 use Rattle.form.specs.Parts.{readsOf}
 use Rattle.form.proofs.Masks.{reads-step}
@@ -26,23 +29,33 @@ loop-holds c = (omega arith, refl)
 wide-requires : tie.Need-wide-requires Inv-loop μ-loop
 wide-requires c κs = search needs
 
-mul-job : tie.Need-mul-job Inv-loop μ-loop
-mul-job c = omega arith
+job-at-requires : tie.Need-job-at-requires Inv-loop μ-loop
+job-at-requires c κs = search needs
 
-add-job : tie.Need-add-job Inv-loop μ-loop
-add-job c = omega arith
+-- The three words of the job lie in the buffer.
+inside : (c : tie.After-job-at Inv-loop μ-loop)
+    → let l = c .before .before .before in
+    c .job-at .result + 3 ≤ length (l .before .before .args .words .now)
+inside c =
+    let w = c .before in
+    let l = w .before .before in
+    let s = l .before .before in
+    let a = s .args in
+    let j = w .wide .result in
+    let low : j < maxJobs = omega (arith, s .pre .1, w .wide .ensures) in
+    omega (arith, job-lies (a .at) j low .1, c .job-at .ensures, s .pre .0)
 
 has-requires : tie.Need-has-requires Inv-loop μ-loop
 has-requires c κs = omega arith
 
 add-mask-if : tie.Need-add-mask-if Inv-loop μ-loop
-add-mask-if c = omega arith
+add-mask-if c = omega (arith, inside (c .before))
 
 mul-mask-if : tie.Need-mul-mask-if Inv-loop μ-loop
-mul-mask-if c = omega arith
+mul-mask-if c = omega (arith, inside (c .before))
 
 shared-slice-read-mask-if : tie.Need-shared-slice-read-mask-if Inv-loop μ-loop
-shared-slice-read-mask-if c = omega arith
+shared-slice-read-mask-if c = omega (arith, inside (c .before .before))
 
 mask-if-requires : tie.Need-mask-if-requires Inv-loop μ-loop
 mask-if-requires c κs = search needs
@@ -56,7 +69,8 @@ loop-less c = omega arith
 loop-again : tie.Need-loop-again Inv-loop μ-loop
 loop-again c =
     let h = c .before .before in
-    let w = h .before in
+    let j = h .before in
+    let w = j .before in
     let l = w .before .before in
     let a = l .before .before .args in (
       omega arith,
@@ -65,6 +79,7 @@ loop-again c =
         l .loop .inv .1,
         c .mask-if .ensures,
         h .has .ensures,
+        j .job-at .ensures,
         w .wide .ensures,
       ),
     )
@@ -84,8 +99,7 @@ reads-of-spec =
     μ-loop
     loop-holds
     wide-requires
-    mul-job
-    add-job
+    job-at-requires
     has-requires
     add-mask-if
     mul-mask-if

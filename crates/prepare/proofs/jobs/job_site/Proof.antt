@@ -1,10 +1,11 @@
 -- `job_site` reads the first word of job j.
 -- Assumes nothing.
 use mathlib.Core.Path.{ap, _∙_}
-use Prim.Native.Nat.{ℕ, _+_, _*_, _≤_, _<_}
+use Prim.Native.Nat.{ℕ, _+_, _≤_, _<_}
 use native.Mathlib.Omega.{arith}
 use lib.ListN.{length, getD}
-use Rattle.sizes.specs.Bounds.{maxJobs}
+use Rattle.sizes.specs.Bounds.{maxJobs, jobAt}
+use Rattle.sizes.proofs.Offsets.{job-lies}
 use Rattle.prepare.proofs.Known.{jobs-known, run-index, job-low, site-word}
 use Rattle.prepare.proofs.jobs.job_site.Statement.{statement}
 use Rattle.prepare.proofs.jobs.job_site.Tie as tie
@@ -24,28 +25,39 @@ here c =
       job-low (a .words .now) (a .z) (a .r) (s .pre .0) (a .j) (s .pre .1),
     )
 
-add-result : tie.Need-add-result
-add-result c = omega (arith, here c)
+add-job-at : tie.Need-add-job-at
+add-job-at c = omega (arith, here c)
+
+job-at-requires : tie.Need-job-at-requires
+job-at-requires c κs =
+    let s = c .before .before in
+    let a = s .args in
+    let K = jobs-known (a .words .now) (a .z) (a .r) (s .pre .0) in
+    (omega (arith, K .area .low, c .run-at .ensures), here c .1)
+
+-- The words of the job lie in the buffer.
+inside : (c : tie.After-job-at) → let a = c .before .before .before .args in
+    c .job-at .result + 3 ≤ length (a .words .now)
+inside c =
+    let n = c .before in
+    let a = n .before .before .args in
+    omega (arith, job-lies (n .run-at .result + 4) (a .j) (here n .1) .1, c .job-at .ensures, here n .0)
 
 mul-result : tie.Need-mul-result
-mul-result c = omega (arith, here c)
-
-add-result-2 : tie.Need-add-result-2
-add-result-2 c = omega (arith, here c)
-
-mul-result-2 : tie.Need-mul-result-2
-mul-result-2 c = omega (arith, here c)
+mul-result c = omega (arith, inside c)
 
 shared-slice-read-result : tie.Need-shared-slice-read-result
-shared-slice-read-result c = omega (arith, here (c .before))
+shared-slice-read-result c = omega (arith, inside (c .before))
 
 returns : tie.Need-returns
 returns c =
-    let n = c .before in
+    let j = c .before in
+    let n = j .before in
     let s = n .before .before in
     let a = s .args in
     let l = a .words .now in
-    ap (λ (i : ℕ). getD l (i + 4 + a .j * 3) 0) (n .run-at .ensures)
+    ap (λ (i : ℕ). getD l (i) 0)
+    (j .job-at .ensures ∙ ap (λ (i : ℕ). jobAt (i + 4) (a .j)) (n .run-at .ensures))
     ∙ site-word l (a .z) (a .r) (s .pre .0) (a .j) (s .pre .1)
 
 pub job-site-spec : {M : Type 1} → statement M
@@ -53,9 +65,8 @@ job-site-spec =
     tie.close
     (tie.spec
     run-at-requires
-    add-result
+    add-job-at
+    job-at-requires
     mul-result
-    add-result-2
-    mul-result-2
     shared-slice-read-result
     returns)
