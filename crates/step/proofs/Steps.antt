@@ -30,7 +30,7 @@ use Rattle.form.specs.Parts.{FormWith}
 use Rattle.form.proofs.Known.{form-counts, form-again, cache-stored, Ends, ends-refused, ends-done}
 use Rattle.step.specs.declared.Visit.{Visit}
 use Rattle.step.specs.declared.Trial.{Trial}
-use Rattle.step.specs.Visits.{runVisit, takenOf, pulledOf, trialOf, finished}
+use Rattle.step.specs.Visits.{runVisit, takenOf, pulledOf, trialOf, finished, brokenAt}
 use Rattle.step.proofs.Divisions.{from-snapshot, from-cache, from-master, moved-mask, moved-some, moved-none}
 use Rattle.step.proofs.Jobs.{Ready, job-ready, step-free}
 use Rattle.step.proofs.Visits.{tried-taken, tried-pulled}
@@ -118,9 +118,9 @@ module _ (l : List ℕ) (z : Counts) (r j : ℕ) (H : FormWith l z)
   moved = rw (seen, seen-moved l z r j H Y, form-counts l z H)
 
   pub step-broken : (m : List ℕ) → bitAnd (t .pulled) (v .read) ≢ 0
-      → m ≡ set l (runAt z r) brokenState
+      → m ≡ brokenAt l (runAt z r)
       → Ends (step r j) l (1 ∷ bitAnd (t .pulled) (v .read) ∷ []) m
-  unfolding answer leaves stepBroken
+  unfolding answer leaves stepBroken brokenAt
   step-broken m h e =
       let some = moved-some (z .keys) (t .pulled) (v .read) (pulledOf z l v) pulled h in
       let rule : ruleOf (step r j) s ≡ unless (stepCause s r j) (stepBroken s r j) =

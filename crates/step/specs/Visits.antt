@@ -1,7 +1,8 @@
 -- A job's step as the words of a buffer have it: what it looks at, the sets T and C, and what it
 -- leaves.
 -- visitOf, runVisit: what a step looks at. wantedOf, startOf, takenOf (T), fetchedOf,
--- pulledOf (C), snapshotOf, trialOf: what it finds. finished: the words that it leaves.
+-- pulledOf (C), snapshotOf, trialOf: what it finds. finished, brokenAt: the words that it
+-- leaves.
 -- VisitArea, VisitFormed: what is asked of the places.
 -- Assumes nothing.
 use mathlib.Core.Bool.{So}
@@ -17,6 +18,7 @@ use Rattle.model.specs.Algebra.{Place, lacking}
 use Rattle.model.specs.Version.{Version, versions}
 use Rattle.model.specs.Sets.{fetchSet, fetched, pullSet, pulled}
 use Rattle.model.specs.Form.{placeFormed}
+use Rattle.model.specs.Outcome.{brokenState}
 use Rattle.model.specs.Step.{readStart}
 use Rattle.layout.specs.Reading.{readPlace, readRun}
 use Rattle.layout.specs.Stored.{putPlace}
@@ -86,6 +88,10 @@ module _ (z : Counts) (l : List ℕ) (v : Visit) where
   finished done read j =
       let places = putPlace z (putPlace z l (v .cache) fetchedOf) (v .snapshot) snapshotOf in
       set (set places done (withBit (getD l done 0) j)) read (bitOr (v .read) (v .reads))
+
+-- "its state becomes 2, nothing else changes", of the run at an index.
+unfoldable pub brokenAt : List ℕ → ℕ → List ℕ
+brokenAt l at = set l at brokenState
 
 -- Where the places lie, in a buffer of len words: the master, the cache, the snapshot.
 pub record VisitArea (len : ℕ) (z : Counts) (v : Visit) : Type 0 where

@@ -22,10 +22,10 @@ ghost use mathlib.Core.Path.{_≡_};
 ghost use mathlib.Core.Bool.{So};
 ghost use Prim.Native.Nat.{_+_, _^_, _≤_, _<_};
 ghost use lib.Bits.{bitAnd};
-ghost use lib.ListN.{length, set};
+ghost use lib.ListN.{length};
 ghost use Rattle.masks.specs.Mask.{without, maskBelow};
 ghost use Rattle.sizes.specs.Bounds.{maxJobs};
-ghost use Rattle.model.specs.Outcome.{answer, brokenState};
+ghost use Rattle.model.specs.Outcome.{answer};
 ghost use Rattle.model.specs.Step.{stepCause};
 ghost use Rattle.model.specs.Calls.{step};
 ghost use Rattle.layout.specs.Reading.{readRun, storeOf};
@@ -34,7 +34,7 @@ ghost use Rattle.layout.specs.Calls.{on, callOn, leaves};
 ghost use Rattle.form.specs.Parts.{RunArea, FormWith};
 ghost use Rattle.step.specs.Answers.{steppedWords};
 ghost use Rattle.step.specs.Jobs.{jobCause};
-ghost use Rattle.step.specs.Visits.{visitOf, runVisit, startOf, trialOf, finished, VisitArea, VisitFormed};
+ghost use Rattle.step.specs.Visits.{visitOf, runVisit, startOf, trialOf, finished, brokenAt, VisitArea, VisitFormed};
 
 // The mask of every job.
 const EVERY_JOB: u32 = 255;
@@ -191,8 +191,8 @@ fn try_visit(words: &[u32], z: Counts, visit: Visit) -> Trial
 
 // Breaks the run at an index: its state becomes 2, and nothing else changes.
 fn break_run(words: &mut [u32], at: usize)
-    requires { ⌜ at + 28 ≤ length (now words) ⌝ }
-    ensures { λ _. ⌜ now (words .exit) ≡ set (now (words .entry)) at brokenState ⌝ }
+    requires { ⌜ at < length (now words) ⌝ }
+    ensures { λ _. ⌜ now (words .exit) ≡ brokenAt (now (words .entry)) at ⌝ }
 {
     words[at] = BROKEN_STATE;
 }

@@ -4,14 +4,13 @@ use mathlib.Core.Path.{_≡_, sym, ap, _∙_}
 use Prim.Native.Nat.{ℕ, _+_, _≤_}
 use borrow.Author.Needs.{needs}
 use native.Mathlib.Omega.{arith}
-use lib.ListN.{length, set}
-use Rattle.model.specs.Outcome.{brokenState}
+use lib.ListN.{length}
 use Rattle.model.specs.Step.{stepCause}
 use Rattle.layout.specs.Reading.{storeOf}
 use Rattle.form.specs.Parts.{FormWith}
 use Rattle.form.proofs.Known.{form-long}
 use Rattle.step.specs.Answers.{steppedWords}
-use Rattle.step.specs.Visits.{finished, VisitArea, VisitFormed}
+use Rattle.step.specs.Visits.{finished, brokenAt, VisitArea, VisitFormed}
 use Rattle.step.proofs.Jobs.{Ready, step-free}
 use Rattle.step.proofs.Seen.{visit-reads, visit-area, visit-formed}
 use Rattle.step.proofs.Steps.{step-ready, step-refused, step-broken, step-done}
@@ -122,7 +121,7 @@ returns-2 c =
     step-broken l _ (a .run) (a .job) (formed e) (free e)
     (v .run-visit .result) (v .run-visit .ensures) (t .try-visit .result) (t .try-visit .ensures)
     (b .break-run .last .0) (b .before .before .if2 .taken)
-    (b .break-run .ensures ∙ ap (λ (at : ℕ). set l at brokenState) (n .run-at .ensures))
+    (b .break-run .ensures ∙ ap (brokenAt l) (n .run-at .ensures))
 
 -- ---- done
 
