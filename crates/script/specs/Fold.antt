@@ -75,3 +75,11 @@ unfoldable pub callsFed : Part → List ℕ → List Call
 callsFed p [] = []
 callsFed p (b ∷ bs) =
     cond (eqb b 10) (withCall (partCall p) (callsFed (bytes []) bs)) (callsFed (longer p b) bs)
+
+-- ---- the input in chunks: each chunk's text is printed at once, and the last line's at the end
+
+unfoldable pub inChunks : List ℕ → Part → List (List ℕ) → List ℕ
+inChunks l p [] = finished (record { buffer = l; part = p; text = [] }) .text
+inChunks l p (c ∷ cs) =
+    let q = fed (record { buffer = l; part = p; text = [] }) c in
+    q .text ++ inChunks (q .buffer) (q .part) cs

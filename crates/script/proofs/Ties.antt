@@ -1,0 +1,2 @@
+-- Laws of the tie with demand 3.
+-- Assumes nothing.
