@@ -1,3 +1,4 @@
 pub mod Lines
 pub mod Folds
+pub mod Chunks
 pub mod Ties
