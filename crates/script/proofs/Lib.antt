@@ -1,4 +1,5 @@
 pub mod Lines
 pub mod Folds
 pub mod Chunks
+pub mod Steps
 pub mod Ties

@@ -44,6 +44,9 @@ tied m ds = record {
   claims = λ l z cs ok e. demand-3 l z ok (cs ++ ds);
 }
 
+pub tied-by : (m : List ℕ) (ds : List Call) (m′ : List ℕ) → m′ ≡ after ds m → Tied m ds m′
+tied-by m ds m′ e = rw e (tied m ds)
+
 -- ---- from a buffer that isn't in form
 
 -- One call more in front, that leaves the buffer.

@@ -1,7 +1,7 @@
 -- The program as a fold over the bytes of its input, so that it may be read in chunks.
 -- Part: the line under way. Progress: what is kept from one byte to the next. byteStep: one byte.
--- fed: a chunk. finished: the end of the input. partIn: the line under way, as the code keeps it.
--- callsFed: the calls of the lines that end in a chunk.
+-- fed: a chunk. finished: the end of the input. partIn, progress, wordsText: as the code keeps it.
+-- callsFed: the calls of the lines that end in a chunk. inChunks: all of an input, in chunks.
 -- Assumes nothing.
 use mathlib.Core.Bool.{cond}
 use mathlib.Core.List.{List, [], _∷_, _++_}
@@ -11,6 +11,7 @@ use lib.Dec.{eqb, leb, ltb}
 use lib.ListN.{length, take}
 use Rattle.layout.specs.Calls.{Call}
 use Rattle.lines.specs.Grammar.{lineCall}
+use Rattle.lines.specs.Print.{answerText, unreadText}
 use Rattle.script.specs.Script.{callText, callLeaves, withCall}
 
 -- A line of more than 400 bytes isn't kept: it gives `unread` whatever it holds.
@@ -68,6 +69,11 @@ partIn line n = cond (leb n 400) (bytes (take n line)) tooLong
 
 abbrev pub progress : List ℕ → List ℕ → ℕ → List ℕ → Progress
 progress l line n text = record { buffer = l; part = partIn line n; text = text }
+
+-- A line in words: those of an answer, none for `unread`.
+unfoldable pub wordsText : List ℕ → List ℕ
+wordsText [] = unreadText
+wordsText (t ∷ ns) = answerText (t ∷ ns)
 
 -- ---- the calls of the lines that end in a chunk
 
