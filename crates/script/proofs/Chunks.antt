@@ -1,6 +1,6 @@
 -- An input in chunks: what is printed doesn't hang on where they end.
 -- chunks-fed: chunks are fed as their bytes. chunks-whole: what is printed. fed-after: the buffer
--- after a chunk. calls-whole: the calls of all chunks and of the end are those of the lines.
+-- after a chunk.
 -- Assumes nothing.
 use mathlib.Core.Path.{_≡_, refl, sym, ap, _∙_}
 use mathlib.Core.Bool.{Bool, true, false, cond, So}

@@ -92,7 +92,8 @@ at-end l (b ∷ s) t =
     ∙ ap (Past l t) (sym (joined-last b s))
 
 step-end : (l s t : List ℕ) (b : ℕ) → So (eqb b 10)
-    → byteStep (under l s t) b ≡ under (callLeaves (lineCall s) l) [] (t ++ callText (lineCall s) l)
+    → byteStep (under l s t) b
+    ≡ under (callLeaves (lineCall s) l) [] (t ++ callText (lineCall s) l)
 unfolding byteStep
 step-end l s t b h = rw h (under-ended l s t)
 

@@ -3,3 +3,4 @@ pub mod Folds
 pub mod Chunks
 pub mod Steps
 pub mod Ties
+pub mod Examples

@@ -1,6 +1,6 @@
 -- What the code does to a line buffer and an output, as steps of the fold.
 -- words-..: an answer in words. performs-..: a call made. ended-..: a line's end. step-..: a byte.
--- finished-..: the end of the input. fed-byte: one byte of a chunk.
+-- finished-..: the end of the input. fed-byte: one byte of a chunk. whole: all of an input.
 -- Assumes nothing.
 use mathlib.Core.Path.{_≡_, refl, sym, ap, _∙_}
 use mathlib.Core.Logic.{_≢_}
@@ -21,9 +21,9 @@ use Rattle.layout.specs.Calls.{Call, callOn}
 use Rattle.lines.specs.Print.{answerText, unreadText}
 use Rattle.dispatch.specs.Performs.{Does, Performs}
 use Rattle.dispatch.specs.declared.Performed.{Performed}
-use Rattle.script.specs.Script.{callText, callLeaves, lineText, lineLeaves}
+use Rattle.script.specs.Script.{callText, callLeaves, lineText, lineLeaves, linesOf, bufferAfter, program}
 use Rattle.script.specs.Fold.{Part, bytes, tooLong, Progress, partCall, longer, ended, kept, byteStep, fed, finishedPart, finished, partIn, progress, wordsText}
-use Rattle.script.proofs.Folds.{fed-more}
+use Rattle.script.proofs.Folds.{fed-more, fed-whole}
 
 -- ---- answers in words
 
@@ -104,8 +104,13 @@ module _ (l line : List ℕ) (n : ℕ) (t : List ℕ) where
       let e : length (take n line) ≡ n = length-take n line ∙ omega (arith, h, f) in
       let s : take (n + 1) (set line n b) ≡ take n line ++ (b ∷ []) =
       rw add-one (take-suc-set line n b (omega (arith, h, f))) in
-      rw (ne-eqb b 10 d, le-leb n 400 (omega (arith, h)), le-leb (n + 1) 400 (omega (arith, h)),
-          lt-ltb (length (take n line)) 400 (omega (arith, e, h)), s)
+      rw (
+        ne-eqb b 10 d,
+        le-leb n 400 (omega (arith, h)),
+        le-leb (n + 1) 400 (omega (arith, h)),
+        lt-ltb (length (take n line)) 400 (omega (arith, e, h)),
+        s,
+      )
       refl
 
   pub step-long : (b : ℕ) → b ≢ 10 → 400 ≤ n → 400 ≤ length line
@@ -140,4 +145,15 @@ module _ (l line : List ℕ) (n : ℕ) (t : List ℕ) where
 pub fed-byte : (p : Progress) (chunk : List ℕ) (i : ℕ) → i < length chunk
     → byteStep (fed p (take i chunk)) (getD chunk i 0) ≡ fed p (take (i + 1) chunk)
 fed-byte p chunk i h =
-    sym (ap (fed p) (rw add-one (take-suc chunk i 0 h)) ∙ fed-more p (take i chunk) (getD chunk i 0))
+    sym (ap (fed p) (rw add-one (take-suc chunk i 0 h))
+    ∙ fed-more p (take i chunk) (getD chunk i 0))
+
+-- ---- all of an input
+
+-- q after the bytes, p after the end.
+pub whole : (l line input : List ℕ) {p q : Progress} → q ≡ fed (progress l line 0 []) input
+    → p ≡ finished q
+    → p
+    ≡ record { buffer = bufferAfter l (linesOf input); part = bytes []; text = program l input }
+unfolding partIn
+whole l line input e f = f ∙ ap finished e ∙ fed-whole l input

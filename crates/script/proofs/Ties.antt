@@ -38,9 +38,9 @@ pub tied : (m : List ℕ) (ds : List Call) → Tied m ds (after ds m)
 tied m ds = record {
   made = refl;
   follows = λ l z cs e.
-    ap (after ds) e
-    ∙ sym (follow-buffer ds (follow cs (start z l)))
-    ∙ sym (ap (λ t. t .buffer) (follow-append cs ds (start z l)));
+      ap (after ds) e
+      ∙ sym (follow-buffer ds (follow cs (start z l)))
+      ∙ sym (ap (λ t. t .buffer) (follow-append cs ds (start z l)));
   claims = λ l z cs ok e. demand-3 l z ok (cs ++ ds);
 }
 

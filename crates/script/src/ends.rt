@@ -80,5 +80,13 @@ pub fn part_done(
         };
     }
     let n = state.len;
-    line_done(desk, state.ready, &line[0..n], numbers, answer, out, state.end)
+    line_done(
+        desk,
+        state.ready,
+        &line[0..n],
+        numbers,
+        answer,
+        out,
+        state.end,
+    )
 }

@@ -32,13 +32,17 @@ abbrev μ-loop : tie.MeasureT-loop
 
 loop-holds : tie.Need-loop-holds Inv-loop μ-loop
 unfolding fed
-loop-holds c = (omega arith, refl, refl, refl, refl, refl, omega arith, c .before .before .before .before .before .before .pre .0, refl)
+loop-holds c =
+    let k = c .before .before .before .before .before .before in
+    (omega arith, refl, refl, refl, refl, refl, omega arith, k .pre .0, refl)
 
 shared-slice-read-step-byte : tie.Need-shared-slice-read-step-byte Inv-loop μ-loop
 shared-slice-read-step-byte c = omega arith
 
 step-byte-requires : tie.Need-step-byte-requires Inv-loop μ-loop
-step-byte-requires c κs = (c .before .before .before .before .before .before .before .loop .inv .7, (omega arith, ((omega arith, omega arith), omega arith)))
+step-byte-requires c κs =
+    let o = c .before .before .before .before .before .before .before .loop in
+    (o .inv .7, (omega arith, ((omega arith, omega arith), omega arith)))
 
 add-i : tie.Need-add-i Inv-loop μ-loop
 add-i c = omega arith
@@ -48,9 +52,11 @@ loop-less c = omega arith
 
 loop-again : tie.Need-loop-again Inv-loop μ-loop
 loop-again c =
-    let a = c .before .before .before .before .before .before .before .before .before .before .before .before .before .before .before .before .before .before .before .before .before .before .before .before .before .args in
-    let o = c .before .before .before .before .before .before .before .before .before .before .before .before .before .before .before .before .before .before .loop in
-    let s = c .before .before .before .before .before .before .before .before .before .before .step-byte .ensures in (
+    let k = c .before .before .before .before .before .before .before .before .before .before in
+    let s = k .step-byte .ensures in
+    let t = k .before .before .before .before .before .before .before .before in
+    let o = t .loop in
+    let b = t .before .before .before .before .before .before .before .args .chunk .now in (
       omega arith,
       omega arith,
       omega arith,
@@ -59,8 +65,9 @@ loop-again c =
       omega arith,
       omega arith,
       s .0,
-      s .1 .0 ∙ ap (λ p. byteStep p (getD (a .chunk .now) (o .i) 0)) (o .inv .8)
-          ∙ fed-byte _ (a .chunk .now) (o .i) (omega arith),
+      s .1 .0
+          ∙ ap (λ p. byteStep p (getD b (o .i) 0)) (o .inv .8)
+          ∙ fed-byte _ b (o .i) (omega arith),
     )
 
 same-length : tie.Need-same-length Inv-loop μ-loop

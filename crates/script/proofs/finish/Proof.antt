@@ -9,8 +9,9 @@ use Rattle.script.proofs.finish.Tie as tie
 
 returns : tie.Need-returns
 returns c =
-    let a = c .before .before .before .before .before .before .before .args in (
-      c .before .before .before .before .before .before .before .pre .0,
+    let k = c .before .before .before .before .before .before .before in
+    let a = k .args in (
+      k .pre .0,
       (
         finished-none (a .desk .now) (a .line .now) (a .state .len)
             (take (a .state .end) (a .out .now)) (c .if1 .taken),
@@ -38,13 +39,15 @@ same-length-5 c = search needs
 
 returns-2 : tie.Need-returns-2
 returns-2 c =
-    let a = c .before .before .before .before .before .before .before .before .before .before .before .before .before .before .before .before .before .before .before .before .before .args in
-    let p = c .before .before .before .before .before .before .before .before .part-done .ensures in (
+    let k = c .before .before .before .before .before .before .before .before in
+    let p = k .part-done .ensures in
+    let t = k .before .before .before .before .before .before in
+    let a = t .before .before .before .before .before .before .before .args in (
       p .0,
       (
         p .1 .0
             ∙ sym (finished-some (a .desk .now) (a .line .now) (a .state .len)
-            (take (a .state .end) (a .out .now)) (c .before .before .before .before .before .before .before .before .before .before .before .before .before .before .if1 .left) (omega arith)),
+            (take (a .state .end) (a .out .now)) (t .if1 .left) (omega arith)),
         omega arith,
       ),
     )

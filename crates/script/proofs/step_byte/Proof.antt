@@ -27,13 +27,15 @@ same-length-5 c = search needs
 
 returns : tie.Need-returns
 returns c =
-    let a = c .before .before .before .before .before .before .before .before .before .before .before .before .before .before .before .before .before .before .before .before .args in
-    let p = c .before .before .before .before .before .before .before .before .part-done .ensures in (
+    let k = c .before .before .before .before .before .before .before .before in
+    let p = k .part-done .ensures in
+    let t = k .before .before .before .before .before .before in
+    let a = t .before .before .before .before .before .before .args in (
       p .0,
       (
         p .1 .0
             ∙ sym (step-ends (a .desk .now) (a .line .now) (a .state .len)
-            (take (a .state .end) (a .out .now)) (a .byte) (c .before .before .before .before .before .before .before .before .before .before .before .before .before .before .if1 .taken)),
+            (take (a .state .end) (a .out .now)) (a .byte) (t .if1 .taken)),
         omega arith,
       ),
     )
@@ -49,24 +51,26 @@ same-length-6 c = search needs
 
 returns-2 : tie.Need-returns-2
 returns-2 c =
-    let a = c .before .before .before .before .before .before .before .args in (
-      c .before .before .before .before .before .before .before .pre .0,
+    let k = c .before .before .before .before .before .before .before in
+    let a = k .args in (
+      k .pre .0,
       (
         step-keeps (a .desk .now) (a .line .now) (a .state .len)
             (take (a .state .end) (a .out .now)) (a .byte) (c .before .if1 .left) (c .if2 .taken)
-            (c .before .before .before .before .before .before .before .pre .1 .0),
+            (k .pre .1 .0),
         omega arith,
       ),
     )
 
 returns-3 : tie.Need-returns-3
 returns-3 c =
-    let a = c .before .before .before .before .before .before .before .args in (
-      c .before .before .before .before .before .before .before .pre .0,
+    let k = c .before .before .before .before .before .before .before in
+    let a = k .args in (
+      k .pre .0,
       (
         step-long (a .desk .now) (a .line .now) (a .state .len)
             (take (a .state .end) (a .out .now)) (a .byte) (c .before .if1 .left) (omega arith)
-            (c .before .before .before .before .before .before .before .pre .1 .0),
+            (k .pre .1 .0),
         omega arith,
       ),
     )

@@ -14,10 +14,15 @@ read-line-requires : tie.Need-read-line-requires
 read-line-requires c κs = search needs
 
 perform-requires : tie.Need-perform-requires
-perform-requires c κs = (?, (c .before .before .before .before .before .before .before .before .before .before .before .before .pre .0, (c .before .before .before .before .before .read-line .ensures .1, omega arith)))
+perform-requires c κs =
+    let r = c .before .before .before .before .before in
+    let p = r .before .before .before .before .before .before .before .pre in
+    (p .0, (r .read-line .ensures .1, omega arith))
 
 print-words-requires : tie.Need-print-words-requires
-print-words-requires c κs = (omega arith, (performs-few _ _ _ _ _ (c .before .before .before .before .before .before .perform .ensures), omega arith))
+print-words-requires c κs =
+    let m = c .before .before .before .before .before .before .perform in
+    (omega arith, (performs-few _ _ _ _ _ (m .ensures), omega arith))
 
 same-length : tie.Need-same-length
 same-length c = search needs
@@ -33,17 +38,19 @@ same-length-4 c = search needs
 
 returns : tie.Need-returns
 returns c =
-    let a = c .before .before .before .before .before .before .before .before .before .before .before .before .before .before .before .before .before .before .before .before .before .before .args in
-    let e = c .before .before .before .before .before .before .before .before .before .before .before .before .before .before .before .read-line .ensures .0 in
-    let m = c .before .before .before .before .before .before .before .before .before .perform in
-    let w = c .before .before .print-words in (
-      (performs-ready _ _ _ _ _ (m .ensures), refl),
+    let w = c .before .before .print-words in
+    let m = c .before .before .before .before .before .before .before .before .before in
+    let r = m .before .before .before .before .before .before in
+    let a = r .before .before .before .before .before .before .before .args in
+    let e = r .read-line .ensures .0 in
+    let d = m .perform .ensures in (
+      (performs-ready _ _ _ _ _ d, refl),
       (
-        performs-leaves _ _ _ _ _ (m .ensures) ∙ ap (λ o. callLeaves o (a .desk .now)) e,
+        performs-leaves _ _ _ _ _ d ∙ ap (λ o. callLeaves o (a .desk .now)) e,
         (
           w .ensures .0
               ∙ ap (λ t. take (a .at) (a .out .now) ++ t)
-              (performs-text _ _ _ _ _ (m .ensures) ∙ ap (λ o. callText o (a .desk .now)) e),
+              (performs-text _ _ _ _ _ d ∙ ap (λ o. callText o (a .desk .now)) e),
           omega arith,
         ),
       ),

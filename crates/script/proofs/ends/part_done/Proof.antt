@@ -15,11 +15,13 @@ same-length c = search needs
 
 returns : tie.Need-returns
 returns c =
-    let a = c .before .before .before .before .before .before .before .before .before .before .before .args in (
-      c .before .before .before .before .before .before .before .before .before .before .before .pre .0,
+    let u = c .before .before in
+    let k = u .before .before .before .before .before .before .before .before .before in
+    let a = k .args in (
+      k .pre .0,
       (
         ended-long (a .desk .now) (a .line .now) (a .state .len) _ 0 _ (omega arith) refl
-            (c .before .before .print-unread .ensures .0),
+            (u .print-unread .ensures .0),
         omega arith,
       ),
     )
@@ -50,8 +52,10 @@ same-length-5 c = search needs
 
 returns-2 : tie.Need-returns-2
 returns-2 c =
-    let a = c .before .before .before .before .before .before .before .before .before .before .before .before .before .before .before .before .before .before .before .before .before .args in
-    let d = c .before .before .before .before .before .before .before .before .line-done .ensures in
+    let k = c .before .before .before .before .before .before .before .before in
+    let d = k .line-done .ensures in
+    let b = k .before .before .before .before .before .before .before .before in
+    let a = b .before .before .before .before .before .args in
     let z : a .state .len - 0 ≡ a .state .len = omega arith in (
       d .0 .0,
       (
