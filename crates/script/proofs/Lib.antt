@@ -1,0 +1,6 @@
+pub mod Lines
+pub mod Folds
+pub mod Chunks
+pub mod Steps
+pub mod Ties
+pub mod Examples

@@ -1,0 +1,70 @@
+-- `script::ends::line_done` meets its contract: the call that is read is made, and its words are
+-- printed. Assumes nothing.
+use mathlib.Core.Path.{_≡_, refl, ap, _∙_}
+use mathlib.Core.List.{_++_}
+use lib.ListN.{take}
+use Rattle.script.specs.Script.{callText, callLeaves}
+use Rattle.script.proofs.Steps.{performs-few, performs-ready, performs-leaves, performs-text}
+use native.Mathlib.Omega.{arith}
+use borrow.Author.Needs.{needs}
+use Rattle.script.proofs.ends.line_done.Statement.{statement}
+use Rattle.script.proofs.ends.line_done.Tie as tie
+
+read-line-requires : tie.Need-read-line-requires
+read-line-requires c κs = search needs
+
+perform-requires : tie.Need-perform-requires
+perform-requires c κs =
+    let r = c .before .before .before .before .before in
+    let p = r .before .before .before .before .before .before .before .pre in
+    (p .0, (r .read-line .ensures .1, omega arith))
+
+print-words-requires : tie.Need-print-words-requires
+print-words-requires c κs =
+    let m = c .before .before .before .before .before .before .perform in
+    (omega arith, (performs-few _ _ _ _ _ (m .ensures), omega arith))
+
+same-length : tie.Need-same-length
+same-length c = search needs
+
+same-length-2 : tie.Need-same-length-2
+same-length-2 c = search needs
+
+same-length-3 : tie.Need-same-length-3
+same-length-3 c = search needs
+
+same-length-4 : tie.Need-same-length-4
+same-length-4 c = search needs
+
+returns : tie.Need-returns
+returns c =
+    let w = c .before .before .print-words in
+    let m = c .before .before .before .before .before .before .before .before .before in
+    let r = m .before .before .before .before .before .before in
+    let a = r .before .before .before .before .before .before .before .args in
+    let e = r .read-line .ensures .0 in
+    let d = m .perform .ensures in (
+      (performs-ready _ _ _ _ _ d, refl),
+      (
+        performs-leaves _ _ _ _ _ d ∙ ap (λ o. callLeaves o (a .desk .now)) e,
+        (
+          w .ensures .0
+              ∙ ap (λ t. take (a .at) (a .out .now) ++ t)
+              (performs-text _ _ _ _ _ d ∙ ap (λ o. callText o (a .desk .now)) e),
+          omega arith,
+        ),
+      ),
+    )
+
+pub line-done-spec : {M : Type 1} → statement M
+line-done-spec =
+    tie.close
+    (tie.spec
+    read-line-requires
+    perform-requires
+    print-words-requires
+    same-length
+    same-length-2
+    same-length-3
+    same-length-4
+    returns)

@@ -1,0 +1,83 @@
+-- `script::ends::part_done` meets its contract. Assumes nothing.
+use mathlib.Core.Path.{_≡_, refl}
+use Prim.Native.Nat.{_-_}
+use Rattle.script.proofs.Steps.{ended-long, ended-line}
+use native.Mathlib.Omega.{arith}
+use borrow.Author.Needs.{needs}
+use Rattle.script.proofs.ends.part_done.Statement.{statement}
+use Rattle.script.proofs.ends.part_done.Tie as tie
+
+print-unread-requires : tie.Need-print-unread-requires
+print-unread-requires c κs = search needs
+
+same-length : tie.Need-same-length
+same-length c = search needs
+
+returns : tie.Need-returns
+returns c =
+    let u = c .before .before in
+    let k = u .before .before .before .before .before .before .before .before .before in
+    let a = k .args in (
+      k .pre .0,
+      (
+        ended-long (a .desk .now) (a .line .now) (a .state .len) _ 0 _ (omega arith) refl
+            (u .print-unread .ensures .0),
+        omega arith,
+      ),
+    )
+
+sub-line-done : tie.Need-sub-line-done
+sub-line-done c = search needs
+
+part-line-done-start : tie.Need-part-line-done-start
+part-line-done-start c = search needs
+
+part-line-done-end : tie.Need-part-line-done-end
+part-line-done-end c = search needs
+
+line-done-requires : tie.Need-line-done-requires
+line-done-requires c κs = search needs
+
+same-length-2 : tie.Need-same-length-2
+same-length-2 c = search needs
+
+same-length-3 : tie.Need-same-length-3
+same-length-3 c = search needs
+
+same-length-4 : tie.Need-same-length-4
+same-length-4 c = search needs
+
+same-length-5 : tie.Need-same-length-5
+same-length-5 c = search needs
+
+returns-2 : tie.Need-returns-2
+returns-2 c =
+    let k = c .before .before .before .before .before .before .before .before in
+    let d = k .line-done .ensures in
+    let b = k .before .before .before .before .before .before .before .before in
+    let a = b .before .before .before .before .before .args in
+    let z : a .state .len - 0 ≡ a .state .len = omega arith in (
+      d .0 .0,
+      (
+        ended-line (a .desk .now) (a .line .now) (a .state .len) _ _ _ _ (omega arith) (d .0 .1)
+            (rw z at (d .1 .0)) (rw z at (d .1 .1 .0)),
+        omega arith,
+      ),
+    )
+
+pub part-done-spec : {M : Type 1} → statement M
+part-done-spec =
+    tie.close
+    (tie.spec
+    print-unread-requires
+    same-length
+    returns
+    sub-line-done
+    part-line-done-start
+    part-line-done-end
+    line-done-requires
+    same-length-2
+    same-length-3
+    same-length-4
+    same-length-5
+    returns-2)

@@ -1,0 +1,62 @@
+-- `script::ends::print_words` meets its contract. Assumes nothing.
+use mathlib.Core.Path.{_≡_}
+use Prim.Native.Nat.{_-_}
+use lib.ListN.{take}
+use Rattle.script.specs.Fold.{wordsText}
+use Rattle.script.proofs.Steps.{words-taken}
+use native.Mathlib.Omega.{arith}
+use borrow.Author.Needs.{needs}
+use Rattle.script.proofs.ends.print_words.Statement.{statement}
+use Rattle.script.proofs.ends.print_words.Tie as tie
+
+print-unread-requires : tie.Need-print-unread-requires
+print-unread-requires c κs = search needs
+
+same-length : tie.Need-same-length
+same-length c = search needs
+
+returns : tie.Need-returns
+unfolding wordsText
+returns c =
+    let a = c .before .before .before .before .before .before .before .args in
+    let z : a .count ≡ 0 = omega arith in
+    (rw z (c .before .before .print-unread .ensures .0), omega arith)
+
+sub-print-answer : tie.Need-sub-print-answer
+sub-print-answer c = search needs
+
+part-print-answer-start : tie.Need-part-print-answer-start
+part-print-answer-start c = search needs
+
+part-print-answer-end : tie.Need-part-print-answer-end
+part-print-answer-end c = search needs
+
+print-answer-requires : tie.Need-print-answer-requires
+print-answer-requires c κs = search needs
+
+same-length-2 : tie.Need-same-length-2
+same-length-2 c = search needs
+
+returns-2 : tie.Need-returns-2
+returns-2 c =
+    let a = c .before .before .before .before .before .before .before .before .args in
+    let p = c .before .before .print-answer in
+    let z : a .count - 0 ≡ a .count = omega arith in (
+      rw (words-taken (a .count) (a .answer .now) (omega arith) (omega arith))
+          (rw z at (p .ensures .0)),
+      omega arith,
+    )
+
+pub print-words-spec : {M : Type 1} → statement M
+print-words-spec =
+    tie.close
+    (tie.spec
+    print-unread-requires
+    same-length
+    returns
+    sub-print-answer
+    part-print-answer-start
+    part-print-answer-end
+    print-answer-requires
+    same-length-2
+    returns-2)

@@ -1,0 +1,115 @@
+-- `script::feed` meets its contract: at each turn the fold has taken in the bytes so far. Assumes
+-- nothing.
+use lib.Seq.{take-all}
+use Rattle.script.specs.Fold.{byteStep}
+use Rattle.script.proofs.Chunks.{fed-after}
+use Rattle.script.proofs.Ties.{tied-by}
+use borrow.Author.Needs.{needs}
+use native.Mathlib.Omega.{arith}
+use mathlib.Core.Path.{_≡_, refl, sym, ap, _∙_}
+use mathlib.Core.List.{[]}
+use Prim.Native.Nat.{_+_, _*_, _-_, _<_, _≤_}
+use lib.ListN.{length, take, getD}
+use Rattle.layout.specs.Buffer.{inForm}
+use Rattle.script.specs.Fold.{progress, fed}
+use Rattle.script.proofs.Steps.{fed-byte}
+use Rattle.script.proofs.feed.Statement.{statement}
+use Rattle.script.proofs.feed.Tie as tie
+
+abbrev Inv-loop : tie.InvT-loop
+Inv-loop desk₀ ready len line₀ numbers₀ answer₀ out₀ chunk state₀ i₀
+    desk line numbers answer out state i =
+    (i ≤ length chunk) × (length desk ≡ length desk₀) × (length line ≡ length line₀)
+    × (length numbers ≡ length numbers₀) × (length answer ≡ length answer₀)
+    × (length out ≡ length out₀) × (state .end ≤ 256 * i) × (state .ready ≡ inForm desk)
+    × (progress desk line (state .len) (take (state .end) out)
+    ≡ fed (progress desk₀ line₀ len []) (take i chunk))
+
+abbrev μ-loop : tie.MeasureT-loop
+μ-loop desk₀ ready len line₀ numbers₀ answer₀ out₀ chunk state₀ i₀
+    desk line numbers answer out state i =
+    length chunk - i
+
+loop-holds : tie.Need-loop-holds Inv-loop μ-loop
+unfolding fed
+loop-holds c =
+    let k = c .before .before .before .before .before .before in
+    (omega arith, refl, refl, refl, refl, refl, omega arith, k .pre .0, refl)
+
+shared-slice-read-step-byte : tie.Need-shared-slice-read-step-byte Inv-loop μ-loop
+shared-slice-read-step-byte c = omega arith
+
+step-byte-requires : tie.Need-step-byte-requires Inv-loop μ-loop
+step-byte-requires c κs =
+    let o = c .before .before .before .before .before .before .before .loop in
+    (o .inv .7, (omega arith, ((omega arith, omega arith), omega arith)))
+
+add-i : tie.Need-add-i Inv-loop μ-loop
+add-i c = omega arith
+
+loop-less : tie.Need-loop-less Inv-loop μ-loop
+loop-less c = omega arith
+
+loop-again : tie.Need-loop-again Inv-loop μ-loop
+loop-again c =
+    let k = c .before .before .before .before .before .before .before .before .before .before in
+    let s = k .step-byte .ensures in
+    let t = k .before .before .before .before .before .before .before .before in
+    let o = t .loop in
+    let b = t .before .before .before .before .before .before .before .args .chunk .now in (
+      omega arith,
+      omega arith,
+      omega arith,
+      omega arith,
+      omega arith,
+      omega arith,
+      omega arith,
+      s .0,
+      s .1 .0
+          ∙ ap (λ p. byteStep p (getD b (o .i) 0)) (o .inv .8)
+          ∙ fed-byte _ b (o .i) (omega arith),
+    )
+
+same-length : tie.Need-same-length Inv-loop μ-loop
+same-length c = c .before .loop .inv .1
+
+same-length-2 : tie.Need-same-length-2 Inv-loop μ-loop
+same-length-2 c = c .before .loop .inv .2
+
+same-length-3 : tie.Need-same-length-3 Inv-loop μ-loop
+same-length-3 c = c .before .loop .inv .3
+
+same-length-4 : tie.Need-same-length-4 Inv-loop μ-loop
+same-length-4 c = c .before .loop .inv .4
+
+same-length-5 : tie.Need-same-length-5 Inv-loop μ-loop
+same-length-5 c = c .before .loop .inv .5
+
+returns : tie.Need-returns Inv-loop μ-loop
+returns c =
+    let a = c .before .before .before .before .before .before .before .before .args in
+    let o = c .before .loop in
+    let p = progress (a .desk .now) (a .line .now) (a .len) [] in
+    let e = o .inv .8 ∙ ap (fed p) (take-all (o .i) (a .chunk .now) (omega arith)) in (
+      o .inv .7,
+      (e, (omega arith, tied-by _ _ _ (ap (λ q. q .buffer) e ∙ fed-after (a .chunk .now) p))),
+    )
+
+pub feed-spec : {M : Type 1} → statement M
+feed-spec =
+    tie.close
+    (tie.spec
+    Inv-loop
+    μ-loop
+    loop-holds
+    shared-slice-read-step-byte
+    step-byte-requires
+    add-i
+    loop-less
+    loop-again
+    same-length
+    same-length-2
+    same-length-3
+    same-length-4
+    same-length-5
+    returns)

@@ -1,0 +1,66 @@
+-- `script::finish` meets its contract. Assumes nothing.
+use mathlib.Core.Path.{_≡_, sym, _∙_}
+use lib.ListN.{take}
+use Rattle.script.proofs.Steps.{finished-none, finished-some}
+use native.Mathlib.Omega.{arith}
+use borrow.Author.Needs.{needs}
+use Rattle.script.proofs.finish.Statement.{statement}
+use Rattle.script.proofs.finish.Tie as tie
+
+returns : tie.Need-returns
+returns c =
+    let k = c .before .before .before .before .before .before .before in
+    let a = k .args in (
+      k .pre .0,
+      (
+        finished-none (a .desk .now) (a .line .now) (a .state .len)
+            (take (a .state .end) (a .out .now)) (c .if1 .taken),
+        omega arith,
+      ),
+    )
+
+part-done-requires : tie.Need-part-done-requires
+part-done-requires c κs = search needs
+
+same-length : tie.Need-same-length
+same-length c = search needs
+
+same-length-2 : tie.Need-same-length-2
+same-length-2 c = search needs
+
+same-length-3 : tie.Need-same-length-3
+same-length-3 c = search needs
+
+same-length-4 : tie.Need-same-length-4
+same-length-4 c = search needs
+
+same-length-5 : tie.Need-same-length-5
+same-length-5 c = search needs
+
+returns-2 : tie.Need-returns-2
+returns-2 c =
+    let k = c .before .before .before .before .before .before .before .before in
+    let p = k .part-done .ensures in
+    let t = k .before .before .before .before .before .before in
+    let a = t .before .before .before .before .before .before .before .args in (
+      p .0,
+      (
+        p .1 .0
+            ∙ sym (finished-some (a .desk .now) (a .line .now) (a .state .len)
+            (take (a .state .end) (a .out .now)) (t .if1 .left) (omega arith)),
+        omega arith,
+      ),
+    )
+
+pub finish-spec : {M : Type 1} → statement M
+finish-spec =
+    tie.close
+    (tie.spec
+    returns
+    part-done-requires
+    same-length
+    same-length-2
+    same-length-3
+    same-length-4
+    same-length-5
+    returns-2)
