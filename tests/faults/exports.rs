@@ -59,3 +59,30 @@ pub unsafe extern "C" fn sheetdesk_open(
     let jobs = std::slice::from_raw_parts(jobs, count);
     answer(lent(out, room), || desk::open(lent(words, len), run, jobs))
 }
+
+#[no_mangle]
+pub unsafe extern "C" fn sheetdesk_covers(
+    p: *mut u32,
+    p_len: usize,
+    q: *mut u32,
+    q_len: usize,
+) -> u32 {
+    if p_len != q_len || p_len > 16 {
+        return 2;
+    }
+    u32::from(desk::version::covers(lent(p, p_len), lent(q, q_len)))
+}
+
+#[no_mangle]
+pub unsafe extern "C" fn sheetdesk_merge(
+    target: *mut u32,
+    target_len: usize,
+    source: *mut u32,
+    source_len: usize,
+) -> u32 {
+    if target_len != source_len {
+        return 0;
+    }
+    desk::version::take_larger(lent(target, target_len), lent(source, source_len));
+    1
+}
