@@ -1,5 +1,5 @@
 -- Words stored at the front of a list.
--- front-two: two of them. front-row: two, and the words of a window.
+-- front-two, front-four: two or four of them. front-row: two, and the words of a window.
 -- Assumes nothing.
 use mathlib.Core.Path.{_≡_, refl, sym, ap, _∙_}
 use mathlib.Core.List.{List, [], _∷_, _++_}
@@ -16,6 +16,14 @@ pub front-two : (l : List ℕ) (a b : ℕ) → 24 ≤ length l → take 2 (set (
 front-two [] a b h = absurd (omega arith)
 front-two (x ∷ []) a b h = absurd (omega arith)
 front-two (x ∷ y ∷ l) a b h = refl
+
+pub front-four : (l : List ℕ) (a b c d : ℕ) → 24 ≤ length l
+    → take 4 (set (set (set (set l 0 a) 1 b) 2 c) 3 d) ≡ a ∷ b ∷ c ∷ d ∷ []
+front-four [] a b c d h = absurd (omega arith)
+front-four (x ∷ []) a b c d h = absurd (omega arith)
+front-four (x ∷ y ∷ []) a b c d h = absurd (omega arith)
+front-four (x ∷ y ∷ u ∷ []) a b c d h = absurd (omega arith)
+front-four (x ∷ y ∷ u ∷ v ∷ l) a b c d h = refl
 
 pub front-row : (m d : List ℕ) (a b at n : ℕ) → take 2 m ≡ a ∷ b ∷ [] → 2 + n ≤ length m
     → take (2 + n) (put m 2 n (λ i. getD d (at + i) 0)) ≡ a ∷ b ∷ window d at n

@@ -3,7 +3,7 @@ use crate::put_two;
 use look::Looked;
 ghost use mathlib.Core.Path.{_≡_};
 ghost use mathlib.Core.List.{_∷_};
-ghost use Prim.Native.Nat.{_+_, _≤_};
+ghost use Prim.Native.Nat.{_+_, _≤_, _<_};
 ghost use lib.ListN.{length, take, getD};
 ghost use Rattle.words.specs.Words.{put};
 ghost use Rattle.words.specs.Lists.{window};
@@ -30,7 +30,7 @@ fn put_version(answer: &mut [u32], desk: &[u32], issue: u32, at: usize, n: usize
     requires { ⌜ 24 ≤ length (now answer) ⌝ }
     ensures words { λ r. ⌜ take r (now (answer .exit))
         ≡ 0 ∷ issue ∷ window (now (desk .entry)) at n ⌝ }
-    ensures few { λ r. ⌜ r ≤ 24 ⌝ }
+    ensures few { λ r. ⌜ (0 < r) × (r ≤ 18) ⌝ }
 {
     let two = put_two(answer, 0, issue);
     put_counts(answer, desk, at, n);
@@ -42,7 +42,7 @@ pub fn put_looked(answer: &mut [u32], desk: &[u32], r: Looked) -> usize
     requires { ⌜ 24 ≤ length (now answer) ⌝ }
     requires { ⌜ RowIn (now desk) r ⌝ }
     ensures words { λ n. ⌜ take n (now (answer .exit)) ≡ shown (now (desk .entry)) r ⌝ }
-    ensures few { λ n. ⌜ n ≤ 24 ⌝ }
+    ensures few { λ n. ⌜ (0 < n) × (n ≤ 18) ⌝ }
 {
     match r {
         Looked::Done(issue, at, n) => put_version(answer, desk, issue.0, at, n),

@@ -20,10 +20,10 @@ module _ (c : Call) (l : List ℕ) where
 
   -- w: the words of the call's answer.
   pub export-done : (m a b w : List ℕ) (n : ℕ) → 24 ≤ length a → w ≡ answer (callOn c l)
-      → m ≡ leaves (callOn c l) l → take n b ≡ w → n ≤ 24 → Exported c l m a b n
+      → m ≡ leaves (callOn c l) l → take n b ≡ w → n ≤ 18 → Exported c l m a b n
   export-done m a b w n h p q r f = record {
     answers = λ _. r ∙ p;
     changes = λ _. q;
-    few = f;
+    few = omega (arith, f);
     short = λ s. absurd (omega (arith, s, h));
   }

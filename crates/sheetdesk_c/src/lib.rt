@@ -5,11 +5,14 @@ use answers::put_created;
 use answers::put_dropped;
 use answers::put_evicted;
 use answers::put_fetched;
+use answers::put_issued;
 use answers::put_opened;
+use answers::put_prepared;
+use answers::put_stepped;
 use answers::row::put_looked;
 ghost use mathlib.Core.Path.{_≡_};
 ghost use Prim.Native.Nat.{_<_};
-ghost use Rattle.model.specs.Calls.{openRun, fetch, evict, dropRun, look};
+ghost use Rattle.model.specs.Calls.{openRun, fetch, evict, prepare, step, issue, dropRun, look};
 ghost use Rattle.layout.specs.Calls.{new, on};
 ghost use Rattle.sheetdesk_c.specs.Exported.{Exported};
 
@@ -109,5 +112,50 @@ pub extern "C" fn sheetdesk_look(
     }
     let r = look::look(desk, place, number, key);
     let n = put_looked(out, desk, r);
+    narrow(n)
+}
+
+#[no_mangle]
+pub extern "C" fn sheetdesk_prepare(desk: &mut [u32], run: u32, out: &mut [u32]) -> u32
+    ensures { λ n. ⌜ Exported (on (prepare run))
+        (now (desk .entry)) (now (desk .exit)) (now (out .entry)) (now (out .exit)) n ⌝ }
+{
+    if out.len() < 24 {
+        return 0;
+    }
+    let r = prepare::prepare(desk, run);
+    let n = put_prepared(out, r);
+    narrow(n)
+}
+
+#[no_mangle]
+pub extern "C" fn sheetdesk_step(desk: &mut [u32], run: u32, job: u32, out: &mut [u32]) -> u32
+    ensures { λ n. ⌜ Exported (on (step run job))
+        (now (desk .entry)) (now (desk .exit)) (now (out .entry)) (now (out .exit)) n ⌝ }
+{
+    if out.len() < 24 {
+        return 0;
+    }
+    let r = step::step(desk, run, job);
+    let n = put_stepped(out, r);
+    narrow(n)
+}
+
+#[no_mangle]
+pub extern "C" fn sheetdesk_issue(
+    desk: &mut [u32],
+    run: u32,
+    writer: u32,
+    mask: u32,
+    out: &mut [u32],
+) -> u32
+    ensures { λ n. ⌜ Exported (on (issue run writer mask))
+        (now (desk .entry)) (now (desk .exit)) (now (out .entry)) (now (out .exit)) n ⌝ }
+{
+    if out.len() < 24 {
+        return 0;
+    }
+    let r = issue::issue(desk, run, writer, mask);
+    let n = put_issued(out, r);
     narrow(n)
 }

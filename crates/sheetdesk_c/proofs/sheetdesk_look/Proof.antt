@@ -26,7 +26,7 @@ returns-2 c =
     let f = c .before .before .before .before .before .look in
     rw (c .narrow .ensures)
     (export-done _ _ _ _ _ _ _ (c .before .before .before .before .before .before .if1 .left)
-    (f .ensures .0) (f .ensures .1 .1) (p .ensures .0) (p .ensures .1))
+    (f .ensures .0) (f .ensures .1 .1) (p .ensures .0) (p .ensures .1 .1))
 
 pub sheetdesk-look-spec : {M : Type 1} → statement M
 sheetdesk-look-spec =

@@ -39,7 +39,7 @@ unfolding shown
 returns-2 c =
     let e = c .before .before .put-two .ensures in (
       e .0 ∙ sym (ap (shown _) (c .before .before .before .before .before .r2 .given .1)),
-      omega (arith, e .1),
+      (omega (arith, e .1), omega (arith, e .1)),
     )
 
 pub put-looked-spec : {M : Type 1} → statement M

@@ -30,7 +30,7 @@ returns c =
     rw (t .ensures .1, c .before .before .put-counts .ensures) (
       front-row (t .last .0) (a .desk .now) 0 (a .issue) (a .at) (a .n) two
           (omega (arith, t .kept .0, s .pre .0 .1, s .pre .1)),
-      omega (arith, s .pre .0 .1),
+      (omega (arith, s .pre .0 .1), omega (arith, s .pre .0 .1)),
     )
 
 pub put-version-spec : {M : Type 1} → statement M

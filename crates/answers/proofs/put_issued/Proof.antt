@@ -1,0 +1,57 @@
+-- `put_issued` puts the words of each case.
+-- Assumes nothing.
+use native.Mathlib.Omega.{arith}
+use mathlib.Core.Path.{sym, ap, _∙_}
+use borrow.Author.Needs.{needs}
+use Rattle.issue.specs.Answers.{issuedWords}
+use Rattle.answers.proofs.put_issued.Statement.{statement}
+use Rattle.answers.proofs.put_issued.Tie as tie
+
+enum-known-r : tie.Need-enum-known-r
+enum-known-r c = search needs
+
+put-two-requires : tie.Need-put-two-requires
+put-two-requires c κs = search needs
+
+enum-known-r-2 : tie.Need-enum-known-r-2
+enum-known-r-2 c = search needs
+
+put-two-requires-2 : tie.Need-put-two-requires-2
+put-two-requires-2 c κs = search needs
+
+same-length : tie.Need-same-length
+same-length c = search needs
+
+returns : tie.Need-returns
+unfolding issuedWords
+returns c =
+    let e = c .before .before .put-two .ensures in (
+      e .0
+          ∙ sym (ap issuedWords (c .before .before .before .before .before .r .given .1)),
+      (omega (arith, e .1), omega (arith, e .1)),
+    )
+
+same-length-2 : tie.Need-same-length-2
+same-length-2 c = search needs
+
+returns-2 : tie.Need-returns-2
+unfolding issuedWords
+returns-2 c =
+    let e = c .before .before .put-two2 .ensures in (
+      e .0
+          ∙ sym (ap issuedWords (c .before .before .before .before .before .r2 .given .1)),
+      (omega (arith, e .1), omega (arith, e .1)),
+    )
+
+pub put-issued-spec : {M : Type 1} → statement M
+put-issued-spec =
+    tie.close
+    (tie.spec
+    enum-known-r
+    put-two-requires
+    enum-known-r-2
+    put-two-requires-2
+    same-length
+    returns
+    same-length-2
+    returns-2)

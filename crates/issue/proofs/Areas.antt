@@ -1,0 +1,77 @@
+-- Where a writer, a run's snapshot and the master lie in a buffer.
+-- takes-area, saves-area: writer and place of a store. takes-writer, writer-first: the writer.
+-- ..-room: words of a writer, and of key k.
+-- Assumes nothing.
+use Prim.Native.Nat.{ℕ, _+_, _≤_, _<_}
+use native.Mathlib.Omega.{arith}
+use Rattle.sizes.specs.declared.Counts.{Counts}
+use Rattle.sizes.specs.Bounds.{pastSize, versionSize, writerSize, masterAt, writerAt, snapshotAt, keyAt, rowAt}
+use Rattle.sizes.proofs.Offsets.{largest, ordered, writer-lies, run-lies, snapshot-lies, key-lies, row-lies}
+use Rattle.form.specs.Parts.{StoreArea}
+use Rattle.issue.specs.Saves.{WriterArea, Takes, Saves}
+
+-- ---- where the parts lie
+
+module _ (len : ℕ) (z : Counts) (A : StoreArea len z) where
+  pub takes-area : (w r : ℕ) → w < z .writers → r < z .runs
+      → Takes len z (writerAt z w) (snapshotAt z r)
+  takes-area w r h i =
+      let o = ordered z (A .ranged) in
+      let x = writer-lies z w h in
+      let a = run-lies z r i in
+      let p = snapshot-lies z r in
+      let top = A .fits in
+      record { ranged = A .ranged; low = omega arith; apart = omega arith; fits = omega arith }
+
+  pub saves-area : (w : ℕ) → w < z .writers → Saves len z (masterAt z) (writerAt z w)
+  saves-area w h =
+      let o = ordered z (A .ranged) in
+      let x = writer-lies z w h in
+      let top = A .fits in
+      record { ranged = A .ranged; low = omega arith; apart = omega arith; fits = omega arith }
+
+-- ---- the writer alone
+
+pub takes-writer : (len : ℕ) (z : Counts) (at place : ℕ) → Takes len z at place
+    → WriterArea len z at
+takes-writer len z at place A =
+    let a = A .apart in
+    let b = A .fits in
+    let c = A .low in
+    record { ranged = A .ranged; low = omega arith; fits = omega arith }
+
+pub writer-first : (len : ℕ) (z : Counts) (at : ℕ) → WriterArea len z at → at < len
+unfolding writerSize
+writer-first len z at A = omega (arith, A .fits)
+
+-- ---- one key
+
+-- A word at src and the past behind it, and a word at dst before it.
+abbrev pub Room : ℕ → Counts → ℕ → ℕ → Type 0
+Room len z dst src = (dst < src) × (src < 2000000) × (src + 1 + pastSize z ≤ len)
+
+pub take-room : (len : ℕ) (z : Counts) (at place k : ℕ) → Takes len z at place → k < z .keys
+    → Room len z at (keyAt z place k)
+unfolding versionSize writerSize
+take-room len z at place k A h =
+    let m = largest z (A .ranged) in
+    let v = key-lies z place k h in
+    let a = A .apart in
+    let b = A .fits in
+    let c = A .low in
+    (omega arith, omega arith, omega arith)
+
+pub save-room : (len : ℕ) (z : Counts) (place at k : ℕ) → Saves len z place at → k < z .keys
+    → Room len z (keyAt z place k) at
+unfolding versionSize writerSize
+save-room len z place at k A h =
+    let v = key-lies z place k h in
+    let a = A .apart in
+    let b = A .fits in
+    let c = A .low in
+    (omega arith, omega arith, omega arith)
+
+pub row-room : (len : ℕ) (z : Counts) (at k w : ℕ) → at + writerSize z ≤ len → k < z .keys
+    → w < z .writers → rowAt z at k + w < len
+unfolding versionSize writerSize
+row-room len z at k w a h i = omega (arith, row-lies z at k h .ends)

@@ -1,0 +1,209 @@
+-- An issue's stores one after the other: last issue number, writer, master, run.
+-- ..-back: a part of a store just written. run-put: another run stored in it.
+-- saved-number, savable-in: where a key is saved. countedStore: number and writer are stored.
+-- writer-done, kept-formed, master-done: from the words that the phases leave to the store.
+-- Assumes nothing.
+use mathlib.Core.Path.{_≡_, refl, sym, ap, _∙_}
+use mathlib.Core.Bool.{So}
+use mathlib.Core.List.{List}
+use Prim.Native.Nat.{ℕ, _+_, _<_, _^_}
+use native.Mathlib.Omega.{arith}
+use lib.ListN.{set}
+use Rattle.words.proofs.Bools.{ne-eqb}
+use Rattle.words.proofs.Lists.{putAt-same}
+use Rattle.sizes.specs.declared.Counts.{Counts}
+use Rattle.sizes.specs.Bounds.{masterAt, writerAt, runAt, snapshotAt}
+use Rattle.model.specs.Algebra.{Place}
+use Rattle.model.specs.Version.{Version}
+use Rattle.model.specs.Store.{Writer, Run, Store, withLast, withMaster, withWriter, withRun}
+use Rattle.model.specs.Form.{placeFormed}
+use Rattle.model.specs.Issue.{takenIn, newPast, newVersion, issuedMaster, issuedWriter}
+use Rattle.layout.specs.Reading.{readPlace, readWriter, countsIn, storeOf}
+use Rattle.layout.specs.Stored.{putPlace, putWriter, putRun}
+use Rattle.layout.specs.Buffer.{written}
+use Rattle.layout.proofs.Whole.{FitStore, store-fits, counts-back, store-back}
+use Rattle.layout.proofs.Fit.{fit-last, fit-writer}
+use Rattle.layout.proofs.Updates.{put-last, put-master, put-writer, put-run}
+use Rattle.layout.proofs.Readings.{master-in, writer-in, snapshot-in}
+use Rattle.form.specs.Parts.{FormWith}
+use Rattle.form.proofs.Known.{form-counts, form-again, master-formed}
+use Rattle.issue.specs.Saves.{savedWriter, savedVersion, savedPlace, savedNumber, savedStore, Savable}
+use Rattle.issue.proofs.Writers.{saved-fits}
+
+-- ---- a store that was just written: its parts, and another one of them
+
+module _ (s : Store) (l : List ℕ) (z : Counts) (F : FitStore s) (e : s .counts ≡ z) where
+  counted : z ≡ countsIn (written s l)
+  counted = sym (counts-back s l ∙ e)
+
+  pub master-back : readPlace z (written s l) (masterAt z) ≡ s .master
+  master-back =
+      sym (master-in (written s l) z counted) ∙ ap (λ (t : Store). t .master) (store-back s l F)
+
+  pub writer-back : (w : ℕ) → w < z .writers
+      → readWriter z (written s l) (writerAt z w) ≡ s .writer w
+  writer-back w h =
+      sym (writer-in (written s l) z counted w h)
+      ∙ ap (λ (t : Store). t .writer w) (store-back s l F)
+
+  pub snapshot-back : (r : ℕ) → r < z .runs
+      → readPlace z (written s l) (snapshotAt z r) ≡ s .run r .snapshot
+  snapshot-back r h =
+      sym (snapshot-in (written s l) z counted r h)
+      ∙ ap (λ (t : Store). t .run r .snapshot) (store-back s l F)
+
+module _ (s : Store) (l : List ℕ) (z : Counts) (e : s .counts ≡ z) where
+  writer-put : (w : ℕ) (y : Writer) → w < z .writers
+      → putWriter z (written s l) (writerAt z w) y ≡ written (withWriter s w y) l
+  writer-put w y h = rw (← e) (put-writer s l w y (rw e h))
+
+  master-put : (p : Place Version)
+      → putPlace z (written s l) (masterAt z) p ≡ written (withMaster s p) l
+  master-put p = rw (← e) (put-master s l p)
+
+  pub run-put : (r : ℕ) (a : Run) → r < z .runs
+      → putRun z (written s l) (runAt z r) a ≡ written (withRun s r a) l
+  run-put r a h = rw (← e) (put-run s l r a (rw e h))
+
+-- ---- the writer and the master as the model has them
+
+writer-as : (s : Store) (r w S : ℕ)
+    → issuedWriter s r w S
+    ≡ savedWriter (s .counts .keys) (s .run r .read) (s .run r .snapshot) w S
+    (s .writer w .count + 1) (s .writer w)
+unfolding issuedWriter newPast takenIn
+writer-as s r w S = refl
+
+master-as : (s : Store) (r w S : ℕ)
+    → issuedMaster s r w S
+    ≡ savedPlace S (savedVersion (s .last + 1) (issuedWriter s r w S .past)) (s .master)
+unfolding issuedMaster newVersion issuedWriter
+master-as s r w S = refl
+
+-- ---- a mask that isn't empty
+
+pub saved-number : (s : Store) (S : ℕ) → 0 < S → savedNumber s S ≡ s .last + 1
+unfolding savedNumber
+saved-number s S h = rw (ne-eqb S 0 (omega arith))
+
+-- Number and writer are stored, the master isn't yet.
+abbrev pub countedStore : Store → ℕ → ℕ → ℕ → Store
+countedStore s r w S = withWriter (withLast s (s .last + 1)) w (issuedWriter s r w S)
+
+saved-store : (s : Store) (r w S : ℕ) → 0 < S
+    → savedStore s r w S ≡ withMaster (countedStore s r w S) (issuedMaster s r w S)
+unfolding savedStore
+saved-store s r w S h = rw (ne-eqb S 0 (omega arith))
+
+pub savable-in : (l : List ℕ) (z : Counts) (r w S : ℕ) → FormWith l z → Savable (storeOf l) r w S
+    → (r < z .runs) × (w < z .writers) × (S < 2 ^ z .keys)
+savable-in l z r w S H K =
+    let same = form-counts l z H in
+    (rw (← same) (K .run), rw (← same) (K .writer), rw (← same) (K .mask))
+
+-- ---- the phases
+
+module _ (l : List ℕ) (z : Counts) (H : FormWith l z) (r w S : ℕ) (hr : r < z .runs)
+    (hw : w < z .writers) (hS : S < 2 ^ z .keys) where
+  abbrev s : Store
+  s = storeOf l
+
+  abbrev s₁ : Store
+  s₁ = withLast s (s .last + 1)
+
+  abbrev s₂ : Store
+  s₂ = countedStore s r w S
+
+  fits₁ : FitStore s₁
+  fits₁ = fit-last s (store-fits l) (s .last + 1)
+
+  same₁ : s₁ .counts ≡ z
+  unfolding withLast
+  same₁ = form-counts l z H
+
+  number-stored : set l 4 (s .last + 1) ≡ written s₁ l
+  number-stored =
+      ap (λ (m : List ℕ). set m 4 (s .last + 1)) (sym (form-again l z H))
+      ∙ put-last s l (s .last + 1)
+
+  saved : Writer
+  saved =
+      savedWriter (z .keys) (s .run r .read) (s .run r .snapshot) w S (s .writer w .count + 1)
+      (s .writer w)
+
+  saved-as : issuedWriter s r w S ≡ saved
+  unfolding saved
+  saved-as = rw (← form-counts l z H) (writer-as s r w S)
+
+  fits₂ : FitStore s₂
+  unfolding saved withLast
+  fits₂ =
+      let same = form-counts l z H in
+      let F = store-fits l in
+      let fit = saved-fits (s .counts) (s .run r .read) (s .run r .snapshot)
+      (F .run .each r (rw same hr) .snapshot) (s .writer w) (F .writer .each w (rw same hw)) w S
+      (s .writer w .count + 1) (rw same hw) (rw same hS) in
+      fit-writer s₁ fits₁ w (issuedWriter s r w S) (rw same hw) (rw (writer-as s r w S) fit)
+
+  same₂ : s₂ .counts ≡ z
+  unfolding withWriter
+  same₂ = same₁
+
+  writer-stored : (m₁ m₂ : List ℕ) (read n : ℕ) → read ≡ s .run r .read
+      → n ≡ s .writer w .count + 1 → m₁ ≡ written s₁ l
+      → m₂ ≡ putWriter z m₁ (writerAt z w)
+      (savedWriter (z .keys) read (readPlace z m₁ (snapshotAt z r)) w S n
+      (readWriter z m₁ (writerAt z w)))
+      → m₂ ≡ written s₂ l
+  unfolding saved withLast
+  writer-stored m₁ m₂ read n a b e₁ e₂ =
+      e₂
+      ∙ rw (a, b, e₁, snapshot-back s₁ l z fits₁ same₁ r hr, writer-back s₁ l z fits₁ same₁ w hw)
+      (ap (putWriter z (written s₁ l) (writerAt z w)) (sym saved-as)
+      ∙ writer-put s₁ l z same₁ w (issuedWriter s r w S) hw)
+
+  master-kept : (m₂ : List ℕ) → m₂ ≡ written s₂ l
+      → So (placeFormed z (readPlace z m₂ (masterAt z)))
+  unfolding withWriter withLast
+  master-kept m₂ e₂ =
+      let same : readPlace z m₂ (masterAt z) ≡ readPlace z l (masterAt z) =
+      rw e₂ (master-back s₂ l z fits₂ same₂ ∙ master-in l z (H .counts)) in
+      rw same (master-formed l z H)
+
+  master-stored : (m₂ m₃ : List ℕ) (i : ℕ) → i ≡ s .last + 1 → m₂ ≡ written s₂ l
+      → m₃ ≡ putPlace z m₂ (masterAt z)
+      (savedPlace S (savedVersion i (readWriter z m₂ (writerAt z w) .past))
+      (readPlace z m₂ (masterAt z)))
+      → m₃ ≡ written (withMaster s₂ (issuedMaster s r w S)) l
+  unfolding withWriter withLast
+  master-stored m₂ m₃ i a e₂ e₃ =
+      let writer : readWriter z (written s₂ l) (writerAt z w) ≡ issuedWriter s r w S =
+      writer-back s₂ l z fits₂ same₂ w hw ∙ putAt-same (s .writer) w (issuedWriter s r w S) in
+      e₃
+      ∙ rw (a, e₂, writer, master-back s₂ l z fits₂ same₂)
+      (ap (putPlace z (written s₂ l) (masterAt z)) (sym (master-as s r w S))
+      ∙ master-put s₂ l z same₂ (issuedMaster s r w S))
+
+  -- From what the code reads and stores, by its own indices and numbers: number and writer,
+  pub writer-done : (at place read i n : ℕ) (m₁ m₂ : List ℕ) → at ≡ writerAt z w
+      → place ≡ snapshotAt z r → read ≡ s .run r .read → i ≡ s .last + 1
+      → n ≡ s .writer w .count + 1 → m₁ ≡ set l 4 i
+      → m₂ ≡ putWriter z m₁ at
+      (savedWriter (z .keys) read (readPlace z m₁ place) w S n (readWriter z m₁ at))
+      → m₂ ≡ written s₂ l
+  writer-done at place read i n m₁ m₂ p q a b c e₁ e₂ =
+      writer-stored m₁ m₂ read n a c (e₁ ∙ rw b number-stored) (rw (p, q) at e₂)
+
+  -- the master, which is still the one that was in form,
+  pub kept-formed : (master : ℕ) (m₂ : List ℕ) → master ≡ masterAt z → m₂ ≡ written s₂ l
+      → So (placeFormed z (readPlace z m₂ master))
+  kept-formed master m₂ d e₂ = rw d (master-kept m₂ e₂)
+
+  -- and is stored last.
+  pub master-done : (master at i : ℕ) (m₂ m₃ : List ℕ) → 0 < S → master ≡ masterAt z
+      → at ≡ writerAt z w → i ≡ s .last + 1 → m₂ ≡ written s₂ l
+      → m₃ ≡ putPlace z m₂ master
+      (savedPlace S (savedVersion i (readWriter z m₂ at .past)) (readPlace z m₂ master))
+      → m₃ ≡ written (savedStore s r w S) l
+  master-done master at i m₂ m₃ h d p b e₂ e₃ =
+      rw (saved-store s r w S h) (master-stored m₂ m₃ i b e₂ (rw (p, d) at e₃))

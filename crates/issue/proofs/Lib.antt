@@ -1,0 +1,9 @@
+pub mod Areas
+pub mod Pasts
+pub mod Turns
+pub mod Writers
+pub mod Masters
+pub mod Chain
+pub mod Known
+pub mod Causes
+pub mod Ends

@@ -1,0 +1,119 @@
+-- `issue_cause` tests the causes in the table's order.
+-- Assumes nothing.
+use mathlib.Core.Path.{_≡_, sym, _∙_}
+use mathlib.Core.Bool.{false, not, cond}
+use borrow.Author.Needs.{needs}
+use borrow.Author.Tests.{not-true, not-false}
+use lib.Dec.{eqb}
+use Rattle.words.proofs.Bools.{eq-eqb, ne-eqb}
+use Rattle.model.specs.Outcome.{refuse}
+use Rattle.model.specs.Issue.{issueCause}
+use Rattle.layout.specs.Reading.{storeOf}
+use Rattle.form.proofs.Known.{form-area}
+use Rattle.issue.specs.Saves.{raiseCause}
+use Rattle.issue.proofs.Causes.{beyond, issue-cause, in-range, cause-state, cause-jobs}
+use Rattle.issue.proofs.issue_cause.Statement.{statement}
+use Rattle.issue.proofs.issue_cause.Tie as tie
+
+out-of-range-requires : tie.Need-out-of-range-requires
+out-of-range-requires c κs =
+    let s = c .before in form-area (s .args .words .now) (s .args .z) (s .pre) .ranged
+
+returns : tie.Need-returns
+unfolding refuse
+returns c =
+    let s = c .before .before .before in
+    let a = s .args in
+    rw (
+      issue-cause (a .words .now) (a .z) (s .pre) (a .r) (a .w) (a .mask),
+      sym (c .before .out-of-range .ensures) ∙ c .if1 .taken,
+    )
+
+-- Run, writer and mask are in range.
+range : (c : tie.Else1) → let a = c .before .before .before .args in
+    beyond (a .z) (a .r) (a .w) (a .mask) ≡ false
+range c = sym (c .before .out-of-range .ensures) ∙ c .if1 .left
+
+run-cause-requires : tie.Need-run-cause-requires
+run-cause-requires c κs = search needs
+
+returns-2 : tie.Need-returns-2
+returns-2 c =
+    let e = c .before .before in
+    let s = e .before .before .before in
+    let a = s .args in
+    cause-state (a .words .now) (a .z) (s .pre) (a .r) (a .w) (a .mask) _ (range e)
+    (c .before .run-cause .ensures) (c .if2 .taken)
+
+jobs-done-requires : tie.Need-jobs-done-requires
+jobs-done-requires c κs =
+    let e = c .before .before in
+    let s = e .before .before .before in
+    let a = s .args in (
+      s .pre,
+      in-range (a .words .now) (a .z) (s .pre) (a .r) (a .w) (a .mask) (range e) .0,
+    )
+
+-- What the test of the jobs says.
+tested : (c : tie.After-jobs-done)
+    → let a = c .before .before .before .before .before .before .args in
+    let s = storeOf (a .words .now) in
+    issueCause s (a .r) (a .w) (a .mask)
+    ≡ refuse (not (c .jobs-done .result)) 6 (cond (eqb (a .mask) 0) 0 (raiseCause s (a .w)))
+tested c =
+    let d = c .before in
+    let e = d .before .before in
+    let s = e .before .before .before in
+    let a = s .args in
+    rw (c .jobs-done .ensures)
+    (cause-jobs (a .words .now) (a .z) (s .pre) (a .r) (a .w) (a .mask) _ (range e)
+    (d .before .run-cause .ensures) (d .if2 .left))
+
+returns-3 : tie.Need-returns-3
+unfolding refuse
+returns-3 c = rw (tested (c .before), not-true (c .before .jobs-done .result) (c .if3 .taken))
+
+returns-4 : tie.Need-returns-4
+unfolding refuse
+returns-4 c =
+    let d = c .before in
+    rw (
+      tested (d .before),
+      not-false (d .before .jobs-done .result) (d .if3 .left),
+      eq-eqb _ _ (c .if4 .taken),
+    )
+
+raise-cause-requires : tie.Need-raise-cause-requires
+raise-cause-requires c κs =
+    let e = c .before .before .before .before .before in
+    let s = e .before .before .before in
+    let a = s .args in (
+      s .pre,
+      in-range (a .words .now) (a .z) (s .pre) (a .r) (a .w) (a .mask) (range e) .1,
+    )
+
+returns-5 : tie.Need-returns-5
+unfolding refuse
+returns-5 c =
+    let f = c .before in
+    let d = f .before in
+    rw (
+      tested (d .before),
+      not-false (d .before .jobs-done .result) (d .if3 .left),
+      ne-eqb _ _ (f .if4 .left),
+    )
+    (c .raise-cause .ensures)
+
+pub issue-cause-spec : {M : Type 1} → statement M
+issue-cause-spec =
+    tie.close
+    (tie.spec
+    out-of-range-requires
+    returns
+    run-cause-requires
+    returns-2
+    jobs-done-requires
+    returns-3
+    returns-4
+    raise-cause-requires
+    returns-5)

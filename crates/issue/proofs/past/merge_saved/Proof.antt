@@ -1,0 +1,74 @@
+-- `merge_saved` merges each key of the mask. The loop's invariant: the keys passed are merged.
+-- Assumes nothing.
+use mathlib.Core.Path.{_≡_, refl, ap, _∙_}
+use mathlib.Core.List.{List}
+use Prim.Native.Nat.{ℕ, _≤_, _-_}
+use native.Mathlib.Omega.{arith}
+use lib.ListN.{length}
+use Rattle.words.specs.Numbers.{foldBelow}
+use Rattle.words.proofs.Numbers.{fold-more}
+use Rattle.issue.proofs.Masters.{saveStep, save-keys}
+use Rattle.issue.proofs.past.merge_saved.Statement.{statement}
+use Rattle.issue.proofs.past.merge_saved.Tie as tie
+
+abbrev Inv-loop : tie.InvT-loop
+Inv-loop words₀ z place at mask number n k₀ words k =
+    (k ≤ n) × (length words ≡ length words₀)
+    × (words ≡ foldBelow k (saveStep z place at mask (number .0)) words₀)
+
+abbrev μ-loop : tie.MeasureT-loop
+μ-loop words₀ z place at mask number n k₀ words k = n - k
+
+loop-holds : tie.Need-loop-holds Inv-loop μ-loop
+unfolding foldBelow
+loop-holds c = (omega arith, refl, refl)
+
+merge-if-requires : tie.Need-merge-if-requires Inv-loop μ-loop
+merge-if-requires c κs =
+    let l = c .before .before in
+    let s = l .before .before in
+    (rw (l .loop .inv .1) (s .pre .0), omega arith)
+
+add-k : tie.Need-add-k Inv-loop μ-loop
+add-k c = omega arith
+
+loop-less : tie.Need-loop-less Inv-loop μ-loop
+loop-less c = omega arith
+
+loop-again : tie.Need-loop-again Inv-loop μ-loop
+loop-again c =
+    let b = c .before .before in
+    let l = b .before .before .before in (
+      omega arith,
+      b .merge-if .kept .0 ∙ l .loop .inv .1,
+      rw (fold-more, ← l .loop .inv .2) (b .merge-if .ensures),
+    )
+
+same-length : tie.Need-same-length Inv-loop μ-loop
+same-length c = c .before .loop .inv .1
+
+returns : tie.Need-returns Inv-loop μ-loop
+returns c =
+    let l = c .before in
+    let s = l .before .before in
+    let a = s .args in
+    let e : l .loop .k ≡ a .z .keys = omega arith in
+    let step : ℕ → List ℕ → List ℕ =
+    saveStep (a .z) (a .place) (a .at) (a .mask) (a .number .0) in
+    l .loop .inv .2 ∙ ap (λ (n : ℕ). foldBelow n step (a .words .now)) e
+    ∙ save-keys (a .z) (a .words .now) (a .place) (a .at) (a .mask) (a .number .0) (s .pre .0)
+    (s .pre .1 .0) (s .pre .1 .1)
+
+pub merge-saved-spec : {M : Type 1} → statement M
+merge-saved-spec =
+    tie.close
+    (tie.spec
+    Inv-loop
+    μ-loop
+    loop-holds
+    merge-if-requires
+    add-k
+    loop-less
+    loop-again
+    same-length
+    returns)

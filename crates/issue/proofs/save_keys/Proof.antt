@@ -1,0 +1,174 @@
+-- `save_keys` stores the issue number, the writer, then the master.
+-- Assumes nothing.
+use mathlib.Core.Path.{_≡_, refl, sym, _∙_}
+use Prim.Native.Nat.{_<_, _^_}
+use native.Mathlib.Omega.{arith}
+use lib.ListN.{length, length-set}
+use Rattle.words.proofs.Bools.{ne-eqb}
+use Rattle.layout.specs.Reading.{storeOf}
+use Rattle.layout.specs.Buffer.{written}
+use Rattle.form.proofs.Known.{form-long, form-area, master-found}
+use Rattle.issue.specs.Saves.{Takes, Saves}
+use Rattle.issue.proofs.Areas.{takes-area, saves-area}
+use Rattle.issue.proofs.Chain.{savable-in, saved-number, countedStore, writer-done, kept-formed, master-done}
+use Rattle.issue.proofs.save_keys.Statement.{statement}
+use Rattle.issue.proofs.save_keys.Tie as tie
+
+areas-requires : tie.Need-areas-requires
+areas-requires c κs =
+    let s = c .before in form-area (s .args .words .now) (s .args .z) (s .pre .0) .ranged
+
+writer-at-requires : tie.Need-writer-at-requires
+writer-at-requires c κs =
+    let s = c .before .before in
+    let a = s .args in (
+      form-area (a .words .now) (a .z) (s .pre .0) .ranged,
+      savable-in (a .words .now) (a .z) _ _ _ (s .pre .0) (s .pre .1 .0) .1,
+    )
+
+snapshot-at-requires : tie.Need-snapshot-at-requires
+snapshot-at-requires c κs =
+    let s = c .before .before .before in
+    let a = s .args in (
+      form-area (a .words .now) (a .z) (s .pre .0) .ranged,
+      savable-in (a .words .now) (a .z) _ _ _ (s .pre .0) (s .pre .1 .0) .0,
+    )
+
+read-mask-requires : tie.Need-read-mask-requires
+read-mask-requires c κs =
+    let s = c .before .before .before .before .before in
+    let a = s .args in
+    (s .pre .0, savable-in (a .words .now) (a .z) _ _ _ (s .pre .0) (s .pre .1 .0) .0)
+
+next-numbers-requires : tie.Need-next-numbers-requires
+next-numbers-requires c κs =
+    let s = c .before .before .before .before .before .before .before in
+    let a = s .args in
+    let K = s .pre .1 in (
+      s .pre .0,
+      (
+        savable-in (a .words .now) (a .z) _ _ _ (s .pre .0) (K .0) .1,
+        K .0 .raised (ne-eqb (a .mask) 0 (omega (arith, K .1))),
+      ),
+    )
+
+-- Run, writer and mask are in range.
+range : (n : tie.After-next-numbers)
+    → let a = n .before .before .before .before .before .before .before .before .args in
+    (a .r < a .z .runs) × (a .w < a .z .writers) × (a .mask < 2 ^ a .z .keys)
+range n =
+    let s = n .before .before .before .before .before .before .before .before in
+    savable-in _ _ _ _ _ (s .pre .0) (s .pre .1 .0)
+
+-- Where the parts lie.
+takes : (n : tie.After-next-numbers)
+    → let a = n .before .before .before .before .before .before .before .before .args in
+    Takes (length (a .words .now)) (a .z)
+    (n .before .before .before .before .before .writer-at .result)
+    (n .before .before .before .before .snapshot-at .result)
+takes n =
+    let p = n .before .before .before .before in
+    let s = p .before .before .before .before in
+    let a = s .args in
+    rw (p .before .writer-at .ensures, p .snapshot-at .ensures)
+    (takes-area _ (a .z) (form-area (a .words .now) (a .z) (s .pre .0)) (a .w) (a .r)
+    (range n .1) (range n .0))
+
+saves : (n : tie.After-next-numbers)
+    → let a = n .before .before .before .before .before .before .before .before .args in
+    Saves (length (a .words .now)) (a .z)
+    (n .before .before .before .before .before .before .areas .result .master)
+    (n .before .before .before .before .before .writer-at .result)
+saves n =
+    let x = n .before .before .before .before .before in
+    let s = x .before .before .before in
+    let a = s .args in
+    let e = x .before in
+    rw (x .writer-at .ensures, master-found (a .z) (e .areas .result) (e .areas .ensures))
+    (saves-area _ (a .z) (form-area (a .words .now) (a .z) (s .pre .0)) (a .w) (range n .1))
+
+slice-write-words : tie.Need-slice-write-words
+slice-write-words c =
+    let s = c .before .before .before .before .before .before .before .before in
+    omega (arith, form-long (s .args .words .now) (s .pre .0 .form))
+
+save-writer-requires : tie.Need-save-writer-requires
+save-writer-requires c κs = (rw length-set (takes (c .before)), range (c .before) .1)
+
+-- Number and writer are stored.
+counted : (v : tie.After-save-writer)
+    → let n = v .before .before in
+    let a = n .before .before .before .before .before .before .before .before .args in
+    let l = a .words .now in
+    v .save-writer .last .0 ≡ written (countedStore (storeOf l) (a .r) (a .w) (a .mask)) l
+counted v =
+    let n = v .before .before in
+    let p = n .before .before .before .before in
+    let s = p .before .before .before .before in
+    let a = s .args in
+    let R = range n in
+    writer-done (a .words .now) (a .z) (s .pre .0) (a .r) (a .w) (a .mask) (R .0) (R .1) (R .2)
+    _ _ _ _ _ _ _ (p .before .writer-at .ensures) (p .snapshot-at .ensures)
+    (n .before .before .read-mask .ensures) (n .next-numbers .ensures .0)
+    (n .next-numbers .ensures .1) refl (v .save-writer .ensures)
+
+merge-saved-requires : tie.Need-merge-saved-requires
+merge-saved-requires c κs =
+    let v = c .before .before .before in
+    let n = v .before .before in
+    let x = n .before .before .before .before .before in
+    let s = x .before .before .before in
+    let a = s .args in
+    let R = range n in
+    let i = n .next-numbers .result .issue .0 in
+    let long = v .save-writer .kept .0 ∙ length-set (a .words .now) 4 i in (
+      rw long (saves n),
+      (
+        kept-formed (a .words .now) (a .z) (s .pre .0) (a .r) (a .w) (a .mask) (R .0) (R .1)
+            (R .2) _ _ (master-found (a .z) (x .before .areas .result) (x .before .areas .ensures))
+            (counted v),
+        omega (arith, n .next-numbers .ensures .0),
+      ),
+    )
+
+same-length : tie.Need-same-length
+same-length c =
+    let m = c .before .before .before in
+    let v = m .before .before .before .before in
+    let n = v .before .before in
+    let s = n .before .before .before .before .before .before .before .before in
+    m .merge-saved .kept .0 ∙ v .save-writer .kept .0
+    ∙ length-set (s .args .words .now) 4 (n .next-numbers .result .issue .0)
+
+returns : tie.Need-returns
+returns c =
+    let m = c .before .before .before in
+    let v = m .before .before .before .before in
+    let n = v .before .before in
+    let x = n .before .before .before .before .before in
+    let s = x .before .before .before in
+    let a = s .args in
+    let l = a .words .now in
+    let R = range n in (
+      n .next-numbers .ensures .0 ∙ sym (saved-number (storeOf l) (a .mask) (s .pre .1 .1)),
+      master-done l (a .z) (s .pre .0) (a .r) (a .w) (a .mask) (R .0) (R .1) (R .2) _ _ _ _ _
+          (s .pre .1 .1)
+          (master-found (a .z) (x .before .areas .result) (x .before .areas .ensures))
+          (x .writer-at .ensures) (n .next-numbers .ensures .0) (counted v)
+          (m .merge-saved .ensures),
+    )
+
+pub save-keys-spec : {M : Type 1} → statement M
+save-keys-spec =
+    tie.close
+    (tie.spec
+    areas-requires
+    writer-at-requires
+    snapshot-at-requires
+    read-mask-requires
+    next-numbers-requires
+    slice-write-words
+    save-writer-requires
+    merge-saved-requires
+    same-length
+    returns)

@@ -1,0 +1,72 @@
+-- `lines::print::put_numbers` meets its contract: what is put and what is left make the whole at
+-- each turn. Assumes nothing.
+use native.Mathlib.Omega.{arith}
+use mathlib.Core.Path.{_≡_, refl, sym, _∙_}
+use mathlib.Core.List.{_++_}
+use Prim.Native.Nat.{_+_, _*_, _-_, _<_, _≤_}
+use lib.ListN.{length, take, drop}
+use Rattle.lines.specs.Print.{numbersText}
+use Rattle.lines.proofs.Words.{numbers-more, numbers-end}
+use Rattle.lines.proofs.print.put_numbers.Statement.{statement}
+use Rattle.lines.proofs.print.put_numbers.Tie as tie
+
+abbrev Inv-loop : tie.InvT-loop
+Inv-loop out₀ at answer end₀ i₀ out end i =
+    (0 < i) × (i ≤ length answer) × (length out ≡ length out₀) × (end + 11 ≤ at + 11 * i)
+    × (take end out ++ numbersText (drop i answer) ≡ take at out₀ ++ numbersText (drop 1 answer))
+
+abbrev μ-loop : tie.MeasureT-loop
+μ-loop out₀ at answer end₀ i₀ out end i = length answer - i
+
+loop-holds : tie.Need-loop-holds Inv-loop μ-loop
+loop-holds c = (omega arith, omega arith, refl, omega arith, refl)
+
+mul-put-spaced : tie.Need-mul-put-spaced Inv-loop μ-loop
+mul-put-spaced c = omega arith
+
+shared-slice-read-put-spaced : tie.Need-shared-slice-read-put-spaced Inv-loop μ-loop
+shared-slice-read-put-spaced c = omega arith
+
+put-spaced-requires : tie.Need-put-spaced-requires Inv-loop μ-loop
+put-spaced-requires c κs = omega arith
+
+add-i : tie.Need-add-i Inv-loop μ-loop
+add-i c = omega arith
+
+loop-less : tie.Need-loop-less Inv-loop μ-loop
+loop-less c = omega arith
+
+loop-again : tie.Need-loop-again Inv-loop μ-loop
+loop-again c =
+    let o = c .before .before .before .before .before .before .loop in
+    let e = c .before .before .put-spaced .ensures in (
+      omega arith,
+      omega arith,
+      omega arith,
+      omega arith,
+      numbers-more (take (o .end) (o .out)) _ _ (o .i) (omega arith) (e .1) ∙ o .inv .4,
+    )
+
+same-length : tie.Need-same-length Inv-loop μ-loop
+same-length c = c .before .loop .inv .2
+
+returns : tie.Need-returns Inv-loop μ-loop
+returns c =
+    let o = c .before .loop in
+    (omega arith, sym (numbers-end _ _ (o .i) (omega arith)) ∙ o .inv .4)
+
+pub put-numbers-spec : {M : Type 1} → statement M
+put-numbers-spec =
+    tie.close
+    (tie.spec
+    Inv-loop
+    μ-loop
+    loop-holds
+    mul-put-spaced
+    shared-slice-read-put-spaced
+    put-spaced-requires
+    add-i
+    loop-less
+    loop-again
+    same-length
+    returns)

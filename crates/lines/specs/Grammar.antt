@@ -1,0 +1,134 @@
+-- The program's lines: "One call a line".
+-- commandOf: the number of a command's word. callOf: the call of a command and its numbers.
+-- lineCall: the call of a line, none for `unread`. spelled: the call of a `Command`.
+-- Assumes nothing.
+use mathlib.Core.Bool.{cond}
+use mathlib.Core.List.{List, [], _∷_}
+use mathlib.Core.Option.{Option, none, some}
+use Prim.Native.Nat.{ℕ, _+_}
+use lib.Dec.{eqb, leb}
+use lib.ListN.{length, getD, take, drop}
+use Rattle.text.specs.Bytes.{sameBytes}
+use Rattle.text.specs.Fields.{fieldsOf, numbersOf}
+use Rattle.model.specs.Calls.{openRun, fetch, evict, prepare, step, issue, dropRun, look}
+use Rattle.layout.specs.Calls.{Call, new, on}
+use Rattle.lines.specs.declared.Command.{Command}
+use Rattle.lines.specs.declared.Command.the-variants.{Unread, New, Open, Fetch, Evict, Prepare, Step, Issue, Drop, Look}
+
+-- ---- command words, as bytes
+
+abbrev pub newWord : List ℕ
+newWord = 110 ∷ 101 ∷ 119 ∷ []
+
+abbrev pub openWord : List ℕ
+openWord = 111 ∷ 112 ∷ 101 ∷ 110 ∷ []
+
+abbrev pub fetchWord : List ℕ
+fetchWord = 102 ∷ 101 ∷ 116 ∷ 99 ∷ 104 ∷ []
+
+abbrev pub evictWord : List ℕ
+evictWord = 101 ∷ 118 ∷ 105 ∷ 99 ∷ 116 ∷ []
+
+abbrev pub prepareWord : List ℕ
+prepareWord = 112 ∷ 114 ∷ 101 ∷ 112 ∷ 97 ∷ 114 ∷ 101 ∷ []
+
+abbrev pub stepWord : List ℕ
+stepWord = 115 ∷ 116 ∷ 101 ∷ 112 ∷ []
+
+abbrev pub issueWord : List ℕ
+issueWord = 105 ∷ 115 ∷ 115 ∷ 117 ∷ 101 ∷ []
+
+abbrev pub dropWord : List ℕ
+dropWord = 100 ∷ 114 ∷ 111 ∷ 112 ∷ []
+
+abbrev pub lookWord : List ℕ
+lookWord = 108 ∷ 111 ∷ 111 ∷ 107 ∷ []
+
+-- The number of a command; 0 for a word that is none.
+unfoldable pub commandOf : List ℕ → ℕ
+commandOf w =
+    cond (sameBytes w newWord) 1
+    (cond (sameBytes w openWord) 2
+    (cond (sameBytes w fetchWord) 3
+    (cond (sameBytes w evictWord) 4
+    (cond (sameBytes w prepareWord) 5
+    (cond (sameBytes w stepWord) 6
+    (cond (sameBytes w issueWord) 7
+    (cond (sameBytes w dropWord) 8
+    (cond (sameBytes w lookWord) 9
+    0))))))))
+
+-- ---- the calls
+
+-- A call for which just n numbers stand in the line.
+abbrev pub exactly : ℕ → List ℕ → Call → Option Call
+exactly n ns c = cond (eqb (length ns) n) (some c) none
+
+-- "After `open r` any count of numbers may stand, none included."
+unfoldable pub opening : List ℕ → Option Call
+opening [] = none
+opening (r ∷ ws) = some (on (openRun r ws))
+
+-- "`new K W N P`, `open r o m u ..`, `fetch o k`, `evict o k`, `prepare r`, `step r j`,
+-- `issue r w S`, `drop r`, `look p i k`"
+unfoldable pub callOf : ℕ → List ℕ → Option Call
+callOf c ns =
+    let a = getD ns 0 0 in
+    let b = getD ns 1 0 in
+    let d = getD ns 2 0 in
+    let e = getD ns 3 0 in
+    cond (eqb c 1) (exactly 4 ns (new a b d e))
+    (cond (eqb c 2) (opening ns)
+    (cond (eqb c 3) (exactly 2 ns (on (fetch a b)))
+    (cond (eqb c 4) (exactly 2 ns (on (evict a b)))
+    (cond (eqb c 5) (exactly 1 ns (on (prepare a)))
+    (cond (eqb c 6) (exactly 2 ns (on (step a b)))
+    (cond (eqb c 7) (exactly 3 ns (on (issue a b d)))
+    (cond (eqb c 8) (exactly 1 ns (on (dropRun a)))
+    (cond (eqb c 9) (exactly 3 ns (on (look a b d)))
+    none))))))))
+
+-- ---- a line
+
+-- A command with its numbers, if all are numbers.
+unfoldable pub asked : ℕ → Option (List ℕ) → Option Call
+asked c none = none
+asked c (some ns) = callOf c ns
+
+-- The first field is the command's word, and the others are its numbers.
+unfoldable pub fieldsCall : List (List ℕ) → Option Call
+fieldsCall [] = none
+fieldsCall (w ∷ fs) = asked (commandOf w) (numbersOf fs)
+
+-- "A line that is none of these forms, one over 400 bytes, or a number over 4,294,967,295, gives
+-- `unread`."
+unfoldable pub lineCall : List ℕ → Option Call
+lineCall l = cond (leb (length l) 400) (fieldsCall (fieldsOf l)) none
+
+-- ---- what `lines::read_line` answers
+
+-- A command and the line's numbers. Open's job words are the n after the first.
+unfoldable pub spelled : Command → List ℕ → Option Call
+spelled Unread l = none
+spelled (New k w n p) l = some (new k w n p)
+spelled (Open r n) l = some (on (openRun r (take n (drop 1 l))))
+spelled (Fetch o k) l = some (on (fetch o k))
+spelled (Evict o k) l = some (on (evict o k))
+spelled (Prepare r) l = some (on (prepare r))
+spelled (Step r j) l = some (on (step r j))
+spelled (Issue r w m) l = some (on (issue r w m))
+spelled (Drop r) l = some (on (dropRun r))
+spelled (Look p i k) l = some (on (look p i k))
+
+-- Where the numbers end that a command leaves for its caller to read.
+unfoldable pub numbersEnd : Command → ℕ
+numbersEnd Unread = 0
+numbersEnd (New k w n p) = 0
+numbersEnd (Open r n) = 1 + n
+numbersEnd (Fetch o k) = 0
+numbersEnd (Evict o k) = 0
+numbersEnd (Prepare r) = 0
+numbersEnd (Step r j) = 0
+numbersEnd (Issue r w m) = 0
+numbersEnd (Drop r) = 0
+numbersEnd (Look p i k) = 0

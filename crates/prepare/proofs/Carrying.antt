@@ -1,0 +1,117 @@
+-- The snapshot of a run of a buffer in form, after all merges.
+-- merge-area: where it lies, once it is cleared. run-merged: what the store is after them.
+-- Assumes nothing.
+use mathlib.Core.Path.{_≡_, sym, ap, _∙_, fun-ext}
+use mathlib.Core.Bool.{Bool, cond, _&&_}
+use mathlib.Core.Logic.{inr}
+use mathlib.Core.List.{List}
+use Prim.Native.Nat.{ℕ, _+_, _≤_, _<_}
+use native.Mathlib.Omega.{arith}
+use lib.ListN.{length}
+use lib.Seq.{length-sets}
+use Rattle.words.proofs.Numbers.{fold-same}
+use Rattle.masks.specs.Mask.{testBit}
+use Rattle.sizes.specs.declared.Counts.{Counts}
+use Rattle.sizes.specs.Bounds.{placeSize, siteSize, siteAt, snapshotAt}
+use Rattle.sizes.proofs.Offsets.{ordered, site-lies, run-lies, snapshot-lies}
+use Rattle.model.specs.Algebra.{Place}
+use Rattle.model.specs.Version.{Version, unheld, merge, versions}
+use Rattle.model.specs.Store.{emptyPlace, planned, withRun, withSnapshot}
+use Rattle.model.specs.Prepare.{usesSite, sitesMerged, siteCaches}
+use Rattle.layout.specs.Words.{placeWords}
+use Rattle.layout.specs.Reading.{readPlace, storeOf}
+use Rattle.layout.specs.Stored.{putPlace}
+use Rattle.layout.specs.Buffer.{written}
+use Rattle.layout.proofs.Readings.{cache-in}
+use Rattle.layout.proofs.Updates.{put-snapshot}
+use Rattle.version.specs.Places.{Area}
+use Rattle.version.proofs.Stores.{place-beside, snapshot-area}
+use Rattle.form.proofs.Known.{form-area, form-counts, form-again, cache-formed}
+use Rattle.prepare.specs.Turns.{mergedSites, merged, UsedRun, MergeArea}
+use Rattle.prepare.proofs.Merging.{place-twice}
+
+module _ (l : List ℕ) (z : Counts) (r : ℕ) (U : UsedRun l z r) where
+  pub snapshot-in-place : Area (length l) z (snapshotAt z r)
+  snapshot-in-place =
+      let R = form-area l z (U .form) in
+      snapshot-area (length l) z (R .ranged) (R .fits) r (U .run)
+
+  -- It lies behind the caches.
+  behind : (o : ℕ) → o < z .sites → siteAt z o + placeSize z ≤ snapshotAt z r
+  unfolding siteSize
+  behind o h =
+      let q = ordered z (form-area l z (U .form) .ranged) in
+      let s = site-lies z o h in
+      let t = run-lies z r (U .run) in
+      let u = snapshot-lies z r in omega arith
+
+  stored : (p : Place Version)
+      → putPlace z l (snapshotAt z r) p
+      ≡ written (withRun (storeOf l) r (withSnapshot (storeOf l .run r) p)) l
+  stored p =
+      let s = storeOf l in
+      let same = form-counts l z (U .form) in
+      let put : putPlace z (written s l) (snapshotAt z r) p
+      ≡ written (withRun s r (withSnapshot (s .run r) p)) l =
+      rw (← same) (put-snapshot s l r p (rw same (U .run))) in
+      ap (λ (m : List ℕ). putPlace z m (snapshotAt z r) p) (sym (form-again l z (U .form))) ∙ put
+
+  -- snapshot: the snapshot. m: the buffer with it cleared.
+  module _ (snapshot : ℕ) (c : snapshot ≡ snapshotAt z r) (m : List ℕ)
+      (e : m ≡ putPlace z l snapshot emptyPlace) where
+    fits : Area (length l) z snapshot
+    fits = rw c snapshot-in-place
+
+    cache-beside : (o : ℕ) → o < z .sites
+        → readPlace z m (siteAt z o) ≡ readPlace z l (siteAt z o)
+    cache-beside o h =
+        rw e (place-beside z l snapshot (siteAt z o) emptyPlace (inr (rw c (behind o h))))
+
+    pub merge-area : MergeArea m z snapshot
+    merge-area =
+        let long : length m ≡ length l = rw e (length-sets l snapshot (placeWords z emptyPlace)) in
+        record {
+          area = rw long fits;
+          behind = λ o h. rw c (behind o h);
+          formed = λ o h. rw (cache-beside o h) (cache-formed l z (U .form) o h);
+          empty = rw e (place-twice z l snapshot emptyPlace emptyPlace (fits .fits));
+        }
+
+    module _ (sites plan : ℕ)
+        (f : testBit sites ≡ usesSite (storeOf l .run r .jobs) (storeOf l .run r .job))
+        (g : testBit plan ≡ planned (storeOf l .run r .jobs) (storeOf l .run r .job)) where
+      -- The caches merged, as the code reads them.
+      abbrev found : Place Version
+      found =
+          sitesMerged (versions (z .writers)) (z .sites) (testBit sites) (testBit plan)
+          (λ o. readPlace z m (siteAt z o))
+
+      found-as : found ≡ mergedSites (storeOf l) r (z .sites)
+      unfolding mergedSites sitesMerged siteCaches
+      found-as =
+          let s = storeOf l in
+          let a = s .run r in
+          let S : ℕ → ℕ → Bool = λ k o. usesSite (a .jobs) (a .job) o && planned (a .jobs) (a .job) k in
+          rw (f, g)
+          (fun-ext (λ k. fold-same (z .sites)
+          (λ o v. cond (S k o) (merge v (readPlace z m (siteAt z o) k)) v)
+          (λ o v. cond (S k o) (merge v (s .site o .cache k)) v)
+          (λ o v h. ap (λ (p : Place Version). cond (S k o) (merge v (p k)) v)
+          (cache-beside o h ∙ sym (cache-in l z (U .form .counts) o h)))
+          unheld))
+
+      pub run-merged : (k : List ℕ) → k ≡ putPlace z m snapshot found
+          → k ≡ written (merged (storeOf l) r) l
+      unfolding merged
+      run-merged k h =
+          let s = storeOf l in
+          let once : putPlace z m snapshot found ≡ putPlace z l snapshot found =
+          ap (λ (t : List ℕ). putPlace z t snapshot found) e
+          ∙ place-twice z l snapshot emptyPlace found (fits .fits) in
+          h ∙ once
+          ∙ ap (λ (p : Place Version). putPlace z l snapshot p) found-as
+          ∙ ap (λ (i : ℕ). putPlace z l i (mergedSites s r (z .sites))) c
+          ∙ stored (mergedSites s r (z .sites))
+          ∙ ap (λ (y : Counts). written
+          (withRun s r (withSnapshot (s .run r) (mergedSites s r (y .sites)))) l)
+          (sym (form-counts l z (U .form)))

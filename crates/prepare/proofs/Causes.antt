@@ -1,0 +1,92 @@
+-- The causes of prepare, as the code tests them.
+-- cause-..: a cause found. used-run: where none of those that calls on a run share is, the run
+-- isn't free.
+-- Assumes nothing.
+use mathlib.Core.Path.{_≡_, refl, sym, ap, _∙_}
+use mathlib.Core.Bool.{Bool, true, false, cond, not}
+use mathlib.Core.Logic.{_≢_}
+use mathlib.Core.List.{List}
+use Prim.Native.Nat.{ℕ}
+use native.Mathlib.Omega.{arith}
+use lib.Dec.{eqb, leb}
+use Rattle.words.proofs.Bools.{ne-eqb}
+use Rattle.sizes.specs.declared.Counts.{Counts}
+use Rattle.model.specs.Version.{versions}
+use Rattle.model.specs.Store.{Store}
+use Rattle.model.specs.Outcome.{refuse, allowed, prepareRow}
+use Rattle.model.specs.Prepare.{unpreparable, siteCaches, prepareCause}
+use Rattle.model.proofs.Outcomes.{no-cause, no-lack, allowed-used}
+use Rattle.layout.specs.Reading.{storeOf}
+use Rattle.form.specs.Parts.{FormWith}
+use Rattle.form.proofs.Known.{form-counts}
+use Rattle.status.specs.Status.{runCause}
+use Rattle.status.proofs.Known.{cause-below}
+use Rattle.prepare.specs.Turns.{UsedRun}
+
+-- Of two causes and what is left: the two, and where neither holds what is left.
+first-two : (a b : Bool) (m : ℕ) → let n = refuse a 3 (refuse b 4 0) in
+    refuse a 3 (refuse b 4 m) ≡ cond (eqb n 0) m n
+unfolding refuse
+first-two true b m = refl
+first-two false true m = refl
+first-two false false m = refl
+
+-- What is asked of the run's jobs.
+jobsCause : Store → ℕ → ℕ
+jobsCause s r =
+    let z = s .counts in
+    let a = s .run r in
+    refuse (not (eqb (a .done) 0)) 6
+    (refuse (unpreparable (versions (z .writers)) (z .keys) (s .master) (a .job) (a .jobs)
+    (siteCaches s)) 7
+    0)
+
+prepare-cause : (s : Store) (r : ℕ)
+    → prepareCause s r
+    ≡ cond (eqb (runCause s prepareRow r) 0) (jobsCause s r) (runCause s prepareRow r)
+unfolding prepareCause runCause jobsCause
+prepare-cause s r = first-two _ _ (jobsCause s r)
+
+-- n: what the code finds of the run.
+pub cause-run : (s : Store) (r n : ℕ) → n ≡ runCause s prepareRow r → n ≢ 0
+    → n ≡ prepareCause s r
+cause-run s r n e h = rw (prepare-cause s r, ← e, ne-eqb n 0 h)
+
+pub cause-done : (s : Store) (r : ℕ) → runCause s prepareRow r ≡ 0 → s .run r .done ≢ 0
+    → 6 ≡ prepareCause s r
+unfolding jobsCause refuse
+cause-done s r e h = rw (prepare-cause s r, e, ne-eqb (s .run r .done) 0 h)
+
+-- b: what it finds of the keys to be fetched.
+pub cause-lacks : (l : List ℕ) (z : Counts) (r : ℕ) (b : Bool) → FormWith l z
+    → let s = storeOf l in
+    runCause s prepareRow r ≡ 0 → s .run r .done ≡ 0
+    → b ≡ unpreparable (versions (z .writers)) (z .keys) (s .master) (s .run r .job)
+    (s .run r .jobs) (siteCaches s)
+    → refuse b 7 0 ≡ prepareCause s r
+unfolding jobsCause refuse
+cause-lacks l z r b H e d f =
+    let s = storeOf l in
+    let g = f ∙ ap (λ (y : Counts). unpreparable (versions (y .writers)) (y .keys) (s .master)
+    (s .run r .job) (s .run r .jobs) (siteCaches s)) (sym (form-counts l z H)) in
+    rw (prepare-cause s r, e, d, ← g)
+
+pub used-run : (l : List ℕ) (z : Counts) (r : ℕ) → FormWith l z
+    → runCause (storeOf l) prepareRow r ≡ 0 → UsedRun l z r
+unfolding runCause allowed
+used-run l z r H e =
+    let a = no-cause (leb (storeOf l .counts .runs) r) 3 _ (omega arith) e in
+    let b = no-lack (allowed prepareRow (storeOf l .run r .state)) 4 _ (omega arith) (a .1) in
+    record {
+      form = H;
+      run = cause-below l z prepareRow r H e;
+      used = allowed-used prepareRow (storeOf l .run r .state) refl (b .0);
+    }
+
+-- No cause at all.
+pub no-run-cause : (s : Store) (r : ℕ) → prepareCause s r ≡ 0 → runCause s prepareRow r ≡ 0
+unfolding prepareCause runCause refuse
+no-run-cause s r e =
+    let a = no-cause (leb (s .counts .runs) r) 3 _ (omega arith) e in
+    let b = no-lack (allowed prepareRow (s .run r .state)) 4 _ (omega arith) (a .1) in
+    rw (a .0, b .0)

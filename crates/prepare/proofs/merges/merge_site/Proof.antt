@@ -1,0 +1,51 @@
+-- `merge_site` merges the keys of the plan, if the site is one of the mask.
+-- Assumes nothing.
+use mathlib.Core.Path.{sym, _∙_}
+use borrow.Author.Needs.{needs}
+use Rattle.prepare.proofs.Merging.{site-merged, site-passed}
+use Rattle.prepare.proofs.merges.merge_site.Statement.{statement}
+use Rattle.prepare.proofs.merges.merge_site.Tie as tie
+
+cast-has : tie.Need-cast-has
+cast-has c = search needs
+
+has-requires : tie.Need-has-requires
+has-requires c κs = search needs
+
+site-at-requires : tie.Need-site-at-requires
+site-at-requires c κs = search needs
+
+merge-keys-requires : tie.Need-merge-keys-requires
+merge-keys-requires c κs =
+    let s = c .before .before .before .before .before in
+    rw (c .before .site-at .ensures) (s .pre .0, s .pre .1 .1)
+
+same-length : tie.Need-same-length
+same-length c = search needs
+
+returns : tie.Need-returns
+returns c =
+    let k = c .before .before in
+    let t = k .before .before in
+    let i = t .before in
+    let a = i .before .before .before .args in
+    site-merged (a .z) (a .words .now) (a .snapshot) (a .o) (t .site-at .result) (a .sites) (a .plan) _
+    (sym (i .before .has .ensures) ∙ i .if1 .taken) (t .site-at .ensures) (k .merge-keys .ensures)
+
+returns-2 : tie.Need-returns-2
+returns-2 c =
+    let a = c .before .before .before .args in
+    site-passed (a .z) (a .words .now) (a .snapshot) (a .o) (a .sites) (a .plan)
+    (sym (c .before .has .ensures) ∙ c .if1 .left)
+
+pub merge-site-spec : {M : Type 1} → statement M
+merge-site-spec =
+    tie.close
+    (tie.spec
+    cast-has
+    has-requires
+    site-at-requires
+    merge-keys-requires
+    same-length
+    returns
+    returns-2)

@@ -1,0 +1,75 @@
+-- What the parts of prepare leave of a store, and what they ask of a buffer.
+-- fetchedJob, fetchedJobs: the fetch of one job, of the first n jobs. mergedSites: the first n
+-- sites merged. merged: the store with all of them in the run's snapshot. siteMerged: one turn.
+-- UsedRun: a run that isn't free. MergeArea: a snapshot that the caches are merged into.
+-- Assumes nothing.
+use mathlib.Core.Path.{_≡_}
+use mathlib.Core.Bool.{So, _&&_}
+use mathlib.Core.List.{List}
+use Prim.Native.Nat.{ℕ, _+_, _≤_, _<_}
+use lib.ListN.{length}
+use Rattle.masks.specs.Mask.{testBit}
+use Rattle.sizes.specs.declared.Counts.{Counts}
+use Rattle.sizes.specs.Bounds.{placeSize, siteAt}
+use Rattle.model.specs.Algebra.{Place}
+use Rattle.model.specs.Version.{Version, merge, versions}
+use Rattle.model.specs.Store.{Store, emptyPlace, planned, withSites, withRun, withSnapshot}
+use Rattle.model.specs.Form.{placeFormed}
+use Rattle.model.specs.Prepare.{fetchReads, preparedCaches, usesSite, sitesMerged, siteCaches}
+use Rattle.layout.specs.Reading.{readPlace, storeOf}
+use Rattle.layout.specs.Stored.{putPlace}
+use Rattle.version.specs.Places.{choice, Area}
+use Rattle.form.specs.Parts.{FormWith}
+
+-- ---- the caches
+
+unfoldable pub withCaches : Store → (ℕ → Place Version) → Store
+withCaches s cache = withSites s (λ o. record { cache = cache o })
+
+-- The store after the fetch of job j of run r.
+unfoldable pub fetchedJob : Store → ℕ → ℕ → Store
+fetchedJob s r j =
+    let z = s .counts in
+    withCaches s
+    (fetchReads (versions (z .writers)) (z .keys) (s .master) (s .run r .job) j (siteCaches s))
+
+-- The store after the fetches of the first n jobs of run r.
+unfoldable pub fetchedJobs : Store → ℕ → ℕ → Store
+fetchedJobs s r n =
+    let z = s .counts in
+    withCaches s
+    (preparedCaches (versions (z .writers)) (z .keys) (s .master) (s .run r .job) n (siteCaches s))
+
+-- ---- the snapshot
+
+-- The first n sites, those that a job of run r is at, merged and cut down to its plan.
+unfoldable pub mergedSites : Store → ℕ → ℕ → Place Version
+mergedSites s r n =
+    let a = s .run r in
+    sitesMerged (versions (s .counts .writers)) n (usesSite (a .jobs) (a .job))
+    (planned (a .jobs) (a .job)) (siteCaches s)
+
+unfoldable pub merged : Store → ℕ → Store
+merged s r =
+    withRun s r (withSnapshot (s .run r) (mergedSites s r (s .counts .sites)))
+
+-- The snapshot at an index with the cache of site o merged into it, if both masks allow it.
+unfoldable pub siteMerged : Counts → List ℕ → ℕ → ℕ → ℕ → ℕ → Place Version
+siteMerged z l snapshot o sites plan =
+    choice (λ k. testBit sites o && testBit plan k)
+    (λ k. merge (readPlace z l snapshot k) (readPlace z l (siteAt z o) k)) (readPlace z l snapshot)
+
+-- ---- the buffer
+
+-- A buffer in form, and a run of it that isn't free.
+pub record UsedRun (l : List ℕ) (z : Counts) (r : ℕ) : Type 0 where
+  pub form : FormWith l z
+  pub run : r < z .runs
+  pub used : 1 ≤ storeOf l .run r .state
+
+-- An empty snapshot at an index behind the caches of the sites, which are in form.
+pub record MergeArea (l : List ℕ) (z : Counts) (snapshot : ℕ) : Type 0 where
+  pub area : Area (length l) z snapshot
+  pub behind : (o : ℕ) → o < z .sites → siteAt z o + placeSize z ≤ snapshot
+  pub formed : (o : ℕ) → o < z .sites → So (placeFormed z (readPlace z l (siteAt z o)))
+  pub empty : putPlace z l snapshot emptyPlace ≡ l

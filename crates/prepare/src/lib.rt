@@ -1,0 +1,86 @@
+// Prepare: what the jobs of a run read is fetched, and the snapshot becomes the merge of their
+// caches. Every cause is tested before a word is stored.
+pub mod fetches;
+pub mod jobs;
+pub mod merges;
+
+use fetches::fetch_jobs;
+use fetches::is_unpreparable;
+use form::header::counts;
+use form::in_form;
+use merges::merge_run;
+use sizes::Counts;
+use states::PREPARE_ROW;
+use status::run_cause;
+use version::held_mask;
+ghost use mathlib.Core.Path.{_≡_};
+ghost use mathlib.Core.Bool.{So};
+ghost use Rattle.model.specs.Outcome.{answer};
+ghost use Rattle.model.specs.Prepare.{prepareCause};
+ghost use Rattle.model.specs.Calls.{prepare};
+ghost use Rattle.layout.specs.Reading.{storeOf};
+ghost use Rattle.layout.specs.Buffer.{inForm};
+ghost use Rattle.layout.specs.Calls.{on, callOn, leaves};
+ghost use Rattle.form.specs.Parts.{FormWith};
+ghost use Rattle.prepare.specs.Answers.{preparedWords};
+
+// The mask of the keys that the snapshot carries, or the cause's number.
+pub enum Prepared {
+    Done(u32),
+    Refused(u32),
+}
+
+// Fetches what the jobs of a run read, and makes the snapshot the merge of their caches.
+pub fn prepare(words: &mut [u32], run: u32) -> Prepared
+    ensures answers { λ r. ⌜ preparedWords r
+        ≡ answer (callOn (on (prepare run)) (now (words .entry))) ⌝ }
+    ensures leaves { λ _. ⌜ now (words .exit)
+        ≡ leaves (callOn (on (prepare run)) (now (words .entry))) (now (words .entry)) ⌝ }
+    ensures form { λ _. ⌜ (So (inForm (now (words .entry))) → So (inForm (now (words .exit)))) ⌝ }
+{
+    if !in_form(words) {
+        return Prepared::Refused(1);
+    }
+    prepare_in(words, run)
+}
+
+// Prepare on a buffer in form.
+pub fn prepare_in(words: &mut [u32], run: u32) -> Prepared
+    requires { ⌜ So (inForm (now words)) ⌝ }
+    ensures answers { λ r. ⌜ preparedWords r
+        ≡ answer (callOn (on (prepare run)) (now (words .entry))) ⌝ }
+    ensures leaves { λ _. ⌜ now (words .exit)
+        ≡ leaves (callOn (on (prepare run)) (now (words .entry))) (now (words .entry)) ⌝ }
+    ensures form { λ _. ⌜ (So (inForm (now (words .entry))) → So (inForm (now (words .exit)))) ⌝ }
+{
+    let z = counts(words);
+    let r = run as usize;
+    let cause = prepare_cause(words, z, r);
+    if cause != 0 {
+        return Prepared::Refused(cause);
+    }
+    fetch_jobs(words, z, r);
+    merge_run(words, z, r);
+    let snapshot = z.snapshot_at(r);
+    let carried = held_mask(words, z, snapshot);
+    Prepared::Done(carried)
+}
+
+// The first cause for which a prepare is refused, or 0.
+fn prepare_cause(words: &[u32], z: Counts, r: usize) -> u32
+    requires { ⌜ FormWith (now words) z ⌝ }
+    ensures { λ n. ⌜ n ≡ prepareCause (storeOf (now (words .entry))) r ⌝ }
+{
+    let cause = run_cause(words, z, PREPARE_ROW, r);
+    if cause != 0 {
+        return cause;
+    }
+    let at = z.run_at(r);
+    if words[at + 2] != 0 {
+        return 6;
+    }
+    if is_unpreparable(words, z, r) {
+        return 7;
+    }
+    0
+}

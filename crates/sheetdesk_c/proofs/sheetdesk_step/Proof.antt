@@ -1,0 +1,45 @@
+-- `sheetdesk_step` does nothing for a short answer slice, and otherwise what `step` does.
+-- Assumes nothing.
+use borrow.Author.Needs.{needs}
+use Rattle.sheetdesk_c.proofs.Exports.{export-short, export-done}
+use Rattle.sheetdesk_c.proofs.sheetdesk_step.Statement.{statement}
+use Rattle.sheetdesk_c.proofs.sheetdesk_step.Tie as tie
+
+returns : tie.Need-returns
+returns c = export-short _ _ _ (c .if1 .taken)
+
+step-requires : tie.Need-step-requires
+step-requires c κs = search needs
+
+put-stepped-requires : tie.Need-put-stepped-requires
+put-stepped-requires c κs = search needs
+
+narrow-requires : tie.Need-narrow-requires
+narrow-requires c κs = search needs
+
+same-length : tie.Need-same-length
+same-length c = search needs
+
+same-length-2 : tie.Need-same-length-2
+same-length-2 c = search needs
+
+returns-2 : tie.Need-returns-2
+returns-2 c =
+    let p = c .before .before .before .put-stepped in
+    let f = c .before .before .before .before .before .before .before .step in
+    rw (c .narrow .ensures)
+    (export-done _ _ _ _ _ _ _
+    (c .before .before .before .before .before .before .before .before .before .if1 .left)
+    (f .ensures .0) (f .ensures .1 .0) (p .ensures .0) (p .ensures .1 .1))
+
+pub sheetdesk-step-spec : {M : Type 1} → statement M
+sheetdesk-step-spec =
+    tie.close
+    (tie.spec
+    returns
+    step-requires
+    put-stepped-requires
+    narrow-requires
+    same-length
+    same-length-2
+    returns-2)

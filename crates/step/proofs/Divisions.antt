@@ -1,0 +1,124 @@
+-- Masks of sets of keys, as step computes them.
+-- item-of: an item of a mask. from-..: the reads divided by where they come from.
+-- moved-mask, moved-some, moved-none: C's keys that the run has read.
+-- upstream-some: an upstream job that isn't done. plan-mask: the plan's keys.
+-- Assumes nothing.
+use mathlib.Core.Path.{_≡_, refl, sym, ap, _∙_, fun-ext}
+use mathlib.Core.Bool.{Bool, true, false, not, So, _&&_}
+use mathlib.Core.Logic.{_≢_}
+use Prim.Native.Nat.{ℕ, _^_, _≤_, _<_}
+use native.Mathlib.Omega.{arith}
+use lib.Bits.{bitAnd, and-le-l}
+use lib.Dec.{eqb}
+use Rattle.words.specs.Tests.{Items, anyBelow}
+use Rattle.words.proofs.Bools.{ne-eqb, eq-eqb}
+use Rattle.words.proofs.Tests.{any-same}
+use Rattle.masks.specs.Mask.{testBit, withBit, withIf, maskBelow, without}
+use Rattle.masks.proofs.Bits.{test-and, test-without, without-lt}
+use Rattle.masks.proofs.Sets.{mask-lt, test-mask, mask-ext-below, mask-none, set-none}
+use Rattle.sizes.specs.Bounds.{maxJobs}
+use Rattle.model.specs.Algebra.{everything}
+use Rattle.model.specs.Store.{Job, planned, doneReads}
+use Rattle.form.specs.Parts.{readsOf}
+use Rattle.form.proofs.Masks.{test-reads}
+
+-- ---- tests
+
+and-assoc : (a b c : Bool) → (a && b) && c ≡ a && (b && c)
+and-assoc true b c = refl
+and-assoc false b c = refl
+
+not-not : (b : Bool) → not (not b) ≡ b
+not-not true = refl
+not-not false = refl
+
+-- A mask of items below K is the mask of a set with the same items.
+mask-is : (K a : ℕ) (S : Items) → a < 2 ^ K → ((k : ℕ) → k < K → testBit a k ≡ S k)
+    → a ≡ maskBelow K S
+mask-is K a S h f =
+    mask-ext-below K a (maskBelow K S) h (mask-lt K S K (omega arith))
+    (λ k i. f k i ∙ sym (test-mask K S k i))
+
+-- An item of a mask that is known by its set.
+pub item-of : (K p : ℕ) (S : Items) → p ≡ maskBelow K S → (k : ℕ) → k < K → testBit p k ≡ S k
+item-of K p S e k i = ap (λ (m : ℕ). testBit m k) e ∙ test-mask K S k i
+
+-- ---- the reads R, with C and T as masks p and t
+
+module _ (K R p t : ℕ) (C T : Items) (h : R < 2 ^ K) (e : p ≡ maskBelow K C)
+    (f : t ≡ maskBelow K T) where
+  both-lt : bitAnd R p < 2 ^ K
+  both-lt = omega (arith, and-le-l R p)
+
+  pub from-snapshot : without R p ≡ maskBelow K (λ k. testBit R k && not (C k))
+  from-snapshot =
+      mask-is K (without R p) (λ k. testBit R k && not (C k)) (without-lt R p K h)
+      (λ k i. test-without R p k
+      ∙ ap (λ (b : Bool). testBit R k && not b) (item-of K p C e k i))
+
+  pub from-cache : without (bitAnd R p) t
+      ≡ maskBelow K (λ k. testBit R k && (C k && not (T k)))
+  from-cache =
+      mask-is K (without (bitAnd R p) t) (λ k. testBit R k && (C k && not (T k)))
+      (without-lt (bitAnd R p) t K both-lt)
+      (λ k i. test-without (bitAnd R p) t k
+      ∙ rw (test-and R p k, item-of K p C e k i, item-of K t T f k i)
+      (and-assoc (testBit R k) (C k) (not (T k))))
+
+  pub from-master : bitAnd (bitAnd R p) t ≡ maskBelow K (λ k. testBit R k && (C k && T k))
+  from-master =
+      mask-is K (bitAnd (bitAnd R p) t) (λ k. testBit R k && (C k && T k))
+      (omega (arith, and-le-l (bitAnd R p) t, both-lt))
+      (λ k i. test-and (bitAnd R p) t k
+      ∙ rw (test-and R p k, item-of K p C e k i, item-of K t T f k i)
+      (and-assoc (testBit R k) (C k) (T k)))
+
+-- ---- C's keys in the read mask m
+
+module _ (K p m : ℕ) (C : Items) (e : p ≡ maskBelow K C) where
+  pub moved-mask : bitAnd p m ≡ maskBelow K (λ k. C k && testBit m k)
+  moved-mask =
+      mask-is K (bitAnd p m) (λ k. C k && testBit m k)
+      (omega (arith, and-le-l p m, e, mask-lt K C K (omega arith)))
+      (λ k i. test-and p m k ∙ ap (λ (b : Bool). b && testBit m k) (item-of K p C e k i))
+
+  moved-test : anyBelow K (λ k. C k && testBit m k) ≡ not (eqb (bitAnd p m) 0)
+  moved-test =
+      sym (not-not (anyBelow K (λ k. C k && testBit m k)))
+      ∙ ap not (sym (ap (λ (n : ℕ). eqb n 0) moved-mask
+      ∙ set-none K (λ k. C k && testBit m k)))
+
+  pub moved-some : bitAnd p m ≢ 0 → So (anyBelow K (λ k. C k && testBit m k))
+  moved-some h = moved-test ∙ ap not (ne-eqb (bitAnd p m) 0 h)
+
+  pub moved-none : bitAnd p m ≡ 0 → anyBelow K (λ k. C k && testBit m k) ≡ false
+  moved-none h = moved-test ∙ ap not (eq-eqb (bitAnd p m) 0 h)
+
+-- ---- upstream jobs
+
+pub upstream-some : (done upstream : ℕ) → upstream < 2 ^ maxJobs
+    → not (eqb (without upstream done) 0)
+    ≡ anyBelow maxJobs (λ i. testBit upstream i && not (testBit done i))
+upstream-some done upstream h =
+    ap not (mask-none maxJobs (without upstream done) (without-lt upstream done maxJobs h))
+    ∙ not-not (anyBelow maxJobs (testBit (without upstream done)))
+    ∙ any-same maxJobs (testBit (without upstream done))
+    (λ i. testBit upstream i && not (testBit done i)) (λ i _. test-without upstream done i)
+
+-- ---- the plan
+
+every-job : maskBelow maxJobs everything ≡ 255
+unfolding maskBelow withIf withBit
+every-job = refl
+
+one-job : (j : ℕ) → j < maxJobs → So (testBit 255 j)
+one-job j h = rw (← every-job) (test-mask maxJobs everything j h)
+
+-- What all jobs read.
+pub plan-mask : (n : ℕ) (job : ℕ → Job) → n ≤ maxJobs
+    → testBit (readsOf n job 255) ≡ planned n job
+unfolding planned doneReads
+plan-mask n job h =
+    fun-ext (λ k. test-reads n job 255 k
+    ∙ any-same n (λ j. testBit 255 j && testBit (job j .reads) k) (λ j. testBit (job j .reads) k)
+    (λ j i. rw (one-job j (omega arith))))

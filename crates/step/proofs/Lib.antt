@@ -1,0 +1,5 @@
+pub mod Divisions
+pub mod Jobs
+pub mod Visits
+pub mod Seen
+pub mod Steps

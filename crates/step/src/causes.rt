@@ -1,0 +1,53 @@
+// The causes of step that its run decides alone: the job's range, the state, the jobs done.
+use masks::has;
+use masks::without;
+use sizes::Counts;
+use sizes::Sizes;
+use states::FREE_STATE;
+use states::STEP_ROW;
+use states::is_allowed;
+use words::wide;
+ghost use mathlib.Core.Path.{_≡_};
+ghost use Prim.Native.Nat.{_^_, _<_};
+ghost use Rattle.sizes.specs.Bounds.{maxJobs};
+ghost use Rattle.layout.specs.Reading.{storeOf};
+ghost use Rattle.form.specs.Parts.{FormWith};
+ghost use Rattle.step.specs.Jobs.{limitOf, unready, jobCause};
+
+// What the number of a job must be below, in a run of this state and number of jobs.
+pub fn job_limit(state: u32, jobs: u32) -> usize
+    ensures { λ r. ⌜ r ≡ limitOf state jobs ⌝ }
+{
+    if state == FREE_STATE {
+        Sizes::MAX_JOBS
+    } else {
+        wide(jobs)
+    }
+}
+
+// Whether job j is done, or one of its upstream jobs isn't.
+pub fn is_unready(done: u32, upstream: u32, j: u32) -> bool
+    requires { ⌜ (j < maxJobs) × (upstream < 2 ^ maxJobs) ⌝ }
+    ensures { λ r. ⌜ r ≡ unready done upstream j ⌝ }
+{
+    has(done, j) | (without(upstream, done) != 0)
+}
+
+// The first of these causes for which job j of run r is refused, or 0.
+pub fn job_cause(words: &[u32], z: Counts, r: usize, j: usize) -> u32
+    requires { ⌜ FormWith (now words) z ⌝ }
+    requires { ⌜ r < z .runs ⌝ }
+    ensures { λ c. ⌜ c ≡ jobCause (storeOf (now (words .entry))) r j ⌝ }
+{
+    let at = z.run_at(r);
+    if job_limit(words[at], words[at + 1]) <= j {
+        return 3;
+    }
+    if !is_allowed(STEP_ROW, words[at]) {
+        return 4;
+    }
+    if is_unready(words[at + 2], words[at + 6 + j * 3], j as u32) {
+        return 6;
+    }
+    0
+}
