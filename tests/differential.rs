@@ -2,9 +2,9 @@
 //!
 //! `differential [SEED [STORIES]]`: stories of steered calls, and after each one single calls
 //! on copies of its desk: as it stands, damaged, lent too short; then built desks and random
-//! words. Answers and every word are compared, and words past the lent ones. Prints what was
-//! met; exits 1 if the two differ, with the case as a script, or if too little was met.
-//! `differential --script FILE` works such a script again.
+//! words, and covers and merge on two clocks. Answers and every word are compared, and words
+//! past the lent ones. Prints what was met; exits 1 if the two differ, with the case as a
+//! script, or if too little was met. `differential --script FILE` works such a script again.
 #![allow(dead_code)]
 
 #[path = "../reference"]
@@ -26,6 +26,7 @@ mod generate {
 mod parts {
     pub mod arguments;
     pub mod built;
+    pub mod clocks;
     pub mod library;
     pub mod met;
     pub mod pair;
@@ -35,7 +36,7 @@ mod parts {
 }
 
 use generate::{everyday, odd, plots, teller};
-use parts::{arguments, built, library, met, pair, random, script, stories};
+use parts::{arguments, built, clocks, library, met, pair, random, script, stories};
 use reference::{desk, text};
 
 use met::Met;

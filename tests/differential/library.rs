@@ -1,4 +1,4 @@
-//! The library's nine calls by the C convention: a slice is a pointer and a length in words.
+//! The library's calls by the C convention: a slice is a pointer and a length in words.
 
 use crate::text::Call;
 
@@ -26,11 +26,6 @@ extern "C" {
         desk: *const u32, desk_len: usize, place: u32, number: u32, sheet: u32,
         answer: *mut u32, answer_len: usize,
     ) -> u32;
-}
-
-// Built with `--cfg six` while the library lacks these three: then the reference answers them.
-#[cfg(not(six))]
-extern "C" {
     fn sheetdesk_prepare(
         desk: *mut u32, desk_len: usize, run: u32, answer: *mut u32, answer_len: usize,
     ) -> u32;
@@ -41,6 +36,10 @@ extern "C" {
     fn sheetdesk_issue(
         desk: *mut u32, desk_len: usize, run: u32, writer: u32, mask: u32,
         answer: *mut u32, answer_len: usize,
+    ) -> u32;
+    fn sheetdesk_covers(p: *const u32, p_len: usize, q: *const u32, q_len: usize) -> u32;
+    fn sheetdesk_merge(
+        target: *mut u32, target_len: usize, source: *const u32, source_len: usize,
     ) -> u32;
 }
 
@@ -61,26 +60,21 @@ pub fn call(desk: &mut [u32], call: &Call, answer: &mut [u32]) -> u32 {
             Call::Look(place, number, sheet) => {
                 sheetdesk_look(d, dn, *place, *number, *sheet, a, an)
             }
-            #[cfg(not(six))]
             Call::Prepare(run) => sheetdesk_prepare(d, dn, *run, a, an),
-            #[cfg(not(six))]
             Call::Step(run, job) => sheetdesk_step(d, dn, *run, *job, a, an),
-            #[cfg(not(six))]
             Call::Issue(run, writer, mask) => {
                 sheetdesk_issue(d, dn, *run, *writer, *mask, a, an)
             }
-            #[cfg(six)]
-            _ => by_reference(desk, call, answer),
         }
     }
 }
 
-#[cfg(six)]
-fn by_reference(desk: &mut [u32], call: &Call, answer: &mut [u32]) -> u32 {
-    if answer.len() < 24 {
-        return 0;
-    }
-    let words = crate::pair::answer_words(&crate::text::run(desk, call));
-    answer[..words.len()].copy_from_slice(&words);
-    words.len() as u32
+/// Whether clock p covers clock q.
+pub fn covers(p: &[u32], q: &[u32]) -> u32 {
+    unsafe { sheetdesk_covers(p.as_ptr(), p.len(), q.as_ptr(), q.len()) }
+}
+
+pub fn merge(target: &mut [u32], source: &[u32]) -> u32 {
+    let (to, len) = (target.as_mut_ptr(), target.len());
+    unsafe { sheetdesk_merge(to, len, source.as_ptr(), source.len()) }
 }

@@ -25,6 +25,8 @@ pub struct Met {
     pub largest: usize,
     /// Desks in form, by source.
     pub in_form: [u64; 6],
+    /// Answers of covers: 0, 1 and 2.
+    pub covers: [u64; 3],
     /// Calls answered ok, by source.
     by_source: [u64; 6],
     /// Answered ok, by call.
@@ -87,8 +89,13 @@ impl Met {
         for (number, count) in self.refused.iter().enumerate().skip(1) {
             table.push((format!("refused {number}"), *count, if number < 9 { 500 } else { 20 }));
         }
-        for (name, count) in SOURCES.iter().zip(self.by_source).filter(|(name, _)| **name != "short") {
+        // Short buffers are all refused.
+        let kinds = SOURCES.iter().zip(self.by_source).filter(|(name, _)| **name != "short");
+        for (name, count) in kinds {
             table.push((format!("ok on {name}"), count, if *name == "noise" { 10 } else { 500 }));
+        }
+        for (answer, count) in self.covers.iter().enumerate() {
+            table.push((format!("covers {answer}"), *count, 500));
         }
         table
     }
@@ -104,10 +111,13 @@ impl Met {
         if stories < 500 {
             return Vec::new();
         }
-        let few = self.table().into_iter().filter(|(_, count, least)| *count < least * stories / 1000);
-        let mut few =
-            few.map(|(name, count, least)| format!("{name}: {count} of {}", least * stories / 1000))
-                .collect::<Vec<String>>();
+        let mut few = Vec::new();
+        for (name, count, least) in self.table() {
+            let least = least * stories / 1000;
+            if count < least {
+                few.push(format!("{name}: {count} of {least}"));
+            }
+        }
         if self.largest < 287_514 {
             few.push(format!("the largest desk: {} words", self.largest));
         }

@@ -2,6 +2,7 @@
 
 use crate::arguments::{any_call, room, sizes};
 use crate::built;
+use crate::clocks;
 use crate::desk::{in_form, Sizes};
 use crate::met::{Met, Source};
 use crate::pair::{Pair, ANSWER, MARK};
@@ -40,7 +41,8 @@ pub fn all_of_one(random: &mut Random, story: u64, met: &mut Met) -> Result<(), 
     }
     single_calls(random, &mut built, Source::Built, met)?;
     let words = built::noise(random, counts);
-    single_calls(random, &mut Pair::of(&words), Source::Noise, met)
+    single_calls(random, &mut Pair::of(&words), Source::Noise, met)?;
+    clocks::compare(random, met)
 }
 
 /// A story of calls that are steered like the generated scripts.
