@@ -1,9 +1,9 @@
 -- A call that the program makes: the words of its answer, the buffer after it, and whether that is
 -- in form, so that the next call need not test it.
--- Does: one call. Performs: what a line asks for, which may be no call.
+-- accepted: an answer of new. Does: one call. Performs: what a line asks for, which may be no call.
 -- Assumes nothing.
 use mathlib.Core.Path.{_≡_}
-use mathlib.Core.Bool.{Bool}
+use mathlib.Core.Bool.{Bool, true, false}
 use mathlib.Core.List.{List}
 use mathlib.Core.Option.{Option, none, some}
 use Prim.Native.Nat.{ℕ, _≤_, _<_}
@@ -11,7 +11,12 @@ use lib.ListN.{take}
 use Rattle.model.specs.Outcome.{answer}
 use Rattle.layout.specs.Buffer.{inForm}
 use Rattle.layout.specs.Calls.{Call, callOn, leaves}
+use Rattle.create.specs.declared.Created.{Created}
 use Rattle.dispatch.specs.declared.Performed.{Performed}
+
+unfoldable pub accepted : Created → Bool
+accepted (Created.Done total) = true
+accepted (Created.Refused n) = false
 
 -- Call c on buffer l left m, and the first n words of b are its answer.
 pub record Does (c : Call) (l m b : List ℕ) (n : ℕ) : Type 0 where
