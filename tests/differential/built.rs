@@ -102,16 +102,54 @@ fn fill_run(random: &mut Random, s: Sizes, words: &mut [u32], run: usize) {
     }
 }
 
-/// Changes one to ten words; in half of the cases only counts, issue numbers and jobs, so that
-/// the desk often stays in form.
+/// Changes one to ten words, or a whole version, or the first words of a run. In half of the
+/// cases of words only counts, issue numbers and jobs, so that the desk often stays in form.
 pub fn damage(random: &mut Random, pair: &mut Pair) {
+    let [k, w, n, p] = [0, 1, 2, 3].map(|at| pair.words()[at]);
+    match (Sizes::of(k, w, n, p), random.below(4)) {
+        (Some(s), 0) => replace_version(random, pair, s),
+        (Some(s), 1) => damage_run(random, pair, s),
+        _ => damage_words(random, pair),
+    }
+}
+
+/// A version becomes that of another place, or is cleared.
+fn replace_version(random: &mut Random, pair: &mut Pair, s: Sizes) {
+    let k = random.below(s.k);
+    let to = place_of(random, s, k);
+    let from = place_of(random, s, k);
+    let clear = random.chance(60);
+    for at in 0..s.version() {
+        let word = if clear { 0 } else { pair.words()[from + at] };
+        if word != pair.words()[to + at] {
+            pair.set(to + at, word);
+        }
+    }
+}
+
+/// Where the version of sheet k begins on the master, a shelf or, mostly, a card.
+fn place_of(random: &mut Random, s: Sizes, k: usize) -> usize {
+    match random.below(4) {
+        0 => s.master_at(k),
+        1 => s.shelf_at(random.below(s.n), k),
+        _ => s.card_at(random.below(s.p), k),
+    }
+}
+
+/// A bit of a run's state, number of jobs, done mask or read mask is turned, or of a job.
+fn damage_run(random: &mut Random, pair: &mut Pair, s: Sizes) {
+    let most = random.one_of(&[4, 4, 28]);
+    let at = s.run_at(random.below(s.p)) + random.below(most);
+    let bits = random.one_of(&[2, 8, 32]);
+    let word = pair.words()[at] ^ 1 << random.below(bits);
+    pair.set(at, word);
+}
+
+fn damage_words(random: &mut Random, pair: &mut Pair) {
     let lent = pair.words().len();
     let gentle = random.chance(50);
     let most = random.one_of(&[1, 1, 10]);
     for _ in 0..1 + random.below(most) {
-        if lent == 0 {
-            return;
-        }
         let at = place(random, pair.words(), gentle).min(lent - 1);
         let old = pair.words()[at];
         let word = match random.below(6) {
@@ -153,11 +191,7 @@ fn held_word(random: &mut Random, words: &[u32], s: Sizes) -> usize {
     let mut at = 0;
     for _ in 0..20 {
         let k = random.below(s.k);
-        at = match random.below(3) {
-            0 => s.master_at(k),
-            1 => s.shelf_at(random.below(s.n), k),
-            _ => s.card_at(random.below(s.p), k),
-        };
+        at = place_of(random, s, k);
         if words.get(at).is_some_and(|issue| *issue != 0) {
             break;
         }
