@@ -4,7 +4,7 @@
 #
 # program: faults of tests/faults/program.txt in a copy of the Rattle sources. The toolchain
 #   builds a library only if it is proved, so the faulty program (CRATE, sheetdesk) is run
-#   unproved by `rt try`, on generated scripts with the reference's answers. 3 to 4 minutes.
+#   unproved by `rt try`, on some scripts with the reference's answers. 3 to 4 minutes.
 # library: faults of tests/faults/library.txt, in what no script reaches (the test of form, spent
 #   numbers, buffers), in a copy of the reference behind the library's names, against the
 #   reference itself by tests/differential.rs. 1 minute.
@@ -52,16 +52,19 @@ prepare_program() {
     done
 }
 
-# give_script SEED: the program's input and what it must write.
+# give_script SEED or NAME: the program's input, generated or golden, and what it must write.
 give_script() {
-    "$work/generate" "$1" 600 >"$work/copy/crates/$crate/stdin"
+    case $1 in
+    [0-9]*) "$work/generate" "$1" 600 ;;
+    *) cat "scripts/$1.txt" ;;
+    esac >"$work/copy/crates/$crate/stdin"
     "$work/sheetdesk" <"$work/copy/crates/$crate/stdin" >"$work/copy/crates/$crate/stdout"
 }
 
 # Whether the program answers a script otherwise. A fault that doesn't compile is no trial.
 differs_program() {
-    for seed in 1 2 3 4 5 6; do
-        give_script "$seed"
+    for script in 1 2 3 4 line-lengths unread-forms; do
+        give_script "$script"
         (cd "$work/copy" && rt try "$crate") >"$work/try.txt" 2>&1 && continue
         grep -q "wrote\|ended\|interpreter" "$work/try.txt" && return 0
         echo "faults: no trial:"
