@@ -1,6 +1,7 @@
 #!/usr/bin/env python3
-"""How the sources must look: lines under 100 columns (use lists aside), files of up to 250 lines, definitions without
-proofs. Prints what is wrong and exits 1, or prints nothing."""
+"""How the sources must look: lines under 100 columns (use lists aside), files of up to 250 lines (300 where the prover
+asks for the answers of one function in one file), definitions without proofs. Prints what is wrong and exits 1, or
+prints nothing."""
 import glob
 import re
 import sys
@@ -13,7 +14,7 @@ PROOF = re.compile(r"(?<![\w-])(omega|rw|refl|simp|search|cc|absurd|∙)(?![\w-]
 def faults(path):
     with open(path, encoding="utf-8") as source:
         lines = source.read().split("\n")
-    if len(lines) > 260:
+    if len(lines) > (310 if path.endswith("/Proof.antt") else 260):
         yield "%s: %d lines" % (path, len(lines))
     for number, line in enumerate(lines, 1):
         if len(line) >= 100 and not USE.match(line):

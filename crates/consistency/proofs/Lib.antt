@@ -20,3 +20,4 @@ pub mod Cutting
 pub mod Finished
 pub mod Points
 pub mod Theorem
+pub mod Lasting

@@ -1,6 +1,7 @@
 -- A call that the program makes: the words of its answer, the buffer after it, and whether that is
 -- in form, so that the next call need not test it.
--- accepted: an answer of new. Does: one call. Performs: what a line asks for, which may be no call.
+-- accepted: an answer of new. Does: one call. Performs: what a line asks for, which may be no
+-- call.
 -- Assumes nothing.
 use mathlib.Core.Path.{_≡_}
 use mathlib.Core.Bool.{Bool, true, false}

@@ -1,6 +1,7 @@
 -- The cause of an issue as the code tests it.
 -- not-below: a mask out of range. raise-word: causes 9 and 10 by their words, raise-free: none.
--- issue-cause: the chain. cause-state, cause-jobs: its lower rows. issue-ready: no cause.
+-- beyond, in-range: out of range or not. issue-cause: the chain. cause-state, cause-jobs: its
+-- lower rows, jobsCause. issue-ready: no cause.
 -- Assumes nothing.
 use mathlib.Core.Path.{_≡_, refl, sym, _∙_}
 use mathlib.Core.Bool.{Bool, true, false, cond, not, _&&_, _||_}

@@ -1,5 +1,5 @@
 -- An issue's stores one after the other: last issue number, writer, master, run.
--- ..-back: a part of a store just written. run-put: another run stored in it.
+-- run-put: a run stored in a store just written.
 -- saved-number, savable-in: where a key is saved. countedStore: number and writer are stored.
 -- writer-done, kept-formed, master-done: from the words that the phases leave to the store.
 -- Assumes nothing.
@@ -36,17 +36,17 @@ module _ (s : Store) (l : List ℕ) (z : Counts) (F : FitStore s) (e : s .counts
   counted : z ≡ countsIn (written s l)
   counted = sym (counts-back s l ∙ e)
 
-  pub master-back : readPlace z (written s l) (masterAt z) ≡ s .master
+  master-back : readPlace z (written s l) (masterAt z) ≡ s .master
   master-back =
       sym (master-in (written s l) z counted) ∙ ap (λ (t : Store). t .master) (store-back s l F)
 
-  pub writer-back : (w : ℕ) → w < z .writers
+  writer-back : (w : ℕ) → w < z .writers
       → readWriter z (written s l) (writerAt z w) ≡ s .writer w
   writer-back w h =
       sym (writer-in (written s l) z counted w h)
       ∙ ap (λ (t : Store). t .writer w) (store-back s l F)
 
-  pub snapshot-back : (r : ℕ) → r < z .runs
+  snapshot-back : (r : ℕ) → r < z .runs
       → readPlace z (written s l) (snapshotAt z r) ≡ s .run r .snapshot
   snapshot-back r h =
       sym (snapshot-in (written s l) z counted r h)

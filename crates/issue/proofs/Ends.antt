@@ -1,5 +1,5 @@
 -- What issue comes to on a buffer in form: refused by its cause, or done.
--- issue-refused, issue-done: answer and buffer. saved-counts: the counts of the store stay.
+-- issue-refused, issue-done: answer and buffer.
 -- Assumes nothing.
 use mathlib.Core.Path.{_≡_, refl, _∙_}
 use mathlib.Core.Bool.{So}
@@ -40,7 +40,7 @@ done-as : (s : Store) (r w S : ℕ)
 unfolding issueDone issueSaved savedNumber savedStore
 done-as s r w S = test (eqb S 0) (λ t. rw t) (λ t. rw t)
 
-pub saved-counts : (s : Store) (r w S : ℕ) → savedStore s r w S .counts ≡ s .counts
+saved-counts : (s : Store) (r w S : ℕ) → savedStore s r w S .counts ≡ s .counts
 unfolding savedStore withMaster withWriter withLast
 saved-counts s r w S = test (eqb S 0) (λ t. rw t) (λ t. rw t)
 

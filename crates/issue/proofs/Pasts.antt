@@ -2,6 +2,7 @@
 -- past-word: one count. past-ext: told by its counts. merge-past: the larger words are the larger
 -- counts. set-count: one count stored.
 -- writer-..: a writer by count and past. version-..: a version by issue number and past.
+-- row-..: where a row begins in its past.
 -- Assumes nothing.
 use mathlib.Core.Path.{_≡_, refl, sym, ap, _∙_}
 use mathlib.Core.Logic.{inr}

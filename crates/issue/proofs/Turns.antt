@@ -1,6 +1,7 @@
 -- Loops over the keys that change one part of a buffer, and what is left for a writer.
 -- part-fold: the turns on a part of the buffer are turns on what it stands for.
--- taken-fold: a writer after all turns of `takes`. rows-fold: after all turns of `rowSet`.
+-- part-over: a part stored twice. taken-fold: a writer after all turns of `takes`.
+-- rows-fold, rows-count: past and count after all turns of `rowSet`.
 -- Assumes nothing.
 use mathlib.Core.Path.{_≡_, refl, sym, ap, _∙_}
 use mathlib.Core.Bool.{Bool, true, false, cond, _&&_}

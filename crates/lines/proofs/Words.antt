@@ -9,20 +9,20 @@ use native.Mathlib.Numerals.{add-one}
 use native.Mathlib.Omega.{arith}
 use lib.ListN.{length, getD, drop, drop-of-length-le}
 use lib.Seq.{drop-cons}
+use Rattle.text.specs.Bytes.{bytesOf}
 use Rattle.text.specs.Decimal.{decimalOf}
 use Rattle.text.proofs.Puts.{put-both}
 use Rattle.lines.specs.Print.{answerWord, numbersText, answerText}
 
-pub ok-word : (t : ℕ) → t ≡ 0 → answerWord t ≡ 111 ∷ 107 ∷ []
+pub ok-word : (t : ℕ) → t ≡ 0 → answerWord t ≡ bytesOf "ok"
 unfolding answerWord
 ok-word t e = rw e
 
-pub broken-word : (t : ℕ) → t ≡ 1 → answerWord t ≡ 98 ∷ 114 ∷ 111 ∷ 107 ∷ 101 ∷ 110 ∷ []
+pub broken-word : (t : ℕ) → t ≡ 1 → answerWord t ≡ bytesOf "broken"
 unfolding answerWord
 broken-word t e = rw e
 
-pub refused-word : (t : ℕ) → (t ≡ 0 → ⊥) → (t ≡ 1 → ⊥)
-    → answerWord t ≡ 114 ∷ 101 ∷ 102 ∷ 117 ∷ 115 ∷ 101 ∷ 100 ∷ []
+pub refused-word : (t : ℕ) → (t ≡ 0 → ⊥) → (t ≡ 1 → ⊥) → answerWord t ≡ bytesOf "refused"
 unfolding answerWord
 refused-word zero n m = absurd (n refl)
 refused-word (suc zero) n m = absurd (m refl)

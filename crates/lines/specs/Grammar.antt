@@ -8,54 +8,27 @@ use mathlib.Core.Option.{Option, none, some}
 use Prim.Native.Nat.{ℕ, _+_}
 use lib.Dec.{eqb, leb}
 use lib.ListN.{length, getD, take, drop}
-use Rattle.text.specs.Bytes.{sameBytes}
+use Rattle.text.specs.Bytes.{bytesOf, sameBytes}
 use Rattle.text.specs.Fields.{fieldsOf, numbersOf}
 use Rattle.model.specs.Calls.{openRun, fetch, evict, prepare, step, issue, dropRun, look}
 use Rattle.layout.specs.Calls.{Call, new, on}
 use Rattle.lines.specs.declared.Command.{Command}
 use Rattle.lines.specs.declared.Command.the-variants.{Unread, New, Open, Fetch, Evict, Prepare, Step, Issue, Drop, Look}
 
--- ---- command words, as bytes
-
-abbrev pub newWord : List ℕ
-newWord = 110 ∷ 101 ∷ 119 ∷ []
-
-abbrev pub openWord : List ℕ
-openWord = 111 ∷ 112 ∷ 101 ∷ 110 ∷ []
-
-abbrev pub fetchWord : List ℕ
-fetchWord = 102 ∷ 101 ∷ 116 ∷ 99 ∷ 104 ∷ []
-
-abbrev pub evictWord : List ℕ
-evictWord = 101 ∷ 118 ∷ 105 ∷ 99 ∷ 116 ∷ []
-
-abbrev pub prepareWord : List ℕ
-prepareWord = 112 ∷ 114 ∷ 101 ∷ 112 ∷ 97 ∷ 114 ∷ 101 ∷ []
-
-abbrev pub stepWord : List ℕ
-stepWord = 115 ∷ 116 ∷ 101 ∷ 112 ∷ []
-
-abbrev pub issueWord : List ℕ
-issueWord = 105 ∷ 115 ∷ 115 ∷ 117 ∷ 101 ∷ []
-
-abbrev pub dropWord : List ℕ
-dropWord = 100 ∷ 114 ∷ 111 ∷ 112 ∷ []
-
-abbrev pub lookWord : List ℕ
-lookWord = 108 ∷ 111 ∷ 111 ∷ 107 ∷ []
+-- ---- command words
 
 -- The number of a command; 0 for a word that is none.
 unfoldable pub commandOf : List ℕ → ℕ
 commandOf w =
-    cond (sameBytes w newWord) 1
-    (cond (sameBytes w openWord) 2
-    (cond (sameBytes w fetchWord) 3
-    (cond (sameBytes w evictWord) 4
-    (cond (sameBytes w prepareWord) 5
-    (cond (sameBytes w stepWord) 6
-    (cond (sameBytes w issueWord) 7
-    (cond (sameBytes w dropWord) 8
-    (cond (sameBytes w lookWord) 9
+    cond (sameBytes w (bytesOf "new")) 1
+    (cond (sameBytes w (bytesOf "open")) 2
+    (cond (sameBytes w (bytesOf "fetch")) 3
+    (cond (sameBytes w (bytesOf "evict")) 4
+    (cond (sameBytes w (bytesOf "prepare")) 5
+    (cond (sameBytes w (bytesOf "step")) 6
+    (cond (sameBytes w (bytesOf "issue")) 7
+    (cond (sameBytes w (bytesOf "drop")) 8
+    (cond (sameBytes w (bytesOf "look")) 9
     0))))))))
 
 -- ---- the calls

@@ -4,13 +4,14 @@
 -- Assumes nothing.
 use mathlib.Core.List.{List, [], _∷_, _++_}
 use Prim.Native.Nat.{ℕ, zero, suc}
+use Rattle.text.specs.Bytes.{bytesOf}
 use Rattle.text.specs.Decimal.{decimalOf}
 
--- `ok`, `broken`, `refused`.
+-- The first word of an answer: 0 ok, 1 broken, 2 refused.
 unfoldable pub answerWord : ℕ → List ℕ
-answerWord zero = 111 ∷ 107 ∷ []
-answerWord (suc zero) = 98 ∷ 114 ∷ 111 ∷ 107 ∷ 101 ∷ 110 ∷ []
-answerWord (suc (suc n)) = 114 ∷ 101 ∷ 102 ∷ 117 ∷ 115 ∷ 101 ∷ 100 ∷ []
+answerWord zero = bytesOf "ok"
+answerWord (suc zero) = bytesOf "broken"
+answerWord (suc (suc n)) = bytesOf "refused"
 
 -- Each number after a space.
 unfoldable pub numbersText : List ℕ → List ℕ
@@ -24,4 +25,4 @@ answerText [] = answerWord 2 ++ (10 ∷ [])
 answerText (t ∷ ns) = answerWord t ++ numbersText ns ++ (10 ∷ [])
 
 unfoldable pub unreadText : List ℕ
-unreadText = 117 ∷ 110 ∷ 114 ∷ 101 ∷ 97 ∷ 100 ∷ 10 ∷ []
+unreadText = bytesOf "unread\n"

@@ -1,5 +1,6 @@
 -- The snapshot of a run of a buffer in form, after all merges.
--- merge-area: where it lies, once it is cleared. run-merged: what the store is after them.
+-- snapshot-in-place: where it lies. merge-area: the same once it is cleared.
+-- run-merged: the store after all merges.
 -- Assumes nothing.
 use mathlib.Core.Path.{_≡_, sym, ap, _∙_, fun-ext}
 use mathlib.Core.Bool.{Bool, cond, _&&_}
@@ -56,25 +57,25 @@ module _ (l : List ℕ) (z : Counts) (r : ℕ) (U : UsedRun l z r) where
       rw (← same) (put-snapshot s l r p (rw same (U .run))) in
       ap (λ (m : List ℕ). putPlace z m (snapshotAt z r) p) (sym (form-again l z (U .form))) ∙ put
 
-  -- snapshot: the snapshot. m: the buffer with it cleared.
-  module _ (snapshot : ℕ) (c : snapshot ≡ snapshotAt z r) (m : List ℕ)
-      (e : m ≡ putPlace z l snapshot emptyPlace) where
-    fits : Area (length l) z snapshot
+  -- at: where the snapshot is. m: the buffer with it cleared.
+  module _ (at : ℕ) (c : at ≡ snapshotAt z r) (m : List ℕ)
+      (e : m ≡ putPlace z l at emptyPlace) where
+    fits : Area (length l) z at
     fits = rw c snapshot-in-place
 
     cache-beside : (o : ℕ) → o < z .sites
         → readPlace z m (siteAt z o) ≡ readPlace z l (siteAt z o)
     cache-beside o h =
-        rw e (place-beside z l snapshot (siteAt z o) emptyPlace (inr (rw c (behind o h))))
+        rw e (place-beside z l at (siteAt z o) emptyPlace (inr (rw c (behind o h))))
 
-    pub merge-area : MergeArea m z snapshot
+    pub merge-area : MergeArea m z at
     merge-area =
-        let long : length m ≡ length l = rw e (length-sets l snapshot (placeWords z emptyPlace)) in
+        let long : length m ≡ length l = rw e (length-sets l at (placeWords z emptyPlace)) in
         record {
           area = rw long fits;
           behind = λ o h. rw c (behind o h);
           formed = λ o h. rw (cache-beside o h) (cache-formed l z (U .form) o h);
-          empty = rw e (place-twice z l snapshot emptyPlace emptyPlace (fits .fits));
+          empty = rw e (place-twice z l at emptyPlace emptyPlace (fits .fits));
         }
 
     module _ (sites plan : ℕ)
@@ -91,7 +92,8 @@ module _ (l : List ℕ) (z : Counts) (r : ℕ) (U : UsedRun l z r) where
       found-as =
           let s = storeOf l in
           let a = s .run r in
-          let S : ℕ → ℕ → Bool = λ k o. usesSite (a .jobs) (a .job) o && planned (a .jobs) (a .job) k in
+          let S : ℕ → ℕ → Bool = λ k o.
+          usesSite (a .jobs) (a .job) o && planned (a .jobs) (a .job) k in
           rw (f, g)
           (fun-ext (λ k. fold-same (z .sites)
           (λ o v. cond (S k o) (merge v (readPlace z m (siteAt z o) k)) v)
@@ -100,16 +102,16 @@ module _ (l : List ℕ) (z : Counts) (r : ℕ) (U : UsedRun l z r) where
           (cache-beside o h ∙ sym (cache-in l z (U .form .counts) o h)))
           unheld))
 
-      pub run-merged : (k : List ℕ) → k ≡ putPlace z m snapshot found
+      pub run-merged : (k : List ℕ) → k ≡ putPlace z m at found
           → k ≡ written (merged (storeOf l) r) l
       unfolding merged
       run-merged k h =
           let s = storeOf l in
-          let once : putPlace z m snapshot found ≡ putPlace z l snapshot found =
-          ap (λ (t : List ℕ). putPlace z t snapshot found) e
-          ∙ place-twice z l snapshot emptyPlace found (fits .fits) in
+          let once : putPlace z m at found ≡ putPlace z l at found =
+          ap (λ (t : List ℕ). putPlace z t at found) e
+          ∙ place-twice z l at emptyPlace found (fits .fits) in
           h ∙ once
-          ∙ ap (λ (p : Place Version). putPlace z l snapshot p) found-as
+          ∙ ap (λ (p : Place Version). putPlace z l at p) found-as
           ∙ ap (λ (i : ℕ). putPlace z l i (mergedSites s r (z .sites))) c
           ∙ stored (mergedSites s r (z .sites))
           ∙ ap (λ (y : Counts). written

@@ -1,4 +1,4 @@
--- What prepare comes to on a buffer in form: refused by its cause, or done.
+-- What prepare comes to on a buffer in form: prepare-refused, by its cause, or prepare-done.
 -- Assumes nothing.
 use mathlib.Core.Path.{_≡_, refl, sym, ap, _∙_}
 use mathlib.Core.Bool.{So}
@@ -53,12 +53,14 @@ abbrev carriedMask : Store → ℕ → ℕ
 carriedMask s r = maskBelow (s .counts .keys) (λ k. held (prepareSnapshot s r k))
 
 next-as : (s : Store) (r : ℕ) → prepareDone s r ≡ done (carriedMask s r ∷ []) (next s r)
-unfolding prepareDone next merged mergedSites fetchedJobs withCaches withSites prepareSnapshot prepareCaches siteCaches
+unfolding prepareDone next merged mergedSites fetchedJobs withCaches withSites prepareSnapshot
+    prepareCaches siteCaches
 next-as s r = refl
 
 -- Its snapshot of the run.
 next-snapshot : (s : Store) (r : ℕ) → next s r .run r .snapshot ≡ prepareSnapshot s r
-unfolding next merged mergedSites fetchedJobs withCaches withSites withRun withSnapshot prepareSnapshot prepareCaches siteCaches
+unfolding next merged mergedSites fetchedJobs withCaches withSites withRun withSnapshot
+    prepareSnapshot prepareCaches siteCaches
 next-snapshot s r = ap (λ (a : Run). a .snapshot) (putAt-same (s .run) r _)
 
 merged-counts : (s : Store) (r : ℕ) → merged s r .counts ≡ s .counts
@@ -93,9 +95,9 @@ module _ (l : List ℕ) (z : Counts) (r : ℕ) (U : UsedRun l z r)
         f ∙ rw e (phase s₁ l (λ (t : Store). merged t r)
         (jobs-fits l z r U (s .run r .jobs) (omega arith)) (merged-counts s₁ r))
 
-    carried : (snapshot : ℕ) → snapshot ≡ snapshotAt z r
-        → readPlace z m snapshot ≡ prepareSnapshot (storeOf l) r
-    carried snapshot c =
+    carried : (at : ℕ) → at ≡ snapshotAt z r
+        → readPlace z m at ≡ prepareSnapshot (storeOf l) r
+    carried at c =
         let s = storeOf l in
         let back : storeOf m ≡ next s r = rw next-left (store-back (next s r) l next-fits) in
         let counts : z ≡ countsIn m =
@@ -104,14 +106,14 @@ module _ (l : List ℕ) (z : Counts) (r : ℕ) (U : UsedRun l z r)
         rw c (sym (snapshot-in m z counts r (U .run))
         ∙ ap (λ (t : Store). t .run r .snapshot) back ∙ next-snapshot s r)
 
-    pub prepare-done : (snapshot C : ℕ) → snapshot ≡ snapshotAt z r
-        → C ≡ maskBelow (z .keys) (λ k. held (readPlace z m snapshot k))
+    pub prepare-done : (at C : ℕ) → at ≡ snapshotAt z r
+        → C ≡ maskBelow (z .keys) (λ k. held (readPlace z m at k))
         → Ends (prepare r) l (0 ∷ C ∷ []) m
     unfolding answer leaves
-    prepare-done snapshot C c h =
+    prepare-done at C c h =
         let s = storeOf l in
         let mask : C ≡ carriedMask s r =
-        h ∙ ap (λ (p : Place Version). maskBelow (z .keys) (λ k. held (p k))) (carried snapshot c)
+        h ∙ ap (λ (p : Place Version). maskBelow (z .keys) (λ k. held (p k))) (carried at c)
         ∙ ap (λ (y : Counts). maskBelow (y .keys) (λ k. held (prepareSnapshot s r k)))
         (sym (form-counts l z (U .form))) in
         ends-done (prepare r) l (prepareCause s r) (prepareDone s r) (U .form .form)

@@ -1,6 +1,6 @@
 -- What is known of a run that isn't free, and of a job of it.
--- JobsKnown, jobs-known: its jobs. JobKnown, job-known: one of them.
--- uses-..: the sites that its jobs are at, one job after the other. plan-..: its plan.
+-- JobsKnown, jobs-known: where it lies, and its jobs. job-known: one of them. ..-word: what is
+-- read where. uses-..: the sites that its jobs are at, one job after the other. plan-..: its plan.
 -- Assumes nothing.
 use mathlib.Core.Path.{_≡_, refl, sym, ap, _∙_, fun-ext}
 use mathlib.Core.Bool.{So, _&&_}
@@ -45,11 +45,11 @@ module _ (l : List ℕ) (z : Counts) (r : ℕ) (U : UsedRun l z r) where
         jobs = plan-out z (storeOf l .run r) (U .used) formed .jobs;
       }
 
-  -- The index at of the run.
+  -- at: where it begins.
   pub run-index : (at : ℕ) → at ≡ runAt z r → at + 28 ≤ length l
   run-index at e = omega (arith, jobs-known .area .fits)
 
-  -- Job j: valid, and its words.
+  -- Job j is valid.
   pub job-known : (j : ℕ) → j < storeOf l .run r .jobs → Valid z j (storeOf l .run r .job j)
   job-known j h = valid-out z j (storeOf l .run r .job j) (jobs-known .jobs .valid j h)
 

@@ -1,6 +1,6 @@
 -- The snapshot, cleared and merged, as a change of the store.
--- zeros-place: cleared words. place-twice: a place stored twice. site-merged: the code of one turn.
--- merge-..: the loop over the sites.
+-- zeros-place: cleared words. place-twice: a place stored twice.
+-- site-merged, site-passed: the code of one turn. merge-..: the loop over the sites.
 -- Assumes nothing.
 use mathlib.Core.Path.{_≡_, sym, ap, ap₂, _∙_, fun-ext}
 use mathlib.Core.Bool.{Bool, false, cond, So, _&&_}
@@ -63,19 +63,19 @@ place-twice z l at p q h =
 -- ---- the code of one turn
 
 -- A site of the mask: the keys of the plan are merged.
-pub site-merged : (z : Counts) (l : List ℕ) (snapshot o at sites plan : ℕ) (m : List ℕ)
-    → So (testBit sites o) → at ≡ siteAt z o
-    → m ≡ putPlace z l snapshot (choice (testBit plan)
-    (λ k. merge (readPlace z l snapshot k) (readPlace z l at k)) (readPlace z l snapshot))
-    → m ≡ putPlace z l snapshot (siteMerged z l snapshot o sites plan)
+pub site-merged : (z : Counts) (l : List ℕ) (at o from sites plan : ℕ) (m : List ℕ)
+    → So (testBit sites o) → from ≡ siteAt z o
+    → m ≡ putPlace z l at (choice (testBit plan)
+    (λ k. merge (readPlace z l at k) (readPlace z l from k)) (readPlace z l at))
+    → m ≡ putPlace z l at (siteMerged z l at o sites plan)
 unfolding siteMerged
-site-merged z l snapshot o at sites plan m p q e = rw (p, ← q) e
+site-merged z l at o from sites plan m p q e = rw (p, ← q) e
 
 -- Any other: nothing is stored.
-pub site-passed : (z : Counts) (l : List ℕ) (snapshot o sites plan : ℕ) → testBit sites o ≡ false
-    → l ≡ putPlace z l snapshot (siteMerged z l snapshot o sites plan)
+pub site-passed : (z : Counts) (l : List ℕ) (at o sites plan : ℕ) → testBit sites o ≡ false
+    → l ≡ putPlace z l at (siteMerged z l at o sites plan)
 unfolding siteMerged
-site-passed z l snapshot o sites plan p = rw p (sym (place-again z l snapshot))
+site-passed z l at o sites plan p = rw p (sym (place-again z l at))
 
 -- ---- the loop over the sites
 
@@ -85,12 +85,11 @@ mergedAfter z l sites plan n =
     sitesMerged (versions (z .writers)) n (testBit sites) (testBit plan)
     (λ o. readPlace z l (siteAt z o))
 
-module _ (z : Counts) (l : List ℕ) (snapshot sites plan : ℕ) (C : MergeArea l z snapshot) where
-  -- Short for it.
+module _ (z : Counts) (l : List ℕ) (at sites plan : ℕ) (C : MergeArea l z at) where
   abbrev after : ℕ → Place Version
   after = mergedAfter z l sites plan
 
-  pub merge-start : l ≡ putPlace z l snapshot (after 0)
+  pub merge-start : l ≡ putPlace z l at (after 0)
   unfolding sitesMerged foldBelow
   merge-start = sym (C .empty)
 
@@ -110,7 +109,7 @@ module _ (z : Counts) (l : List ℕ) (snapshot sites plan : ℕ) (C : MergeArea 
             (λ k i. version-merge z k (p k) (q k) (G .1 k i) (Q k i)) (G .1),
       )
 
-  pub merge-lies : (o : ℕ) → o < z .sites → Areas (length l) z snapshot (siteAt z o)
+  pub merge-lies : (o : ℕ) → o < z .sites → Areas (length l) z at (siteAt z o)
   merge-lies o h =
       let A = C .area in
       let b = C .behind o h in
@@ -124,16 +123,16 @@ module _ (z : Counts) (l : List ℕ) (snapshot sites plan : ℕ) (C : MergeArea 
         apart = inr (inr b);
       }
 
-  module _ (n : ℕ) (h : n < z .sites) (m : List ℕ) (e : m ≡ putPlace z l snapshot (after n)) where
-    snapshot-read : readPlace z m snapshot ≡ after n
+  module _ (n : ℕ) (h : n < z .sites) (m : List ℕ) (e : m ≡ putPlace z l at (after n)) where
+    snapshot-read : readPlace z m at ≡ after n
     snapshot-read =
-        rw e (part-back (place-laws z) l snapshot (after n) (after-good n (omega arith) .0)
+        rw e (part-back (place-laws z) l at (after n) (after-good n (omega arith) .0)
         (C .area .fits))
 
     site-read : readPlace z m (siteAt z n) ≡ readPlace z l (siteAt z n)
-    site-read = rw e (place-beside z l snapshot (siteAt z n) (after n) (inr (C .behind n h)))
+    site-read = rw e (place-beside z l at (siteAt z n) (after n) (inr (C .behind n h)))
 
-    pub merge-formed : So (placeFormed z (readPlace z m snapshot))
+    pub merge-formed : So (placeFormed z (readPlace z m at))
         × So (placeFormed z (readPlace z m (siteAt z n)))
     merge-formed = (
       rw snapshot-read (place-in z (after n) (after-good n (omega arith) .1)),
@@ -144,11 +143,11 @@ module _ (z : Counts) (l : List ℕ) (snapshot sites plan : ℕ) (C : MergeArea 
     abbrev turned : Place Version → Place Version → Place Version
     turned p q k = cond (testBit sites n && testBit plan k) (merge (p k) (q k)) (p k)
 
-    pub merge-turn : (k : List ℕ) → k ≡ putPlace z m snapshot (siteMerged z m snapshot n sites plan)
-        → k ≡ putPlace z l snapshot (after (n + 1))
+    pub merge-turn : (k : List ℕ) → k ≡ putPlace z m at (siteMerged z m at n sites plan)
+        → k ≡ putPlace z l at (after (n + 1))
     unfolding siteMerged sitesMerged foldBelow
     merge-turn k f =
         let q = turned (after n) (readPlace z l (siteAt z n)) in
-        let g : k ≡ putPlace z m snapshot q =
-        f ∙ ap₂ (λ (p q : Place Version). putPlace z m snapshot (turned p q)) snapshot-read site-read in
-        rw (add-one n) (g ∙ rw e (place-twice z l snapshot (after n) q (C .area .fits)))
+        let g : k ≡ putPlace z m at q =
+        f ∙ ap₂ (λ (p q : Place Version). putPlace z m at (turned p q)) snapshot-read site-read in
+        rw (add-one n) (g ∙ rw e (place-twice z l at (after n) q (C .area .fits)))

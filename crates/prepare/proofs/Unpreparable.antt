@@ -1,5 +1,6 @@
 -- Whether a job has to fetch a key that the master lacks: asked of the caches before all fetches
--- it is the same as asked in turn, for every algebra.
+-- it is the same as asked in turn, for every algebra. A fetch brings no key that the master lacks,
+-- and what is held stays held.
 -- Assumes nothing.
 use mathlib.Core.Path.{_≡_, refl, sym, ap, _∙_}
 use mathlib.Core.Bool.{false, not, _&&_, _||_}
@@ -45,10 +46,11 @@ module _ {A : Type 0} (alg : Algebra A) (K : ℕ) (master : Place A) where
       → unfetchable alg K master (lacking alg K p S) ≡ unfetchable alg K master (lacking alg K q S)
   unfolding unfetchable lacking
   unfetchable-alike p q S f =
-      any-same K (λ k. (S k && not (alg .held (p k))) && not (alg .held (master k)))
-      (λ k. (S k && not (alg .held (q k))) && not (alg .held (master k)))
+      let lacks : Place A → Items = λ p k. S k && not (alg .held (p k)) in
+      let gone : Items = λ k. not (alg .held (master k)) in
+      any-same K (λ k. lacks p k && gone k) (λ k. lacks q k && gone k)
       (λ k l. test (alg .held (master k))
-      (λ y. rw (y, and-false-right (S k && not (alg .held (p k)))) (sym (and-false-right (S k && not (alg .held (q k))))))
+      (λ y. rw y (and-false-right (lacks p k) ∙ sym (and-false-right (lacks q k))))
       (λ n. rw (f k l n)))
 
   module _ (job : ℕ → Job) (cache : ℕ → Place A) where
@@ -77,4 +79,4 @@ module _ {A : Type 0} (alg : Algebra A) (K : ℕ) (master : Place A) where
         (jobStart alg K master job j (preparedCaches alg K master job j cache)))
         (λ j. unfetchable alg K master (jobStart alg K master job j cache))
         (λ j _. unfetchable-alike (preparedCaches alg K master job j cache (job j .site))
-        (cache (job j .site)) (testBit (job j .reads)) (λ k l m. prepared-alike j (job j .site) k l m))
+        (cache (job j .site)) (testBit (job j .reads)) (prepared-alike j (job j .site)))

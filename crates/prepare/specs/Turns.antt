@@ -1,6 +1,6 @@
 -- What the parts of prepare leave of a store, and what they ask of a buffer.
--- fetchedJob, fetchedJobs: the fetch of one job, of the first n jobs. mergedSites: the first n
--- sites merged. merged: the store with all of them in the run's snapshot. siteMerged: one turn.
+-- startOf: what a job has to fetch. fetchedJob, fetchedJobs: the fetch of one job, of the first n.
+-- mergedSites, merged: the merge of the first n sites, of all. siteMerged: of one, in words.
 -- UsedRun: a run that isn't free. MergeArea: a snapshot that the caches are merged into.
 -- Assumes nothing.
 use mathlib.Core.Path.{_≡_}
@@ -8,6 +8,7 @@ use mathlib.Core.Bool.{So, _&&_}
 use mathlib.Core.List.{List}
 use Prim.Native.Nat.{ℕ, _+_, _≤_, _<_}
 use lib.ListN.{length}
+use Rattle.words.specs.Tests.{Items}
 use Rattle.masks.specs.Mask.{testBit}
 use Rattle.sizes.specs.declared.Counts.{Counts}
 use Rattle.sizes.specs.Bounds.{placeSize, siteAt}
@@ -15,13 +16,18 @@ use Rattle.model.specs.Algebra.{Place}
 use Rattle.model.specs.Version.{Version, merge, versions}
 use Rattle.model.specs.Store.{Store, emptyPlace, planned, withSites, withRun, withSnapshot}
 use Rattle.model.specs.Form.{placeFormed}
-use Rattle.model.specs.Prepare.{fetchReads, preparedCaches, usesSite, sitesMerged, siteCaches}
+use Rattle.model.specs.Prepare.{jobStart, fetchReads, preparedCaches, usesSite, sitesMerged, siteCaches}
 use Rattle.layout.specs.Reading.{readPlace, storeOf}
 use Rattle.layout.specs.Stored.{putPlace}
 use Rattle.version.specs.Places.{choice, Area}
 use Rattle.form.specs.Parts.{FormWith}
 
 -- ---- the caches
+
+-- What job j of run r has to fetch, with the counts z of the store.
+abbrev pub startOf : Counts → Store → ℕ → ℕ → Items
+startOf z s r j =
+    jobStart (versions (z .writers)) (z .keys) (s .master) (s .run r .job) j (siteCaches s)
 
 unfoldable pub withCaches : Store → (ℕ → Place Version) → Store
 withCaches s cache = withSites s (λ o. record { cache = cache o })
@@ -49,15 +55,16 @@ mergedSites s r n =
     sitesMerged (versions (s .counts .writers)) n (usesSite (a .jobs) (a .job))
     (planned (a .jobs) (a .job)) (siteCaches s)
 
+-- The store with all sites merged in the snapshot of run r.
 unfoldable pub merged : Store → ℕ → Store
 merged s r =
     withRun s r (withSnapshot (s .run r) (mergedSites s r (s .counts .sites)))
 
 -- The snapshot at an index with the cache of site o merged into it, if both masks allow it.
 unfoldable pub siteMerged : Counts → List ℕ → ℕ → ℕ → ℕ → ℕ → Place Version
-siteMerged z l snapshot o sites plan =
+siteMerged z l at o sites plan =
     choice (λ k. testBit sites o && testBit plan k)
-    (λ k. merge (readPlace z l snapshot k) (readPlace z l (siteAt z o) k)) (readPlace z l snapshot)
+    (λ k. merge (readPlace z l at k) (readPlace z l (siteAt z o) k)) (readPlace z l at)
 
 -- ---- the buffer
 
@@ -68,8 +75,8 @@ pub record UsedRun (l : List ℕ) (z : Counts) (r : ℕ) : Type 0 where
   pub used : 1 ≤ storeOf l .run r .state
 
 -- An empty snapshot at an index behind the caches of the sites, which are in form.
-pub record MergeArea (l : List ℕ) (z : Counts) (snapshot : ℕ) : Type 0 where
-  pub area : Area (length l) z snapshot
-  pub behind : (o : ℕ) → o < z .sites → siteAt z o + placeSize z ≤ snapshot
+pub record MergeArea (l : List ℕ) (z : Counts) (at : ℕ) : Type 0 where
+  pub area : Area (length l) z at
+  pub behind : (o : ℕ) → o < z .sites → siteAt z o + placeSize z ≤ at
   pub formed : (o : ℕ) → o < z .sites → So (placeFormed z (readPlace z l (siteAt z o)))
-  pub empty : putPlace z l snapshot emptyPlace ≡ l
+  pub empty : putPlace z l at emptyPlace ≡ l

@@ -12,18 +12,16 @@ ghost use Prim.Native.Nat.{_<_};
 ghost use Rattle.masks.specs.Mask.{maskBelow};
 ghost use Rattle.model.specs.Version.{versions};
 ghost use Rattle.model.specs.Sets.{unfetchable};
-ghost use Rattle.model.specs.Prepare.{jobStart, unpreparable, siteCaches};
+ghost use Rattle.model.specs.Prepare.{unpreparable, siteCaches};
 ghost use Rattle.layout.specs.Reading.{storeOf};
 ghost use Rattle.layout.specs.Buffer.{written};
-ghost use Rattle.prepare.specs.Turns.{UsedRun, fetchedJob, fetchedJobs};
+ghost use Rattle.prepare.specs.Turns.{UsedRun, startOf, fetchedJob, fetchedJobs};
 
 // What job j of run r has to fetch: its reads that its cache lacks.
 pub fn job_start(words: &[u32], z: Counts, r: usize, j: usize) -> u32
     requires { ⌜ UsedRun (now words) z r ⌝ }
     requires { ⌜ j < storeOf (now words) .run r .jobs ⌝ }
-    ensures { λ m. ⌜ m ≡ maskBelow (z .keys) (jobStart (versions (z .writers)) (z .keys)
-        (storeOf (now (words .entry)) .master) (storeOf (now (words .entry)) .run r .job) j
-        (siteCaches (storeOf (now (words .entry))))) ⌝ }
+    ensures { λ m. ⌜ m ≡ maskBelow (z .keys) (startOf z (storeOf (now (words .entry))) r j) ⌝ }
 {
     let site = wide(job_site(words, z, r, j));
     let reads = job_reads(words, z, r, j);
@@ -37,9 +35,7 @@ pub fn is_lacked(words: &[u32], z: Counts, r: usize, j: usize) -> bool
     requires { ⌜ j < storeOf (now words) .run r .jobs ⌝ }
     ensures { λ b. ⌜ b ≡ unfetchable (versions (z .writers)) (z .keys)
         (storeOf (now (words .entry)) .master)
-        (jobStart (versions (z .writers)) (z .keys) (storeOf (now (words .entry)) .master)
-        (storeOf (now (words .entry)) .run r .job) j
-        (siteCaches (storeOf (now (words .entry))))) ⌝ }
+        (startOf z (storeOf (now (words .entry))) r j) ⌝ }
 {
     let start = job_start(words, z, r, j);
     let areas = z.areas();
@@ -73,11 +69,11 @@ pub fn fetch_job(words: &mut [u32], z: Counts, r: usize, j: usize)
     ensures { λ _. ⌜ now (words .exit)
         ≡ written (fetchedJob (storeOf (now (words .entry))) r j) (now (words .entry)) ⌝ }
 {
-    let site = wide(job_site(words, z, r, j));
+    let o = wide(job_site(words, z, r, j));
     let start = job_start(words, z, r, j);
-    let at = z.site_at(site);
+    let cache = z.site_at(o);
     let areas = z.areas();
-    fetch_keys(words, z, areas.master, at, start);
+    fetch_keys(words, z, areas.master, cache, start);
 }
 
 // The fetches of all jobs of run r.

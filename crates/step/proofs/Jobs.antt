@@ -1,6 +1,6 @@
 -- The causes of step by its run and job, as the code tests them.
 -- run-job: a job. limit-in, state-in, unready-in: the parts of a cause, by the words.
--- Ready, ready: what holds of a job in range of an open run. job-ready: where no cause holds.
+-- Ready, job-open: what holds of a job in range of an open run. job-ready: where no cause holds.
 -- step-high, step-below, step-free: the whole cause.
 -- Assumes nothing.
 use mathlib.Core.Path.{_≡_, refl, sym, ap, _∙_}
@@ -74,11 +74,11 @@ step-used : (n : ℕ) → So (allowed stepRow n) → 1 ≤ n
 unfolding allowed
 step-used n p = allowed-used stepRow n refl p
 
-pub ready : (l : List ℕ) (z : Counts) (r j : ℕ) → FormWith l z → r < z .runs
+pub job-open : (l : List ℕ) (z : Counts) (r j : ℕ) → FormWith l z → r < z .runs
     → leb (jobLimit (storeOf l) r j) j ≡ false
     → So (allowed stepRow (getD l (runAt z r) 0)) → Ready l z r j
 unfolding limitOf readRun
-ready l z r j H h out p =
+job-open l z r j H h out p =
     let K = run-known l z r H h in
     let at = runAt z r in
     let a = readRun z l at in
@@ -109,7 +109,7 @@ job-ready l z r j H h e =
     let s = storeOf l in
     let a = no-cause (leb (jobLimit s r j) j) 3 _ (omega arith) e in
     let b = no-lack (allowed stepRow (s .run r .state)) 4 _ (omega arith) (a .1) in
-    ready l z r j H h (a .0) (rw (← state-in l z r j (run-known l z r H h)) (b .0))
+    job-open l z r j H h (a .0) (rw (← state-in l z r j (run-known l z r H h)) (b .0))
 
 -- ---- the whole cause
 

@@ -97,7 +97,7 @@ step-stored l z r o p q x y H h i =
 
 -- ---- broken, or done
 
--- p: C as a mask, as the code finds it.
+-- v, t: what the code looks at, and what it finds.
 module _ (l : List ℕ) (z : Counts) (r j : ℕ) (H : FormWith l z)
     (free : stepCause (storeOf l) r j ≡ 0) (v : Visit) (seen : v ≡ runVisit z l r j)
     (t : Trial) (tried : t ≡ trialOf z l v) where

@@ -22,10 +22,10 @@ ghost use mathlib.Core.Path.{_≡_};
 ghost use mathlib.Core.Bool.{So};
 ghost use Prim.Native.Nat.{_+_, _^_, _≤_, _<_};
 ghost use lib.Bits.{bitAnd};
-ghost use lib.ListN.{length};
+ghost use lib.ListN.{length, set};
 ghost use Rattle.masks.specs.Mask.{without, maskBelow};
 ghost use Rattle.sizes.specs.Bounds.{maxJobs};
-ghost use Rattle.model.specs.Outcome.{answer};
+ghost use Rattle.model.specs.Outcome.{answer, brokenState};
 ghost use Rattle.model.specs.Step.{stepCause};
 ghost use Rattle.model.specs.Calls.{step};
 ghost use Rattle.layout.specs.Reading.{readRun, storeOf};
@@ -35,6 +35,9 @@ ghost use Rattle.form.specs.Parts.{RunArea, FormWith};
 ghost use Rattle.step.specs.Answers.{steppedWords};
 ghost use Rattle.step.specs.Jobs.{jobCause};
 ghost use Rattle.step.specs.Visits.{visitOf, runVisit, startOf, trialOf, finished, VisitArea, VisitFormed};
+
+// The mask of every job.
+const EVERY_JOB: u32 = 255;
 
 // The reads from the snapshot, from the cache and from the master; or the keys that would move
 // though the run has read them; or the cause's number.
@@ -96,7 +99,7 @@ pub fn step_in(words: &mut [u32], run: u32, job: u32) -> Stepped
     let trial = try_visit(words, z, visit);
     let moved = trial.pulled & visit.read;
     if moved != 0 {
-        words[at] = BROKEN_STATE;
+        break_run(words, at);
         return Stepped::Broken(moved);
     }
     finish(words, z, visit, trial, at + 2, at + 3, job);
@@ -112,9 +115,9 @@ fn step_cause(words: &[u32], z: Counts, r: usize, j: usize) -> u32
     if runs <= r {
         return 3;
     }
-    let cause = job_cause(words, z, r, j);
-    if cause != 0 {
-        return cause;
+    let early = job_cause(words, z, r, j);
+    if early != 0 {
+        return early;
     }
     let visit = run_visit(words, z, r, j);
     let start = start_of(words, z, visit);
@@ -147,7 +150,7 @@ fn visit_of(words: &[u32], z: Counts, at: usize, snapshot: usize, read: usize, j
     let job = at + 4 + j * 3;
     let areas = z.areas();
     let cache = z.site_at(wide(words[job]));
-    let plan = reads_of(words, at + 4, words[at + 1], 255);
+    let plan = reads_of(words, at + 4, words[at + 1], EVERY_JOB);
     Visit {
         master: areas.master,
         cache,
@@ -186,6 +189,14 @@ fn try_visit(words: &[u32], z: Counts, visit: Visit) -> Trial
     Trial { taken, pulled }
 }
 
+// Breaks the run at an index: its state becomes 2, and nothing else changes.
+fn break_run(words: &mut [u32], at: usize)
+    requires { ⌜ at + 28 ≤ length (now words) ⌝ }
+    ensures { λ _. ⌜ now (words .exit) ≡ set (now (words .entry)) at brokenState ⌝ }
+{
+    words[at] = BROKEN_STATE;
+}
+
 // The cache takes T, the snapshot C; the job is done, and its reads are read.
 fn finish(
     words: &mut [u32],
@@ -214,10 +225,9 @@ fn divided(reads: u32, trial: Trial) -> Stepped
         (without (bitAnd reads (trial .pulled)) (trial .taken))
         (bitAnd (bitAnd reads (trial .pulled)) (trial .taken)) ⌝ }
 {
-    let moving = reads & trial.pulled;
-    Stepped::Done(
-        without(reads, trial.pulled),
-        without(moving, trial.taken),
-        moving & trial.taken,
-    )
+    let reads_pulled = reads & trial.pulled;
+    let from_snapshot = without(reads, trial.pulled);
+    let from_cache = without(reads_pulled, trial.taken);
+    let from_master = reads_pulled & trial.taken;
+    Stepped::Done(from_snapshot, from_cache, from_master)
 }

@@ -1,48 +1,47 @@
--- Fields and numbers of short lines, computed.
+-- Fields, numbers and decimals of short texts, computed.
 -- Assumes nothing.
 use mathlib.Core.Path.{_≡_, refl}
-use mathlib.Core.List.{List, [], _∷_}
+use mathlib.Core.List.{[], _∷_}
 use mathlib.Core.Option.{none, some}
-use Prim.Native.Nat.{ℕ}
-use Rattle.text.specs.Fields.{inFirst, fieldsOf, digitsOnly, valueFrom, isEmpty, numberOf, numberBefore, numbersOf}
+use Rattle.text.specs.Bytes.{bytesOf}
 use Rattle.text.specs.Decimal.{digitsOf, decimalOf}
+use Rattle.text.specs.Fields.{inFirst, fieldsOf, digitsOnly, valueFrom, isEmpty, numberOf, numberBefore, numbersOf}
 
--- An empty line; `a `; `a  7`.
+-- A quoted text is its bytes.
+pub bytes : bytesOf "new 7\r\n" ≡ 110 ∷ 101 ∷ 119 ∷ 32 ∷ 55 ∷ 13 ∷ 10 ∷ []
+bytes = refl
+
+-- An empty line, a space at the end, two spaces.
 pub fields :
-    (fieldsOf [] ≡ [] ∷ [])
-    × (fieldsOf (97 ∷ 32 ∷ []) ≡ (97 ∷ []) ∷ [] ∷ [])
-    × (fieldsOf (97 ∷ 32 ∷ 32 ∷ 55 ∷ []) ≡ (97 ∷ []) ∷ [] ∷ (55 ∷ []) ∷ [])
+    (fieldsOf (bytesOf "") ≡ [] ∷ [])
+    × (fieldsOf (bytesOf "a ") ≡ bytesOf "a" ∷ [] ∷ [])
+    × (fieldsOf (bytesOf "a  7") ≡ bytesOf "a" ∷ [] ∷ bytesOf "7" ∷ [])
+    × (fieldsOf (bytesOf "ab 12 3") ≡ bytesOf "ab" ∷ bytesOf "12" ∷ bytesOf "3" ∷ [])
 unfolding fieldsOf inFirst
-fields = (refl, refl, refl)
+fields = (refl, refl, refl, refl)
 
--- 4294967295, with zeros in front and without them.
-abbrev largestText : List ℕ
-largestText = 52 ∷ 50 ∷ 57 ∷ 52 ∷ 57 ∷ 54 ∷ 55 ∷ 50 ∷ 57 ∷ 53 ∷ []
-
--- 4294967296.
-abbrev overText : List ℕ
-overText = 52 ∷ 50 ∷ 57 ∷ 52 ∷ 57 ∷ 54 ∷ 55 ∷ 50 ∷ 57 ∷ 54 ∷ []
-
--- `007`, nothing, `7` and a carriage return, `-7`, `:`, `/`; the largest number and the next one.
+-- Zeros in front, the largest number and the next one, and what is no number.
 pub numbers :
-    (numberOf (48 ∷ 48 ∷ 55 ∷ []) ≡ some 7)
-    × (numberOf [] ≡ none)
-    × (numberOf (55 ∷ 13 ∷ []) ≡ none)
-    × (numberOf (45 ∷ 55 ∷ []) ≡ none)
-    × (numberOf (58 ∷ []) ≡ none)
-    × (numberOf (47 ∷ []) ≡ none)
-    × (numberOf largestText ≡ some 4294967295)
-    × (numberOf (48 ∷ 48 ∷ 48 ∷ largestText) ≡ some 4294967295)
-    × (numberOf overText ≡ none)
-    × (numbersOf ((49 ∷ []) ∷ (50 ∷ []) ∷ []) ≡ some (1 ∷ 2 ∷ []))
-    × (numbersOf ((49 ∷ []) ∷ [] ∷ []) ≡ none)
+    (numberOf (bytesOf "0") ≡ some 0)
+    × (numberOf (bytesOf "007") ≡ some 7)
+    × (numberOf (bytesOf "4294967295") ≡ some 4294967295)
+    × (numberOf (bytesOf "0004294967295") ≡ some 4294967295)
+    × (numberOf (bytesOf "4294967296") ≡ none)
+    × (numberOf (bytesOf "") ≡ none)
+    × (numberOf (bytesOf "7\r") ≡ none)
+    × (numberOf (bytesOf "-7") ≡ none)
+    × (numberOf (bytesOf ":") ≡ none)
+    × (numberOf (bytesOf "/") ≡ none)
+    × (numbersOf (bytesOf "1" ∷ bytesOf "20" ∷ []) ≡ some (1 ∷ 20 ∷ []))
+    × (numbersOf (bytesOf "1" ∷ [] ∷ []) ≡ none)
+    × (numbersOf [] ≡ some [])
 unfolding numberOf digitsOnly valueFrom isEmpty numbersOf numberBefore
-numbers = (refl, refl, refl, refl, refl, refl, refl, refl, refl, refl, refl)
+numbers = (refl, refl, refl, refl, refl, refl, refl, refl, refl, refl, refl, refl, refl)
 
 -- 0, 10 and the largest number.
 pub decimals :
-    (decimalOf 0 ≡ 48 ∷ [])
-    × (decimalOf 10 ≡ 49 ∷ 48 ∷ [])
-    × (decimalOf 4294967295 ≡ largestText)
+    (decimalOf 0 ≡ bytesOf "0")
+    × (decimalOf 10 ≡ bytesOf "10")
+    × (decimalOf 4294967295 ≡ bytesOf "4294967295")
 unfolding decimalOf digitsOf
 decimals = (refl, refl, refl)

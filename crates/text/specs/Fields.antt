@@ -1,7 +1,7 @@
 -- The parts of a line between spaces, and the numbers that they spell.
--- fieldsOf: the parts. numberOf: the number of one part. numbersOf: the numbers of all.
--- numbersIn, howMany: the numbers that an answer and the words that it is about tell.
--- fieldsAfter: the fields after the first.
+-- fieldsOf: the parts, called fields. fieldsAfter: all but the first.
+-- numberOf: the number of a field. numbersOf: the numbers of all.
+-- numbersIn, howMany: the numbers that the code's answer tells.
 -- Assumes nothing.
 use mathlib.Core.Bool.{Bool, true, false, cond, not, _&&_}
 use mathlib.Core.List.{List, [], _∷_}
@@ -22,6 +22,10 @@ inFirst b (f ∷ fs) = (b ∷ f) ∷ fs
 unfoldable pub fieldsOf : List ℕ → List (List ℕ)
 fieldsOf [] = [] ∷ []
 fieldsOf (b ∷ bs) = cond (eqb b 32) ([] ∷ fieldsOf bs) (inFirst b (fieldsOf bs))
+
+-- The fields after a first one of n bytes.
+unfoldable pub fieldsAfter : ℕ → List ℕ → List (List ℕ)
+fieldsAfter n l = cond (ltb n (length l)) (fieldsOf (drop (n + 1) l)) []
 
 -- One of `0` (48) to `9` (57).
 abbrev pub isDigit : ℕ → Bool
@@ -62,10 +66,7 @@ unfoldable pub numbersIn : Count → List ℕ → Option (List ℕ)
 numbersIn (Of n) l = some (take n l)
 numbersIn Unread l = none
 
+-- How many they are.
 unfoldable pub howMany : Count → ℕ
 howMany (Of n) = n
 howMany Unread = 0
-
--- The fields after a first one of n bytes.
-unfoldable pub fieldsAfter : ℕ → List ℕ → List (List ℕ)
-fieldsAfter n l = cond (ltb n (length l)) (fieldsOf (drop (n + 1) l)) []

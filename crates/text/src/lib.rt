@@ -48,6 +48,7 @@ pub fn first_field(line: &[u8]) -> usize
     i
 }
 
+// `0` to `9`.
 fn is_digit(b: u8) -> bool
     ensures { λ r. ⌜ r ≡ isDigit b ⌝ }
 {
@@ -62,7 +63,8 @@ fn digit_value(b: u8) -> u64
     (b - 48) as u64
 }
 
-// The numbers of a line's fields from index at on, to the front of out.
+// The numbers of a line's fields from index at on, to the front of out. Of the field under way, v
+// is what its digits so far are worth, and any tells whether there are some.
 pub fn numbers(line: &[u8], at: usize, out: &mut [u32]) -> Count
     requires { ⌜ (at ≤ length (now line)) × (length (now line) < length (now out)) ⌝ }
     ensures { λ r. ⌜ numbersIn r (now (out .exit))

@@ -25,16 +25,20 @@ enum-known-command-2 : tie.Need-enum-known-command-2
 enum-known-command-2 c = search needs
 
 -- The job words lie in the numbers.
-inside : (c : tie.After-do-open-arg)
-    → 1 + c .before .before .command2 .given .0 .1 .0
-    ≤ length (c .before .before .before .before .before .before .before .args .numbers .now)
+inside : (c : tie.After-do-open-arg) → let x = c .before .before in
+    let a = x .before .before .before .before .before .args in
+    1 + x .command2 .given .0 .1 .0 ≤ length (a .numbers .now)
 unfolding numbersEnd
 inside c =
-    subst (λ (x : Command). numbersEnd x ≤ length (c .before .before .before .before .before .before .before .args .numbers .now))
-    (c .before .before .command2 .given .1) (c .before .before .before .before .before .before .before .pre .1 .0)
+    let x = c .before .before in
+    let s = x .before .before .before .before .before in
+    subst (λ (k : Command). numbersEnd k ≤ length (s .args .numbers .now)) (x .command2 .given .1)
+    (s .pre .1 .0)
 
 add-do-open : tie.Need-add-do-open
-add-do-open c = omega (arith, inside c, c .before .before .before .before .before .before .before .good .1 .1 .1 .0 .0)
+add-do-open c =
+    let s = c .before .before .before .before .before .before .before in
+    omega (arith, inside c, s .good .1 .1 .1 .0 .0)
 
 sub-do-open : tie.Need-sub-do-open
 sub-do-open c = search needs
@@ -103,7 +107,9 @@ same-length-2 c = search needs
 
 returns-2 : tie.Need-returns-2
 unfolding spelled
-returns-2 c = rw (c .before .before .before .before .before .before .before .before .command .given .1) (c .before .before .before .before .do-new .ensures)
+returns-2 c =
+    let d = c .before .before .before .before in
+    rw (d .before .before .before .before .command .given .1) (d .do-new .ensures)
 
 same-length-3 : tie.Need-same-length-3
 same-length-3 c = search needs
@@ -114,12 +120,13 @@ same-length-4 c = search needs
 returns-3 : tie.Need-returns-3
 unfolding spelled
 returns-3 c =
-    let x = c .before .before .before .before .before .before .before .before .before .command2 .given in
-    let n = x .0 .1 .0 in
+    let d = c .before .before .before .before in
+    let x = d .before .before .before .before .before in
+    let n = x .command2 .given .0 .1 .0 in
     let whole : n + 1 - 1 ≡ n = omega arith in
-    rw (x .1)
-    (performs-open _ _ n _ _ _ _ _ whole (c .before .before .before .before .do-open .ensures)
-    (c .before .before .before .before .before .before .before .before .before .before .before .before .before .before .pre .0))
+    rw (x .command2 .given .1)
+    (performs-open _ _ n _ _ _ _ _ whole (d .do-open .ensures)
+    (x .before .before .before .before .before .pre .0))
 
 same-length-5 : tie.Need-same-length-5
 same-length-5 c = search needs
@@ -130,8 +137,11 @@ same-length-6 c = search needs
 returns-4 : tie.Need-returns-4
 unfolding spelled
 returns-4 c =
-    rw (c .before .before .before .before .before .before .before .before .command3 .given .1)
-    (performs-same _ _ _ _ _ (c .before .before .before .before .do-fetch .ensures) (c .before .before .before .before .before .before .before .before .before .before .before .before .before .pre .0))
+    let d = c .before .before .before .before in
+    let x = d .before .before .before .before in
+    rw (x .command3 .given .1)
+    (performs-same _ _ _ _ _ (d .do-fetch .ensures)
+    (x .before .before .before .before .before .pre .0))
 
 same-length-7 : tie.Need-same-length-7
 same-length-7 c = search needs
@@ -142,8 +152,11 @@ same-length-8 c = search needs
 returns-5 : tie.Need-returns-5
 unfolding spelled
 returns-5 c =
-    rw (c .before .before .before .before .before .before .before .before .command4 .given .1)
-    (performs-same _ _ _ _ _ (c .before .before .before .before .do-evict .ensures) (c .before .before .before .before .before .before .before .before .before .before .before .before .before .pre .0))
+    let d = c .before .before .before .before in
+    let x = d .before .before .before .before in
+    rw (x .command4 .given .1)
+    (performs-same _ _ _ _ _ (d .do-evict .ensures)
+    (x .before .before .before .before .before .pre .0))
 
 same-length-9 : tie.Need-same-length-9
 same-length-9 c = search needs
@@ -154,8 +167,11 @@ same-length-10 c = search needs
 returns-6 : tie.Need-returns-6
 unfolding spelled
 returns-6 c =
-    rw (c .before .before .before .before .before .before .before .before .command5 .given .1)
-    (performs-same _ _ _ _ _ (c .before .before .before .before .do-prepare .ensures) (c .before .before .before .before .before .before .before .before .before .before .before .before .before .pre .0))
+    let d = c .before .before .before .before in
+    let x = d .before .before .before .before in
+    rw (x .command5 .given .1)
+    (performs-same _ _ _ _ _ (d .do-prepare .ensures)
+    (x .before .before .before .before .before .pre .0))
 
 same-length-11 : tie.Need-same-length-11
 same-length-11 c = search needs
@@ -166,8 +182,11 @@ same-length-12 c = search needs
 returns-7 : tie.Need-returns-7
 unfolding spelled
 returns-7 c =
-    rw (c .before .before .before .before .before .before .before .before .command6 .given .1)
-    (performs-same _ _ _ _ _ (c .before .before .before .before .do-step .ensures) (c .before .before .before .before .before .before .before .before .before .before .before .before .before .pre .0))
+    let d = c .before .before .before .before in
+    let x = d .before .before .before .before in
+    rw (x .command6 .given .1)
+    (performs-same _ _ _ _ _ (d .do-step .ensures)
+    (x .before .before .before .before .before .pre .0))
 
 same-length-13 : tie.Need-same-length-13
 same-length-13 c = search needs
@@ -178,8 +197,11 @@ same-length-14 c = search needs
 returns-8 : tie.Need-returns-8
 unfolding spelled
 returns-8 c =
-    rw (c .before .before .before .before .before .before .before .before .command7 .given .1)
-    (performs-same _ _ _ _ _ (c .before .before .before .before .do-issue .ensures) (c .before .before .before .before .before .before .before .before .before .before .before .before .before .pre .0))
+    let d = c .before .before .before .before in
+    let x = d .before .before .before .before in
+    rw (x .command7 .given .1)
+    (performs-same _ _ _ _ _ (d .do-issue .ensures)
+    (x .before .before .before .before .before .pre .0))
 
 same-length-15 : tie.Need-same-length-15
 same-length-15 c = search needs
@@ -190,8 +212,11 @@ same-length-16 c = search needs
 returns-9 : tie.Need-returns-9
 unfolding spelled
 returns-9 c =
-    rw (c .before .before .before .before .before .before .before .before .command8 .given .1)
-    (performs-same _ _ _ _ _ (c .before .before .before .before .do-drop .ensures) (c .before .before .before .before .before .before .before .before .before .before .before .before .before .pre .0))
+    let d = c .before .before .before .before in
+    let x = d .before .before .before .before in
+    rw (x .command8 .given .1)
+    (performs-same _ _ _ _ _ (d .do-drop .ensures)
+    (x .before .before .before .before .before .pre .0))
 
 same-length-17 : tie.Need-same-length-17
 same-length-17 c = search needs
@@ -202,8 +227,11 @@ same-length-18 c = search needs
 returns-10 : tie.Need-returns-10
 unfolding spelled
 returns-10 c =
-    rw (c .before .before .before .before .before .before .command9 .given .1)
-    (performs-same _ _ _ _ _ (c .before .before .do-look .ensures) (c .before .before .before .before .before .before .before .before .before .before .before .pre .0))
+    let d = c .before .before in
+    let x = d .before .before .before .before in
+    rw (x .command9 .given .1)
+    (performs-same _ _ _ _ _ (d .do-look .ensures)
+    (x .before .before .before .before .before .pre .0))
 
 pub perform-spec : {M : Type 1} → statement M
 perform-spec =

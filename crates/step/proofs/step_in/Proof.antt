@@ -5,6 +5,7 @@ use Prim.Native.Nat.{ℕ, _+_, _≤_}
 use borrow.Author.Needs.{needs}
 use native.Mathlib.Omega.{arith}
 use lib.ListN.{length, set}
+use Rattle.model.specs.Outcome.{brokenState}
 use Rattle.model.specs.Step.{stepCause}
 use Rattle.layout.specs.Reading.{storeOf}
 use Rattle.form.specs.Parts.{FormWith}
@@ -101,12 +102,9 @@ try-visit-requires c κs =
 
 -- ---- broken
 
-mul-words : tie.Need-mul-words
-mul-words c = omega (arith, here (c .before .before .before .before .before .before .before))
-
-slice-write-words : tie.Need-slice-write-words
-slice-write-words c =
-    omega (arith, here (c .before .before .before .before .before .before .before))
+break-run-requires : tie.Need-break-run-requires
+break-run-requires c κs =
+    omega (arith, here (c .before .before .before .before .before .before .before .before))
 
 same-length-2 : tie.Need-same-length-2
 same-length-2 c = search needs
@@ -114,7 +112,8 @@ same-length-2 c = search needs
 returns-2 : tie.Need-returns-2
 unfolding steppedWords
 returns-2 c =
-    let t = c .before .before .before in
+    let b = c .before .before in
+    let t = b .before .before .before .before .before in
     let v = t .before .before in
     let n = v .before .before in
     let e = n .before in
@@ -122,7 +121,8 @@ returns-2 c =
     let l = a .words .now in
     step-broken l _ (a .run) (a .job) (formed e) (free e)
     (v .run-visit .result) (v .run-visit .ensures) (t .try-visit .result) (t .try-visit .ensures)
-    _ (c .if2 .taken) (ap (λ (at : ℕ). set l at 2) (n .run-at .ensures))
+    (b .break-run .last .0) (b .before .before .if2 .taken)
+    (b .break-run .ensures ∙ ap (λ (at : ℕ). set l at brokenState) (n .run-at .ensures))
 
 -- ---- done
 
@@ -180,8 +180,7 @@ step-in-spec =
     run-at-requires
     run-visit-requires
     try-visit-requires
-    mul-words
-    slice-write-words
+    break-run-requires
     same-length-2
     returns-2
     add-finish

@@ -23,7 +23,9 @@ returns c =
     (sym (s .pre .0) ∙ not-true _ (c .before .before .before .before .if1 .taken)) (e .0) (e .1)
 
 drop-in-requires : tie.Need-drop-in-requires
-drop-in-requires c κs = sym (c .before .before .before .before .pre .0) ∙ not-false _ (c .before .if1 .left)
+drop-in-requires c κs =
+    sym (c .before .before .before .before .pre .0)
+    ∙ not-false _ (c .before .if1 .left)
 
 put-dropped-requires : tie.Need-put-dropped-requires
 put-dropped-requires c κs = search needs

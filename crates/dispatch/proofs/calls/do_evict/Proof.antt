@@ -23,7 +23,9 @@ returns c =
     (sym (s .pre .0) ∙ not-true _ (c .before .before .before .before .if1 .taken)) (e .0) (e .1)
 
 evict-in-requires : tie.Need-evict-in-requires
-evict-in-requires c κs = sym (c .before .before .before .before .pre .0) ∙ not-false _ (c .before .if1 .left)
+evict-in-requires c κs =
+    sym (c .before .before .before .before .pre .0)
+    ∙ not-false _ (c .before .if1 .left)
 
 put-evicted-requires : tie.Need-put-evicted-requires
 put-evicted-requires c κs = search needs

@@ -23,7 +23,9 @@ returns c =
     (sym (s .pre .0) ∙ not-true _ (c .before .before .before .before .if1 .taken)) (e .0) (e .1)
 
 fetch-in-requires : tie.Need-fetch-in-requires
-fetch-in-requires c κs = sym (c .before .before .before .before .pre .0) ∙ not-false _ (c .before .if1 .left)
+fetch-in-requires c κs =
+    sym (c .before .before .before .before .pre .0)
+    ∙ not-false _ (c .before .if1 .left)
 
 put-fetched-requires : tie.Need-put-fetched-requires
 put-fetched-requires c κs = search needs

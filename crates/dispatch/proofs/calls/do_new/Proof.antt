@@ -28,7 +28,8 @@ returns c =
     let e = r .ensures in
     let d = c .before .before .before .before .is-done .ensures in
     let p = c .before .before .put-created .ensures in
-    let s = c .before .before .before .before .before .before .before .before .before .before .before in (
+    let s = c .before .before .before .before .before .before .before .before .before .before
+    .before in (
       does-it _ _ _ _ _ _ (e .0) (e .1 .0) (p .0) (p .1),
       rw (s .pre .0, d) (new-form (r .result) _ _ _ (e .0) (e .1 .0) (e .1 .1)),
     )

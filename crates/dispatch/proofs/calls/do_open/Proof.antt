@@ -23,7 +23,9 @@ returns c =
     (sym (s .pre .0) ∙ not-true _ (c .before .before .before .before .if1 .taken)) (e .0) (e .1)
 
 open-in-requires : tie.Need-open-in-requires
-open-in-requires c κs = sym (c .before .before .before .before .before .pre .0) ∙ not-false _ (c .before .if1 .left)
+open-in-requires c κs =
+    sym (c .before .before .before .before .before .pre .0)
+    ∙ not-false _ (c .before .if1 .left)
 
 put-opened-requires : tie.Need-put-opened-requires
 put-opened-requires c κs = search needs

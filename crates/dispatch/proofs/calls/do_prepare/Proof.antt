@@ -23,7 +23,9 @@ returns c =
     (sym (s .pre .0) ∙ not-true _ (c .before .before .before .before .if1 .taken)) (e .0) (e .1)
 
 prepare-in-requires : tie.Need-prepare-in-requires
-prepare-in-requires c κs = sym (c .before .before .before .before .pre .0) ∙ not-false _ (c .before .if1 .left)
+prepare-in-requires c κs =
+    sym (c .before .before .before .before .pre .0)
+    ∙ not-false _ (c .before .if1 .left)
 
 put-prepared-requires : tie.Need-put-prepared-requires
 put-prepared-requires c κs = search needs

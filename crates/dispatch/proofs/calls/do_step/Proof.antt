@@ -23,7 +23,9 @@ returns c =
     (sym (s .pre .0) ∙ not-true _ (c .before .before .before .before .if1 .taken)) (e .0) (e .1)
 
 step-in-requires : tie.Need-step-in-requires
-step-in-requires c κs = sym (c .before .before .before .before .pre .0) ∙ not-false _ (c .before .if1 .left)
+step-in-requires c κs =
+    sym (c .before .before .before .before .pre .0)
+    ∙ not-false _ (c .before .if1 .left)
 
 put-stepped-requires : tie.Need-put-stepped-requires
 put-stepped-requires c κs = search needs

@@ -32,7 +32,8 @@ loop-holds c =
     (omega arith, refl, jobs-start (s .args .words .now) (s .args .z) (s .args .r) (s .pre))
 
 -- The loop's bound is the number of jobs.
-bound : (l : tie.At-loop Inv-loop μ-loop) → let a = l .before .before .before .before .before .args in
+bound : (l : tie.At-loop Inv-loop μ-loop)
+    → let a = l .before .before .before .before .before .args in
     l .before .wide .result ≡ storeOf (a .words .now) .run (a .r) .jobs
 bound l = l .before .wide .ensures ∙ l .before .before .job-count .ensures
 

@@ -12,8 +12,9 @@ use Rattle.words.proofs.Tests.{any-intro, any-more}
 use Rattle.sizes.specs.declared.Counts.{Counts}
 use Rattle.model.specs.Version.{versions}
 use Rattle.model.specs.Sets.{unfetchable}
-use Rattle.model.specs.Prepare.{jobStart, unpreparable, siteCaches}
+use Rattle.model.specs.Prepare.{unpreparable, siteCaches}
 use Rattle.layout.specs.Reading.{storeOf}
+use Rattle.prepare.specs.Turns.{startOf}
 use Rattle.prepare.proofs.Unpreparable.{unpreparable-entry}
 use Rattle.prepare.proofs.fetches.is_unpreparable.Statement.{statement}
 use Rattle.prepare.proofs.fetches.is_unpreparable.Tie as tie
@@ -22,9 +23,7 @@ use Rattle.prepare.proofs.fetches.is_unpreparable.Tie as tie
 abbrev lacks : List ℕ → Counts → ℕ → Items
 lacks l z r j =
     let s = storeOf l in
-    let alg = versions (z .writers) in
-    unfetchable alg (z .keys) (s .master)
-    (jobStart alg (z .keys) (s .master) (s .run r .job) j (siteCaches s))
+    unfetchable (versions (z .writers)) (z .keys) (s .master) (startOf z s r j)
 
 asked : (l : List ℕ) (z : Counts) (r : ℕ) → let s = storeOf l in
     unpreparable (versions (z .writers)) (z .keys) (s .master) (s .run r .job) (s .run r .jobs)

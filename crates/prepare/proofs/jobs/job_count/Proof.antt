@@ -11,7 +11,8 @@ use Rattle.prepare.proofs.jobs.job_count.Tie as tie
 run-at-requires : tie.Need-run-at-requires
 run-at-requires c κs =
     let s = c .before in
-    (jobs-known (s .args .words .now) (s .args .z) (s .args .r) (s .pre) .area .ranged, s .pre .run)
+    let a = s .args in
+    (jobs-known (a .words .now) (a .z) (a .r) (s .pre) .area .ranged, s .pre .run)
 
 here : (c : tie.After-run-at)
     → c .run-at .result + 28 ≤ length (c .before .before .args .words .now)

@@ -29,7 +29,7 @@ returns c =
     let t = k .before .before in
     let i = t .before in
     let a = i .before .before .before .args in
-    site-merged (a .z) (a .words .now) (a .snapshot) (a .o) (t .site-at .result) (a .sites) (a .plan) _
+    site-merged (a .z) (a .words .now) (a .snapshot) (a .o) _ (a .sites) (a .plan) _
     (sym (i .before .has .ensures) ∙ i .if1 .taken) (t .site-at .ensures) (k .merge-keys .ensures)
 
 returns-2 : tie.Need-returns-2

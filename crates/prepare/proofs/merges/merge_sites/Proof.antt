@@ -20,8 +20,11 @@ abbrev μ-loop : tie.MeasureT-loop
 loop-holds : tie.Need-loop-holds Inv-loop μ-loop
 loop-holds c =
     let s = c .before in
-    let a = s .args in
-    (omega arith, refl, merge-start (a .z) (a .words .now) (a .snapshot) (a .sites) (a .plan) (s .pre))
+    let a = s .args in (
+      omega arith,
+      refl,
+      merge-start (a .z) (a .words .now) (a .snapshot) (a .sites) (a .plan) (s .pre),
+    )
 
 merge-site-requires : tie.Need-merge-site-requires Inv-loop μ-loop
 merge-site-requires c κs =

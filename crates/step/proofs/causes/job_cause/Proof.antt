@@ -13,7 +13,7 @@ use Rattle.layout.specs.Reading.{storeOf}
 use Rattle.form.proofs.Known.{form-area}
 use Rattle.status.proofs.Known.{RunKnown, run-known}
 use Rattle.step.specs.Jobs.{jobCause}
-use Rattle.step.proofs.Jobs.{limit-in, state-in, unready-in, Ready, ready}
+use Rattle.step.proofs.Jobs.{limit-in, state-in, unready-in, Ready, job-open}
 use Rattle.step.proofs.causes.job_cause.Statement.{statement}
 use Rattle.step.proofs.causes.job_cause.Tie as tie
 
@@ -106,7 +106,7 @@ job-in c =
     let n = e .before .before .before .before in
     let s = n .before .before in
     let a = s .args in
-    ready (a .words .now) (a .z) (a .r) (a .j) (s .pre .0) (s .pre .1)
+    job-open (a .words .now) (a .z) (a .r) (a .j) (s .pre .0) (s .pre .1)
     (rw (limited (e .before)) (gt-leb _ _ (e .if1 .left)))
     (rw (← n .run-at .ensures)
     (sym (c .before .is-allowed .ensures)
