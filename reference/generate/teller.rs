@@ -99,7 +99,36 @@ impl Teller {
         for number in numbers {
             line.push_str(&format!(" {number}"));
         }
-        self.say(line.as_bytes())
+        let answer = self.say(line.as_bytes());
+        if matches!(answer, Some(Answer::Ok(_))) && self.chance(30) {
+            self.glance(name, numbers);
+        }
+        answer
+    }
+
+    /// A look where the call may have changed a sheet: masks alone hide a wrong version. Some
+    /// draws look for a sheet that is held there.
+    fn glance(&mut self, name: &str, numbers: &[u32]) {
+        let s = self.sizes();
+        let (place, number) = match name {
+            "prepare" | "step" => (2, numbers[0] as usize),
+            "fetch" | "evict" => (1, numbers[0] as usize),
+            "issue" => (0, 0),
+            _ => return,
+        };
+        let mut sheet = 0;
+        for _ in 0..8 {
+            sheet = self.below(s.k);
+            let at = match place {
+                0 => s.master_at(sheet),
+                1 => s.shelf_at(number, sheet),
+                _ => s.card_at(number, sheet),
+            };
+            if self.words[at] != 0 {
+                break;
+            }
+        }
+        self.say(format!("look {place} {number} {sheet}").as_bytes());
     }
 
     fn count(&mut self, before: &[u32], call: &Call, answer: &Answer) {

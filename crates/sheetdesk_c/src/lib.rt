@@ -1,6 +1,8 @@
 // The calls for C and Rust. Each writes its answer's words into a lent slice (0 ok, 1 broken or
 // 2 refused, then the numbers) and gives how many it wrote; a slice of fewer than 24 words gives
 // 0, and nothing is changed.
+pub mod clocks;
+
 use answers::put_created;
 use answers::put_dropped;
 use answers::put_evicted;

@@ -1,0 +1,74 @@
+//! A desk for each call, on which the call does all it can.
+
+use crate::desk::Sizes;
+use crate::text::{run, Call};
+
+pub struct Case {
+    pub name: &'static str,
+    pub words: Vec<u32>,
+    pub call: Call,
+}
+
+/// The mask of all sheets.
+fn all(k: u32) -> u32 {
+    u32::MAX >> (32 - k)
+}
+
+/// A full desk: every sheet needs all lower ones; every shelf but that of office 0 holds them
+/// all, and every run but run 0 has them on its card.
+fn full([k, w, n, p]: [u32; 4]) -> Vec<u32> {
+    let total = Sizes::of(k, w, n, p).map_or(0, |s| s.total());
+    let mut words = vec![0; total];
+    run(&mut words, &Call::New([k, w, n, p]));
+    for sheet in 0..k {
+        // Reads all lower sheets, so that the new version needs them.
+        run(&mut words, &Call::Open(0, vec![0, (1 << sheet) - 1, 0]));
+        run(&mut words, &Call::Step(0, 0));
+        run(&mut words, &Call::Issue(0, sheet % w, 1 << sheet));
+    }
+    run(&mut words, &Call::Evict(0, 0));
+    for office in 1..n {
+        run(&mut words, &Call::Fetch(office, k - 1));
+    }
+    for other in 1..p {
+        run(&mut words, &Call::Open(other, vec![other % n, all(k), 0]));
+        run(&mut words, &Call::Step(other, 0));
+    }
+    // A run at office 0 has fetched there: the shelf is emptied again.
+    run(&mut words, &Call::Evict(0, 0));
+    words
+}
+
+/// The desk after some calls on a full one.
+fn after(full: &[u32], calls: &[Call]) -> Vec<u32> {
+    let mut words = full.to_vec();
+    for call in calls {
+        run(&mut words, call);
+    }
+    words
+}
+
+/// Eight jobs over all offices that read all sheets, each after all lower ones.
+fn eight_jobs(k: u32, n: u32) -> Vec<u32> {
+    (0..8).flat_map(|job| [job % n, all(k), (1 << job) - 1]).collect()
+}
+
+pub fn cases(sizes: [u32; 4]) -> Vec<Case> {
+    let [k, _, n, _] = sizes;
+    let full = full(sizes);
+    let open = Call::Open(0, eight_jobs(k, n));
+    let reader = [Call::Open(0, vec![0, all(k), 0]), Call::Step(0, 0)];
+    let filled = [Call::Fetch(0, k - 1)];
+    let case = |name, words, call| Case { name, words, call };
+    vec![
+        case("new", full.clone(), Call::New(sizes)),
+        case("open", full.clone(), open.clone()),
+        case("fetch", full.clone(), Call::Fetch(0, k - 1)),
+        case("evict", after(&full, &filled), Call::Evict(0, 0)),
+        case("prepare", after(&full, &[open]), Call::Prepare(0)),
+        case("step", after(&full, &reader[..1]), Call::Step(0, 0)),
+        case("issue", after(&full, &reader), Call::Issue(0, 0, all(k))),
+        case("drop", after(&full, &reader), Call::Drop(0)),
+        case("look", full.clone(), Call::Look(0, 0, k - 1)),
+    ]
+}

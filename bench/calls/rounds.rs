@@ -1,0 +1,78 @@
+//! Rounds of timing: both sides in turns, each on fresh copies of the desk.
+
+use crate::desk::Answer;
+use crate::desks::Case;
+use crate::{library, text};
+use std::hint::black_box;
+use std::time::Instant;
+
+/// Median nanoseconds of a call on each side, and the ratio's least, median and largest.
+pub struct Cost {
+    pub library: f64,
+    pub reference: f64,
+    pub ratio: [f64; 3],
+}
+
+/// Copies of a desk that are worked in one go, so that the clock is read seldom: as many as
+/// fit in 64 Ki words, at least 2.
+fn copies(words: &[u32]) -> usize {
+    (65_536 / words.len()).clamp(2, 512)
+}
+
+fn time(desks: &mut [Vec<u32>], case: &Case, call: impl Fn(&mut [u32])) -> f64 {
+    for desk in desks.iter_mut() {
+        desk.copy_from_slice(&case.words);
+    }
+    let start = Instant::now();
+    for desk in desks.iter_mut() {
+        call(black_box(desk));
+    }
+    start.elapsed().as_nanos() as f64 / desks.len() as f64
+}
+
+fn by_library(words: &mut [u32], case: &Case) {
+    let mut answer = [0; 24];
+    black_box(library::call(words, &case.call, &mut answer));
+    black_box(answer);
+}
+
+fn by_reference(words: &mut [u32], case: &Case) {
+    black_box(text::run(words, &case.call));
+}
+
+fn middle(values: &mut [f64]) -> f64 {
+    values.sort_by(f64::total_cmp);
+    values[values.len() / 2]
+}
+
+/// So many rounds; a round is the better of some turns of each side, to shut out what else
+/// runs on the machine.
+pub fn measure(case: &Case, rounds: usize) -> Cost {
+    check(case);
+    let mut desks = vec![case.words.clone(); copies(&case.words)];
+    let (mut mine, mut theirs, mut ratios) = (Vec::new(), Vec::new(), Vec::new());
+    for _ in 0..rounds {
+        let (mut library, mut reference) = (f64::MAX, f64::MAX);
+        for _ in 0..3 {
+            library = library.min(time(&mut desks, case, |words| by_library(words, case)));
+            reference = reference.min(time(&mut desks, case, |words| by_reference(words, case)));
+        }
+        mine.push(library);
+        theirs.push(reference);
+        ratios.push(library / reference);
+    }
+    let middle_ratio = middle(&mut ratios);
+    let ratio = [ratios[0], middle_ratio, ratios[ratios.len() - 1]];
+    Cost { library: middle(&mut mine), reference: middle(&mut theirs), ratio }
+}
+
+/// Both sides must do the same, and answer ok: a refused call would measure nothing.
+fn check(case: &Case) {
+    let (mut mine, mut theirs) = (case.words.clone(), case.words.clone());
+    let mut answer = [0; 24];
+    let count = library::call(&mut mine, &case.call, &mut answer) as usize;
+    let Answer::Ok(due) = text::run(&mut theirs, &case.call) else {
+        panic!("{}: not answered ok", case.name);
+    };
+    assert!(answer[0] == 0 && answer[1..count] == due && mine == theirs, "{}", case.name);
+}

@@ -1,0 +1,67 @@
+#!/bin/sh
+# Measures, and puts the tables into docs/PERFORMANCE.md between its two marks.
+# Usage, from the repository's root, on a quiet machine, after `rt staticlib sheetdesk_c`:
+#   sh bench/run.sh [PROGRAM]
+# PROGRAM is the text program (target/bin/sheetdesk); without it its tables are left out.
+# Needs rustc, and valgrind for the counts of instructions. About 2 minutes.
+set -eu
+program=${1:-target/bin/sheetdesk}
+out=target/bench
+page=docs/PERFORMANCE.md
+mkdir -p "$out"
+rustc --edition 2021 -C opt-level=3 -o "$out/calls" bench/calls.rs \
+    -L native=target/staticlib -l static=sheetdesk_c
+rustc --edition 2021 -C opt-level=3 -o "$out/program" bench/program.rs
+for name in sheetdesk generate; do
+    rustc --edition 2021 -C opt-level=3 -o "$out/$name" "reference/$name.rs"
+done
+
+# Instructions of one call on each side: a dump after each counted function, in order.
+instructions() {
+    rm -f "$out"/callgrind.*
+    valgrind -q --tool=callgrind --callgrind-out-file="$out/callgrind" \
+        --toggle-collect='counted_*' --dump-after=counted_library \
+        --dump-after=counted_reference "$out/calls" --count "$@" >"$out/names.txt" 2>/dev/null
+    number=0
+    while read -r name; do
+        mine=$(sed -n 's/^totals: //p' "$out/callgrind.$((2 * number + 1))")
+        theirs=$(sed -n 's/^totals: //p' "$out/callgrind.$((2 * number + 2))")
+        awk -v desk="$*" -v name="$name" -v a="$mine" -v b="$theirs" \
+            'BEGIN { printf "| %s | %s | %d | %d | %.2f |\n", desk, name, a, b, a / b }'
+        number=$((number + 1))
+    done <"$out/names.txt"
+}
+
+{
+    echo "Made by \`sh bench/run.sh\` on $(uname -m), $(nproc) processors,"
+    echo "$(sed -n 's/^model name[^:]*: //p' /proc/cpuinfo | head -n 1), $(rustc --version)."
+    echo
+    echo "Calls of the library, each on a full desk, and how their cost grows from the desk 8 4 4 4:"
+    echo
+    "$out/calls"
+    if command -v valgrind >/dev/null; then
+        echo
+        echo "Instructions of one call (callgrind):"
+        echo
+        echo "| Desk | Call | Library | Reference | Ratio |"
+        echo "|---|---|---|---|---|"
+        instructions 2 2 2 1
+        instructions 8 4 4 4
+        instructions 32 16 8 8
+    fi
+    if [ -x "$program" ]; then
+        "$out/generate" 1 1000000 >"$out/million.txt"
+        echo
+        echo "The program, and how the cost of a line grows from the desk 8 2 2 2:"
+        echo
+        "$out/program" "$program" "$out/sheetdesk" "$out/million.txt"
+    fi
+} >"$out/figures.md"
+
+# What stands outside the marks is written by hand.
+awk -v figures="$out/figures.md" '
+    /^<!-- figures -->$/ { print; while ((getline line <figures) > 0) print line; skip = 1 }
+    /^<!-- end -->$/ { skip = 0 }
+    !skip || /^<!-- end -->$/ { if (!/^<!-- figures -->$/) print }' "$page" >"$out/page.md"
+cp "$out/page.md" "$page"
+echo "bench: $page has the figures"

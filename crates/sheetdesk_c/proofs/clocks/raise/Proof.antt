@@ -1,0 +1,102 @@
+-- `raise` stores the join of two clocks. The loop's invariant: the places passed hold it.
+-- Assumes nothing.
+use mathlib.Core.Path.{_≡_, refl, _∙_}
+use Prim.Native.Nat.{_+_, _≤_, _-_, max}
+use borrow.Author.Needs.{needs}
+use native.Mathlib.Omega.{arith}
+use lib.ListN.{length, getD, length-set}
+use Rattle.words.specs.Words.{put}
+use Rattle.words.proofs.Words.{put-high, put-step}
+use Rattle.clock.specs.Clock.{join, clockAt}
+use Rattle.sheetdesk_c.proofs.Lengths.{clock-at}
+use Rattle.sheetdesk_c.proofs.clocks.raise.Statement.{statement}
+use Rattle.sheetdesk_c.proofs.clocks.raise.Tie as tie
+
+abbrev Inv-loop : tie.InvT-loop
+Inv-loop target₀ source w i₀ target i =
+    (i ≤ w)
+    × (length target ≡ length target₀)
+    × (target ≡ put target₀ 0 i (join (clockAt target₀ 0) (clockAt source 0)))
+
+abbrev μ-loop : tie.MeasureT-loop
+μ-loop target₀ source w i₀ target i = w - i
+
+loop-holds : tie.Need-loop-holds Inv-loop μ-loop
+unfolding put
+loop-holds c = (omega arith, refl, refl)
+
+mul-larger : tie.Need-mul-larger Inv-loop μ-loop
+mul-larger c = omega arith
+
+slice-read-larger : tie.Need-slice-read-larger Inv-loop μ-loop
+slice-read-larger c = omega arith
+
+mul-larger-2 : tie.Need-mul-larger-2 Inv-loop μ-loop
+mul-larger-2 c = omega arith
+
+shared-slice-read-larger : tie.Need-shared-slice-read-larger Inv-loop μ-loop
+shared-slice-read-larger c = omega arith
+
+larger-requires : tie.Need-larger-requires Inv-loop μ-loop
+larger-requires c κs = search needs
+
+mul-target : tie.Need-mul-target Inv-loop μ-loop
+mul-target c = omega arith
+
+slice-write-target : tie.Need-slice-write-target Inv-loop μ-loop
+slice-write-target c = omega arith
+
+add-i : tie.Need-add-i Inv-loop μ-loop
+add-i c = omega arith
+
+loop-less : tie.Need-loop-less Inv-loop μ-loop
+loop-less c = omega arith
+
+loop-again : tie.Need-loop-again Inv-loop μ-loop
+unfolding join
+loop-again c =
+    let l = c .before .before .before .before in
+    let a = l .before .before .before .args in
+    let t = a .target .now in
+    let s = a .source .now in
+    let i = l .loop .i in
+    let m = l .loop .target in
+    let x = c .larger .result in
+    let e = l .loop .inv .2 in
+    let q : x ≡ max (getD m i 0) (getD s i 0) = c .larger .ensures in
+    let f = join (clockAt t 0) (clockAt s 0) in
+    let z : 0 + i ≡ i = omega arith in (
+      omega arith,
+      length-set m i x ∙ l .loop .inv .1,
+      rw z at (put-step t 0 i f m x e
+          (q ∙ rw (e, put-high t 0 i f i (omega arith), clock-at t i, clock-at s i))),
+    )
+
+same-length : tie.Need-same-length Inv-loop μ-loop
+same-length c = c .before .loop .inv .1
+
+returns : tie.Need-returns Inv-loop μ-loop
+returns c =
+    let l = c .before in
+    let e : l .loop .i ≡ l .before .before .before .args .w = omega arith in
+    rw (← e) (l .loop .inv .2)
+
+pub raise-spec : {M : Type 1} → statement M
+raise-spec =
+    tie.close
+    (tie.spec
+    Inv-loop
+    μ-loop
+    loop-holds
+    mul-larger
+    slice-read-larger
+    mul-larger-2
+    shared-slice-read-larger
+    larger-requires
+    mul-target
+    slice-write-target
+    add-i
+    loop-less
+    loop-again
+    same-length
+    returns)

@@ -1,0 +1,75 @@
+/* Case A of the specification through the C header; ends with 1 if an answer is not as written. */
+#include <stdio.h>
+#include <string.h>
+
+#include "sheetdesk.h"
+
+static uint32_t desk[88];
+static uint32_t answer[SHEETDESK_ANSWER_WORDS];
+static int wrong;
+
+/* Holds the answer against what is due: so many words, the outcome first. */
+static void due(const char *what, uint32_t count, const uint32_t *words, uint32_t due_count)
+{
+    if (count != due_count || memcmp(answer, words, count * sizeof *words) != 0) {
+        printf("wrong: %s\n", what);
+        wrong = 1;
+    }
+}
+
+#define LEN(array) (sizeof(array) / sizeof((array)[0]))
+#define WORDS(...) ((const uint32_t[]){__VA_ARGS__})
+#define DUE(what, call, ...) \
+    due(what, call, WORDS(__VA_ARGS__), (uint32_t)LEN(WORDS(__VA_ARGS__)))
+#define DESK desk, LEN(desk)
+#define ANSWER answer, LEN(answer)
+
+static void case_a(void)
+{
+    static const uint32_t empty[] = {0, 0, 0};
+    static const uint32_t reader[] = {0, 1, 0};
+    static const uint32_t two[] = {0, 1, 0, 1, 2, 1};
+
+    DUE("new 2 2 2 1", sheetdesk_new(DESK, 2, 2, 2, 1, ANSWER), SHEETDESK_OK, 88);
+    DUE("open 0 0 0 0", sheetdesk_open(DESK, 0, empty, LEN(empty), ANSWER), SHEETDESK_OK, 1);
+    DUE("step 0 0", sheetdesk_step(DESK, 0, 0, ANSWER), SHEETDESK_OK, 0, 0, 0);
+    DUE("issue 0 0 3", sheetdesk_issue(DESK, 0, 0, 3, ANSWER), SHEETDESK_OK, 1);
+    DUE("fetch 0 0", sheetdesk_fetch(DESK, 0, 0, ANSWER), SHEETDESK_OK, 3);
+    DUE("open 0 0 1 0", sheetdesk_open(DESK, 0, reader, LEN(reader), ANSWER), SHEETDESK_OK, 1);
+    DUE("step 0 0", sheetdesk_step(DESK, 0, 0, ANSWER), SHEETDESK_OK, 0, 1, 0);
+    DUE("issue 0 1 2", sheetdesk_issue(DESK, 0, 1, 2, ANSWER), SHEETDESK_OK, 2);
+    DUE("open of two jobs", sheetdesk_open(DESK, 0, two, LEN(two), ANSWER), SHEETDESK_OK, 2);
+    DUE("step 0 1", sheetdesk_step(DESK, 0, 1, ANSWER), SHEETDESK_REFUSED,
+        SHEETDESK_WRONG_TURN);
+    DUE("step 0 0", sheetdesk_step(DESK, 0, 0, ANSWER), SHEETDESK_OK, 0, 1, 0);
+    DUE("step 0 1", sheetdesk_step(DESK, 0, 1, ANSWER), SHEETDESK_OK, 2, 0, 0);
+    DUE("look 2 0 1", sheetdesk_look(DESK, 2, 0, 1, ANSWER), SHEETDESK_OK, 1, 1, 0);
+    DUE("fetch 1 1", sheetdesk_fetch(DESK, 1, 1, ANSWER), SHEETDESK_OK, 3);
+    DUE("evict 0 1", sheetdesk_evict(DESK, 0, 1, ANSWER), SHEETDESK_OK, 3);
+}
+
+/* The two calls that case A lacks, an answer's slice that is too short, and clocks. */
+static void besides(void)
+{
+    uint32_t target[] = {2, 0};
+    static const uint32_t source[] = {1, 3};
+
+    DUE("prepare 0", sheetdesk_prepare(DESK, 0, ANSWER), SHEETDESK_REFUSED,
+        SHEETDESK_WRONG_TURN);
+    wrong |= sheetdesk_drop(DESK, 0, answer, SHEETDESK_ANSWER_WORDS - 1) != 0;
+    DUE("drop 0", sheetdesk_drop(DESK, 0, ANSWER), SHEETDESK_OK, 0);
+    wrong |= sheetdesk_covers(target, 2, source, 2) != 0;
+    wrong |= sheetdesk_covers(target, 2, source, 1) != 2;
+    wrong |= sheetdesk_merge(target, 2, source, 1) != 0;
+    wrong |= sheetdesk_merge(target, 2, source, 2) != 1;
+    wrong |= target[0] != 2 || target[1] != 3;
+    wrong |= sheetdesk_covers(target, 2, source, 2) != 1;
+}
+
+int main(void)
+{
+    case_a();
+    besides();
+    puts(wrong ? "example.c: wrong answers" : "example.c: case A answered as written");
+    return wrong;
+}

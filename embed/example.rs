@@ -1,0 +1,74 @@
+//! Case A of the specification through the Rust wrapper; ends with 1 if an answer is not as
+//! written.
+
+mod sheetdesk;
+
+use sheetdesk::{covers, merge, Answer, Desk, Job, Place};
+
+fn job(office: u32, reads: u32, upstream: u32) -> Job {
+    Job { office, reads, upstream }
+}
+
+/// The calls of case A and their answers, a line each.
+fn case_a(desk: &mut Desk) -> Vec<(Answer, &'static str)> {
+    vec![
+        (desk.new(2, 2, 2, 1), "ok 88"),
+        (desk.open(0, &[job(0, 0, 0)]), "ok 1"),
+        (desk.step(0, 0), "ok 0 0 0"),
+        (desk.issue(0, 0, 3), "ok 1"),
+        (desk.fetch(0, 0), "ok 3"),
+        (desk.open(0, &[job(0, 1, 0)]), "ok 1"),
+        (desk.step(0, 0), "ok 0 1 0"),
+        (desk.issue(0, 1, 2), "ok 2"),
+        (desk.open(0, &[job(0, 1, 0), job(1, 2, 1)]), "ok 2"),
+        (desk.step(0, 1), "refused 6"),
+        (desk.step(0, 0), "ok 0 1 0"),
+        (desk.step(0, 1), "ok 2 0 0"),
+        (desk.look(Place::Card(0), 1), "ok 1 1 0"),
+        (desk.fetch(1, 1), "ok 3"),
+        (desk.evict(0, 1), "ok 3"),
+        // Besides case A: the calls that it lacks.
+        (desk.prepare(0), "refused 6"),
+        (desk.drop(0), "ok 0"),
+        (desk.look(Place::Master, 1), "ok 2 1 1"),
+        (desk.look(Place::Shelf(0), 1), "refused 8"),
+    ]
+}
+
+/// The line that the program would print.
+fn print(answer: &Answer) -> String {
+    match answer {
+        Answer::Ok(numbers) => {
+            let numbers = numbers.as_slice().iter();
+            numbers.fold(String::from("ok"), |line, number| format!("{line} {number}"))
+        }
+        Answer::Broken(mask) => format!("broken {mask}"),
+        Answer::Refused(number) => format!("refused {number}"),
+    }
+}
+
+/// Rows (2,0) and (1,3): neither covers the other, and their merge is (2,3).
+fn clocks() -> bool {
+    let mut target = [2, 0];
+    covers(&target, &[1, 3]) == Some(false)
+        && covers(&target, &[1]).is_none()
+        && !merge(&mut target, &[1])
+        && merge(&mut target, &[1, 3])
+        && target == [2, 3]
+        && covers(&target, &[1, 3]) == Some(true)
+}
+
+fn main() {
+    let mut words = [0; 88];
+    let mut desk = Desk::lend(&mut words);
+    let mut good = clocks();
+    for (answer, due) in case_a(&mut desk) {
+        let given = print(&answer);
+        if given != due {
+            println!("wrong: {given} for {due}");
+            good = false;
+        }
+    }
+    println!("example.rs: {}", if good { "case A answered as written" } else { "wrong answers" });
+    std::process::exit(if good { 0 } else { 1 });
+}

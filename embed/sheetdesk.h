@@ -1,0 +1,113 @@
+/* The sheet desk for C: its nine calls over one lent buffer of 32-bit words, and two helpers on
+ * clocks. Link with libsheetdesk_c.a (made by `rt staticlib sheetdesk_c`, for x86-64 Linux).
+ *
+ * A slice is a pointer and a length in words. The pointer must be valid for so many words and
+ * aligned to 4 bytes; it may not be null, even with length 0; `desk` and `answer` (`target` and
+ * `source`) may not overlap. Any content and any numbers are fine: what a call can't work on it
+ * refuses. No call reads or writes outside its slices, allocates, or keeps a pointer. Calls on
+ * different buffers may run at the same time.
+ *
+ * Every call writes its answer's words and returns how many it wrote:
+ *   0 and the answer's numbers (ok), 1 and a mask (broken, step alone), 2 and a number (refused).
+ * An `answer_len` below SHEETDESK_ANSWER_WORDS returns 0, and nothing is changed. Words of the
+ * answer's slice behind the written ones have no meaning. A refused call leaves every word of
+ * the desk; words past the desk's total are never touched.
+ *
+ * Sheets, writers, offices, runs and jobs are counted from 0. Bit k of a mask is item k.
+ */
+#ifndef SHEETDESK_H
+#define SHEETDESK_H
+
+#include <stddef.h>
+#include <stdint.h>
+
+#ifdef __cplusplus
+extern "C" {
+#endif
+
+/* The least length of an answer's slice. */
+#define SHEETDESK_ANSWER_WORDS 24
+/* The words of the largest desk (32 sheets, 16 writers, 8 offices, 8 runs). */
+#define SHEETDESK_MOST_WORDS 287514
+
+/* The answer's first word. */
+enum sheetdesk_outcome {
+    SHEETDESK_OK = 0,
+    SHEETDESK_BROKEN = 1,
+    SHEETDESK_REFUSED = 2
+};
+
+/* The second word of a refusal. */
+enum sheetdesk_refusal {
+    SHEETDESK_NOT_IN_FORM = 1,   /* buffer too short, or its desk is not in form */
+    SHEETDESK_BAD_COUNT = 2,     /* a count of new is out of range */
+    SHEETDESK_OUT_OF_RANGE = 3,  /* office, sheet, writer, run, place, job or mask */
+    SHEETDESK_WRONG_STATE = 4,   /* the run is not in the state needed */
+    SHEETDESK_BAD_JOBS = 5,      /* open: no job, over 8, length not 3 per job, job not valid */
+    SHEETDESK_WRONG_TURN = 6,    /* a job is done, or one that must be isn't */
+    SHEETDESK_NOT_ON_MASTER = 7, /* a sheet to be fetched isn't held by the master */
+    SHEETDESK_NOT_HELD = 8,      /* evict, look: the sheet isn't held there */
+    SHEETDESK_ISSUES_SPENT = 9,  /* the last issue number is 4294967295 */
+    SHEETDESK_WRITER_SPENT = 10  /* the writer's count is 4294967295 */
+};
+
+/* Writes a fresh desk of k sheets (1..32), w writers (1..16), n offices (1..8), p runs (1..8).
+ * Ok: the desk's total in words. Returns 2 words. */
+uint32_t sheetdesk_new(uint32_t *desk, size_t desk_len, uint32_t k, uint32_t w, uint32_t n,
+                       uint32_t p, uint32_t *answer, size_t answer_len);
+
+/* Opens a free run with 1..8 jobs, three words each: office, mask of the sheets it reads, mask
+ * of the earlier jobs that must be done first. Ok: the number of jobs. Returns 2 words. */
+uint32_t sheetdesk_open(uint32_t *desk, size_t desk_len, uint32_t run, const uint32_t *jobs,
+                        size_t jobs_len, uint32_t *answer, size_t answer_len);
+
+/* Fetches a sheet from the master onto the office's shelf, with all that it needs there.
+ * Ok: the mask of the sheets taken. Returns 2 words. */
+uint32_t sheetdesk_fetch(uint32_t *desk, size_t desk_len, uint32_t office, uint32_t sheet,
+                         uint32_t *answer, size_t answer_len);
+
+/* Takes a sheet off the office's shelf, with all that needs it there.
+ * Ok: the mask of the sheets that left. Returns 2 words. */
+uint32_t sheetdesk_evict(uint32_t *desk, size_t desk_len, uint32_t office, uint32_t sheet,
+                         uint32_t *answer, size_t answer_len);
+
+/* Fetches what the run's jobs read and their shelves lack, and makes the card of the shelves.
+ * Ok: the mask of the sheets on the card. Returns 2 words. */
+uint32_t sheetdesk_prepare(uint32_t *desk, size_t desk_len, uint32_t run, uint32_t *answer,
+                           size_t answer_len);
+
+/* Works a job of an open run: its reads come onto the card. Ok: three masks that divide the
+ * job's reads: from the card, from the shelf, from the master; returns 4 words. Broken: the
+ * mask of the sheets that the run had read otherwise; returns 2 words. */
+uint32_t sheetdesk_step(uint32_t *desk, size_t desk_len, uint32_t run, uint32_t job,
+                        uint32_t *answer, size_t answer_len);
+
+/* Issues the sheets of the mask by a writer, when all jobs of the run are done, and frees the
+ * run. Ok: the issue number, or 0 for an empty mask. Returns 2 words. */
+uint32_t sheetdesk_issue(uint32_t *desk, size_t desk_len, uint32_t run, uint32_t writer,
+                         uint32_t mask, uint32_t *answer, size_t answer_len);
+
+/* Frees an open or broken run. Ok: 0. Returns 2 words. */
+uint32_t sheetdesk_drop(uint32_t *desk, size_t desk_len, uint32_t run, uint32_t *answer,
+                        size_t answer_len);
+
+/* Looks at a version: place 0 is the master (number 0), 1 an office's shelf, 2 a run's card.
+ * Ok: the issue number and the version's own clock, one count per writer. Returns 2 + w words,
+ * or 2 if refused. Changes nothing. */
+uint32_t sheetdesk_look(const uint32_t *desk, size_t desk_len, uint32_t place, uint32_t number,
+                        uint32_t sheet, uint32_t *answer, size_t answer_len);
+
+/* Whether clock p covers clock q: every count of p is at least that of q. Returns 1 or 0, and
+ * 2 if the lengths differ or exceed 16. */
+uint32_t sheetdesk_covers(const uint32_t *p, size_t p_len, const uint32_t *q, size_t q_len);
+
+/* Each count of the target becomes the larger of the two. Returns 1, or 0 with nothing changed
+ * if the lengths differ. */
+uint32_t sheetdesk_merge(uint32_t *target, size_t target_len, const uint32_t *source,
+                         size_t source_len);
+
+#ifdef __cplusplus
+}
+#endif
+
+#endif

@@ -1,0 +1,207 @@
+//! The sheet desk for Rust: a safe wrapper over the library's exports. Add this file to a crate
+//! as a module and link `libsheetdesk_c.a` (made by `rt staticlib sheetdesk_c`).
+//!
+//! A [`Desk`] borrows its words; every call takes any numbers and any content, and none panics
+//! or allocates. `sheetdesk.h` says what each answer's numbers are.
+#![allow(dead_code)]
+
+/// Words of an answer's slice: the outcome and up to 23 numbers.
+const ANSWER_WORDS: usize = 24;
+
+/// The words of the largest desk (32 sheets, 16 writers, 8 offices, 8 runs).
+pub const MOST_WORDS: usize = 287_514;
+
+extern "C" {
+    fn sheetdesk_new(
+        desk: *mut u32, desk_len: usize, k: u32, w: u32, n: u32, p: u32,
+        answer: *mut u32, answer_len: usize,
+    ) -> u32;
+    fn sheetdesk_open(
+        desk: *mut u32, desk_len: usize, run: u32, jobs: *const u32, jobs_len: usize,
+        answer: *mut u32, answer_len: usize,
+    ) -> u32;
+    fn sheetdesk_fetch(
+        desk: *mut u32, desk_len: usize, office: u32, sheet: u32,
+        answer: *mut u32, answer_len: usize,
+    ) -> u32;
+    fn sheetdesk_evict(
+        desk: *mut u32, desk_len: usize, office: u32, sheet: u32,
+        answer: *mut u32, answer_len: usize,
+    ) -> u32;
+    fn sheetdesk_prepare(
+        desk: *mut u32, desk_len: usize, run: u32, answer: *mut u32, answer_len: usize,
+    ) -> u32;
+    fn sheetdesk_step(
+        desk: *mut u32, desk_len: usize, run: u32, job: u32,
+        answer: *mut u32, answer_len: usize,
+    ) -> u32;
+    fn sheetdesk_issue(
+        desk: *mut u32, desk_len: usize, run: u32, writer: u32, mask: u32,
+        answer: *mut u32, answer_len: usize,
+    ) -> u32;
+    fn sheetdesk_drop(
+        desk: *mut u32, desk_len: usize, run: u32, answer: *mut u32, answer_len: usize,
+    ) -> u32;
+    fn sheetdesk_look(
+        desk: *const u32, desk_len: usize, place: u32, number: u32, sheet: u32,
+        answer: *mut u32, answer_len: usize,
+    ) -> u32;
+    fn sheetdesk_covers(p: *const u32, p_len: usize, q: *const u32, q_len: usize) -> u32;
+    fn sheetdesk_merge(
+        target: *mut u32, target_len: usize, source: *const u32, source_len: usize,
+    ) -> u32;
+}
+
+/// The numbers of an answer.
+#[derive(Clone, Copy, PartialEq, Eq, Debug)]
+pub struct Numbers {
+    words: [u32; ANSWER_WORDS],
+    count: usize,
+}
+
+impl Numbers {
+    pub fn as_slice(&self) -> &[u32] {
+        self.words.get(1..self.count).unwrap_or(&[])
+    }
+}
+
+/// What a call gives back.
+#[derive(Clone, Copy, PartialEq, Eq, Debug)]
+pub enum Answer {
+    /// The call was done; its numbers.
+    Ok(Numbers),
+    /// Step alone: the run is broken, with these sheets.
+    Broken(u32),
+    /// Nothing was changed; why, by number.
+    Refused(u32),
+}
+
+impl Answer {
+    /// The numbers of an answer that is ok.
+    pub fn ok(&self) -> Option<&[u32]> {
+        match self {
+            Answer::Ok(numbers) => Some(numbers.as_slice()),
+            _ => None,
+        }
+    }
+}
+
+/// A job of a run: its office, the sheets that it reads and the jobs that go before it.
+#[repr(C)]
+#[derive(Clone, Copy, PartialEq, Eq, Debug)]
+pub struct Job {
+    pub office: u32,
+    pub reads: u32,
+    pub upstream: u32,
+}
+
+/// Where a version is looked at.
+#[derive(Clone, Copy, PartialEq, Eq, Debug)]
+pub enum Place {
+    Master,
+    Shelf(u32),
+    Card(u32),
+}
+
+/// A desk over lent words.
+pub struct Desk<'a> {
+    words: &'a mut [u32],
+}
+
+/// Hands an answer's slice to a call and reads what the call wrote there.
+fn answer(call: impl FnOnce(*mut u32, usize) -> u32) -> Answer {
+    let mut words = [0; ANSWER_WORDS];
+    let count = call(words.as_mut_ptr(), words.len()) as usize;
+    match words {
+        [0, ..] => Answer::Ok(Numbers { words, count }),
+        [1, mask, ..] => Answer::Broken(mask),
+        [_, number, ..] => Answer::Refused(number),
+    }
+}
+
+// In each call a pointer goes with the length of what it points to, and the slices don't
+// overlap: that is all that the exports ask.
+impl<'a> Desk<'a> {
+    /// Takes words of any content; a call other than new is refused if they hold no desk.
+    pub fn lend(words: &'a mut [u32]) -> Desk<'a> {
+        Desk { words }
+    }
+
+    pub fn words(&self) -> &[u32] {
+        self.words
+    }
+
+    fn lent(&mut self) -> (*mut u32, usize) {
+        (self.words.as_mut_ptr(), self.words.len())
+    }
+
+    /// A fresh desk of so many sheets, writers, offices and runs.
+    pub fn new(&mut self, sheets: u32, writers: u32, offices: u32, runs: u32) -> Answer {
+        let (desk, len) = self.lent();
+        answer(|a, n| unsafe { sheetdesk_new(desk, len, sheets, writers, offices, runs, a, n) })
+    }
+
+    pub fn open(&mut self, run: u32, jobs: &[Job]) -> Answer {
+        let (desk, len) = self.lent();
+        // A job is three words in C's layout.
+        let (list, count) = (jobs.as_ptr().cast::<u32>(), 3 * jobs.len());
+        answer(|a, n| unsafe { sheetdesk_open(desk, len, run, list, count, a, n) })
+    }
+
+    pub fn fetch(&mut self, office: u32, sheet: u32) -> Answer {
+        let (desk, len) = self.lent();
+        answer(|a, n| unsafe { sheetdesk_fetch(desk, len, office, sheet, a, n) })
+    }
+
+    pub fn evict(&mut self, office: u32, sheet: u32) -> Answer {
+        let (desk, len) = self.lent();
+        answer(|a, n| unsafe { sheetdesk_evict(desk, len, office, sheet, a, n) })
+    }
+
+    pub fn prepare(&mut self, run: u32) -> Answer {
+        let (desk, len) = self.lent();
+        answer(|a, n| unsafe { sheetdesk_prepare(desk, len, run, a, n) })
+    }
+
+    pub fn step(&mut self, run: u32, job: u32) -> Answer {
+        let (desk, len) = self.lent();
+        answer(|a, n| unsafe { sheetdesk_step(desk, len, run, job, a, n) })
+    }
+
+    pub fn issue(&mut self, run: u32, writer: u32, mask: u32) -> Answer {
+        let (desk, len) = self.lent();
+        answer(|a, n| unsafe { sheetdesk_issue(desk, len, run, writer, mask, a, n) })
+    }
+
+    /// Frees the run (not the desk, which only borrows its words).
+    pub fn drop(&mut self, run: u32) -> Answer {
+        let (desk, len) = self.lent();
+        answer(|a, n| unsafe { sheetdesk_drop(desk, len, run, a, n) })
+    }
+
+    pub fn look(&self, place: Place, sheet: u32) -> Answer {
+        let (desk, len) = (self.words.as_ptr(), self.words.len());
+        let (place, number) = match place {
+            Place::Master => (0, 0),
+            Place::Shelf(office) => (1, office),
+            Place::Card(run) => (2, run),
+        };
+        answer(|a, n| unsafe { sheetdesk_look(desk, len, place, number, sheet, a, n) })
+    }
+}
+
+/// Whether clock p covers clock q; nothing if the lengths differ or exceed 16.
+pub fn covers(p: &[u32], q: &[u32]) -> Option<bool> {
+    match unsafe { sheetdesk_covers(p.as_ptr(), p.len(), q.as_ptr(), q.len()) } {
+        0 => Some(false),
+        1 => Some(true),
+        _ => None,
+    }
+}
+
+/// Each count of the target becomes the larger of the two. False, and nothing is changed, if
+/// the lengths differ.
+pub fn merge(target: &mut [u32], source: &[u32]) -> bool {
+    let (to, len) = (target.as_mut_ptr(), target.len());
+    unsafe { sheetdesk_merge(to, len, source.as_ptr(), source.len()) == 1 }
+}

@@ -1,0 +1,78 @@
+//! The static library against the reference on lent buffers.
+//!
+//! `differential [SEED [STORIES]]`: stories of steered calls, and after each one single calls
+//! on copies of its desk: as it stands, damaged, lent too short; then built desks and random
+//! words, and covers and merge on two clocks. Answers and every word are compared, and words
+//! past the lent ones. Prints what was met; exits 1 if the two differ, with the case as a
+//! script, or if too little was met. `differential --script FILE` works such a script again.
+#![allow(dead_code)]
+
+#[path = "../reference"]
+mod reference {
+    pub mod desk;
+    pub mod text;
+}
+
+// What steers the generated scripts steers the stories too.
+#[path = "../reference/generate"]
+mod generate {
+    pub mod everyday;
+    pub mod odd;
+    pub mod plots;
+    pub mod teller;
+}
+
+#[path = "differential"]
+mod parts {
+    pub mod arguments;
+    pub mod built;
+    pub mod clocks;
+    pub mod library;
+    pub mod met;
+    pub mod pair;
+    pub mod random;
+    pub mod script;
+    pub mod stories;
+}
+
+use generate::{everyday, odd, plots, teller};
+use parts::{arguments, built, clocks, library, met, pair, random, script, stories};
+use reference::{desk, text};
+
+use met::Met;
+use random::Random;
+use std::process::exit;
+
+fn main() {
+    let arguments = std::env::args().skip(1).collect::<Vec<String>>();
+    if let [flag, file] = arguments.as_slice() {
+        if flag == "--script" {
+            exit(script::work(file));
+        }
+    }
+    let number = |at: usize, usual: u64| match arguments.get(at) {
+        None => Some(usual),
+        Some(word) => word.parse::<u64>().ok(),
+    };
+    let (Some(seed), Some(count)) = (number(0, 1), number(1, 8000)) else {
+        eprintln!("usage: differential [SEED [STORIES]] | differential --script FILE");
+        exit(2);
+    };
+    let mut met = Met::default();
+    for story in 0..count {
+        // Each story has its own sequence, so that one story can be told alone.
+        let mut random = Random::new(seed.wrapping_mul(1_000_003).wrapping_add(story));
+        if let Err(case) = stories::all_of_one(&mut random, story, &mut met) {
+            println!("{case}");
+            println!("differential: seed {seed}, story {story}: library and reference differ");
+            exit(1);
+        }
+    }
+    println!("{}", met.print());
+    let few = met.too_few(count);
+    for line in &few {
+        println!("differential: too few: {line}");
+    }
+    println!("differential: seed {seed}, {count} stories, {} calls, 0 differ", met.calls);
+    exit(if few.is_empty() { 0 } else { 1 });
+}

@@ -1,0 +1,126 @@
+//! What the calls met, and how much of it there must be.
+
+use crate::desk::Answer;
+use crate::text::Call;
+
+/// Where a desk came from.
+#[derive(Clone, Copy)]
+pub enum Source {
+    Story,
+    Reached,
+    Damaged,
+    Short,
+    Built,
+    Noise,
+}
+
+const SOURCES: [&str; 6] = ["story", "reached", "damaged", "short", "built", "noise"];
+const CALLS: [&str; 9] =
+    ["new", "open", "fetch", "evict", "prepare", "step", "issue", "drop", "look"];
+
+#[derive(Default)]
+pub struct Met {
+    pub calls: u64,
+    pub rivals: u64,
+    pub largest: usize,
+    /// Desks in form, by source.
+    pub in_form: [u64; 6],
+    /// Answers of covers: 0, 1 and 2.
+    pub covers: [u64; 3],
+    /// Calls answered ok, by source.
+    by_source: [u64; 6],
+    /// Answered ok, by call.
+    ok: [u64; 9],
+    refused: [u64; 11],
+    breaks: u64,
+    evicts_of_more: u64,
+    fetches_of_more: u64,
+    no_room: u64,
+}
+
+fn index(call: &Call) -> usize {
+    match call {
+        Call::New(..) => 0,
+        Call::Open(..) => 1,
+        Call::Fetch(..) => 2,
+        Call::Evict(..) => 3,
+        Call::Prepare(..) => 4,
+        Call::Step(..) => 5,
+        Call::Issue(..) => 6,
+        Call::Drop(..) => 7,
+        Call::Look(..) => 8,
+    }
+}
+
+impl Met {
+    pub fn enter(&mut self, source: Source, call: &Call, answer: &Option<Answer>) {
+        self.calls += 1;
+        match answer {
+            None => self.no_room += 1,
+            Some(Answer::Broken(_)) => self.breaks += 1,
+            Some(Answer::Refused(number)) => self.refused[*number as usize] += 1,
+            Some(Answer::Ok(numbers)) => {
+                self.by_source[source as usize] += 1;
+                self.ok[index(call)] += 1;
+                let several = u64::from(numbers[0].count_ones() > 1);
+                match call {
+                    Call::Fetch(..) => self.fetches_of_more += several,
+                    Call::Evict(..) => self.evicts_of_more += several,
+                    _ => {}
+                }
+            }
+        }
+    }
+
+    /// Each count with the least that 1000 stories must give.
+    fn table(&self) -> Vec<(String, u64, u64)> {
+        let mut table = vec![
+            ("merges of rivals".into(), self.rivals, 4000),
+            ("breaks".into(), self.breaks, 1000),
+            ("fetches of several sheets".into(), self.fetches_of_more, 1000),
+            ("evictions of several sheets".into(), self.evicts_of_more, 1000),
+            ("answers without room".into(), self.no_room, 500),
+            ("damaged desks in form".into(), self.in_form[Source::Damaged as usize], 1000),
+            ("built desks in form".into(), self.in_form[Source::Built as usize], 1000),
+        ];
+        for (name, count) in CALLS.iter().zip(self.ok) {
+            table.push((format!("{name} ok"), count, 600));
+        }
+        for (number, count) in self.refused.iter().enumerate().skip(1) {
+            table.push((format!("refused {number}"), *count, if number < 9 { 500 } else { 20 }));
+        }
+        // Short buffers are all refused.
+        let kinds = SOURCES.iter().zip(self.by_source).filter(|(name, _)| **name != "short");
+        for (name, count) in kinds {
+            table.push((format!("ok on {name}"), count, if *name == "noise" { 10 } else { 500 }));
+        }
+        for (answer, count) in self.covers.iter().enumerate() {
+            table.push((format!("covers {answer}"), *count, 500));
+        }
+        table
+    }
+
+    pub fn print(&self) -> String {
+        let lines = self.table().into_iter().map(|(name, count, _)| format!("{name} {count}"));
+        let lines = lines.collect::<Vec<String>>().join(", ");
+        format!("{lines}; largest desk {} words", self.largest)
+    }
+
+    /// What was met too seldom. Under 500 stories chance has too large a part.
+    pub fn too_few(&self, stories: u64) -> Vec<String> {
+        if stories < 500 {
+            return Vec::new();
+        }
+        let mut few = Vec::new();
+        for (name, count, least) in self.table() {
+            let least = least * stories / 1000;
+            if count < least {
+                few.push(format!("{name}: {count} of {least}"));
+            }
+        }
+        if self.largest < 287_514 {
+            few.push(format!("the largest desk: {} words", self.largest));
+        }
+        few
+    }
+}

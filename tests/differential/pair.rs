@@ -1,0 +1,141 @@
+//! One desk twice: the library's words and the reference's, and how they came about.
+
+use crate::desk::Answer;
+use crate::library;
+use crate::text::{self, Call};
+
+/// Fills lent words that no case sets, the guard zone behind them and the answer's words.
+pub const MARK: u32 = 0xA5A5_5A5A;
+pub const GUARD: usize = 16;
+/// "An answer slice of fewer than 24 words gives 0, and nothing is changed."
+pub const ANSWER: usize = 24;
+
+/// What was done to a desk.
+#[derive(Clone)]
+pub enum Event {
+    /// From here on so many words are lent.
+    Lend(usize),
+    /// A word is set on both sides.
+    Word(usize, u32),
+    /// A call with an answer slice of so many words.
+    Call(Call, usize),
+}
+
+#[derive(Clone)]
+pub struct Pair {
+    library: Vec<u32>,
+    reference: Vec<u32>,
+    lent: usize,
+    events: Vec<Event>,
+}
+
+/// The answer's words: "the outcome (0 ok, 1 broken, 2 refused) and then the numbers".
+pub fn answer_words(answer: &Answer) -> Vec<u32> {
+    match answer {
+        Answer::Ok(numbers) => [&[0][..], numbers].concat(),
+        Answer::Broken(mask) => vec![1, *mask],
+        Answer::Refused(number) => vec![2, *number],
+    }
+}
+
+impl Pair {
+    /// So many lent words, each of them the mark.
+    pub fn lend(lent: usize) -> Pair {
+        let words = vec![MARK; lent + GUARD];
+        let events = vec![Event::Lend(lent)];
+        Pair { library: words.clone(), reference: words, lent, events }
+    }
+
+    /// Lent words with this content.
+    pub fn of(words: &[u32]) -> Pair {
+        let mut pair = Pair::lend(words.len());
+        for (at, word) in words.iter().enumerate() {
+            if *word != MARK {
+                pair.set(at, *word);
+            }
+        }
+        pair
+    }
+
+    pub fn words(&self) -> &[u32] {
+        &self.reference[..self.lent]
+    }
+
+    /// Sets a word on both sides, behind the lent ones too.
+    pub fn set(&mut self, at: usize, word: u32) {
+        self.library[at] = word;
+        self.reference[at] = word;
+        self.events.push(Event::Word(at, word));
+    }
+
+    /// Lends only the first words; those behind become part of the guard zone.
+    pub fn shorten(&mut self, lent: usize) {
+        self.lent = lent.min(self.lent);
+        self.events.push(Event::Lend(self.lent));
+    }
+
+    /// One call on both sides. Gives the reference's answer (nothing if the answer slice is
+    /// too short), or the whole case as a script if something differs.
+    pub fn call(&mut self, call: &Call, room: usize) -> Result<Option<Answer>, String> {
+        self.events.push(Event::Call(call.clone(), room));
+        let mut slice = vec![MARK; room + GUARD];
+        let count = library::call(&mut self.library[..self.lent], call, &mut slice[..room]);
+        let answer = match room < ANSWER {
+            true => None,
+            false => Some(text::run(&mut self.reference[..self.lent], call)),
+        };
+        let due = answer.as_ref().map_or(Vec::new(), answer_words);
+        let given = slice.get(..count as usize).unwrap_or(&slice);
+        // With a short slice nothing is changed; else only the lent words may be.
+        let kept = if room < ANSWER { 0 } else { room };
+        let guarded = slice[kept..].iter().all(|word| *word == MARK);
+        if given == due && guarded && self.library == self.reference {
+            return Ok(answer);
+        }
+        let mut case = self.print();
+        case.push_str(&format!("# library {given:?} ({count} words), reference {due:?}\n"));
+        if !guarded {
+            case.push_str("# words of the answer's slice that must stay were changed\n");
+        }
+        let sides = self.library.iter().zip(&self.reference).enumerate();
+        for (at, (mine, due)) in sides.filter(|(_, (mine, due))| mine != due).take(10) {
+            case.push_str(&format!("# word {at}: library {mine}, reference {due}\n"));
+        }
+        Err(case)
+    }
+
+    /// The case as a script.
+    fn print(&self) -> String {
+        let mut script = String::new();
+        for event in &self.events {
+            match event {
+                Event::Lend(lent) => script.push_str(&format!("lend {lent}\n")),
+                Event::Word(at, word) => script.push_str(&format!("word {at} {word}\n")),
+                Event::Call(call, room) => {
+                    if *room != ANSWER {
+                        script.push_str(&format!("room {room}\n"));
+                    }
+                    script.push_str(&print_call(call));
+                    script.push('\n');
+                }
+            }
+        }
+        script
+    }
+}
+
+/// A call as a line of the program's input.
+pub fn print_call(call: &Call) -> String {
+    let (name, numbers) = match call {
+        Call::New(sizes) => ("new", sizes.to_vec()),
+        Call::Open(run, list) => ("open", [&[*run][..], list].concat()),
+        Call::Fetch(office, sheet) => ("fetch", vec![*office, *sheet]),
+        Call::Evict(office, sheet) => ("evict", vec![*office, *sheet]),
+        Call::Prepare(run) => ("prepare", vec![*run]),
+        Call::Step(run, job) => ("step", vec![*run, *job]),
+        Call::Issue(run, writer, mask) => ("issue", vec![*run, *writer, *mask]),
+        Call::Drop(run) => ("drop", vec![*run]),
+        Call::Look(place, number, sheet) => ("look", vec![*place, *number, *sheet]),
+    };
+    numbers.iter().fold(name.to_string(), |line, number| format!("{line} {number}"))
+}

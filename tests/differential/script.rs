@@ -1,0 +1,53 @@
+//! Works a printed case again: `lend N`, `word I V`, `room N` (words of the next answer's
+//! slice), calls as the program reads them; `#` starts a remark.
+
+use crate::pair::{answer_words, Pair, ANSWER};
+use crate::text::{self, Call};
+
+/// Gives the exit status.
+pub fn work(file: &str) -> i32 {
+    let Ok(script) = std::fs::read_to_string(file) else {
+        eprintln!("differential: {file} can't be read");
+        return 2;
+    };
+    let mut pair: Option<Pair> = None;
+    let mut room = ANSWER;
+    for line in script.lines().filter(|line| !line.starts_with('#')) {
+        let words = line.split(' ').collect::<Vec<&str>>();
+        let numbers = words.iter().skip(1).map_while(|word| word.parse::<u32>().ok());
+        let numbers = numbers.collect::<Vec<u32>>();
+        match (words[0], numbers.as_slice(), &mut pair) {
+            ("lend", [lent], None) => pair = Some(Pair::lend(*lent as usize)),
+            ("lend", [lent], Some(pair)) => pair.shorten(*lent as usize),
+            ("word", [at, word], Some(pair)) => pair.set(*at as usize, *word),
+            ("room", [words], _) => room = *words as usize,
+            (_, _, Some(pair)) => {
+                let Some(call) = read_call(line, &numbers) else {
+                    eprintln!("differential: no call: {line}");
+                    return 2;
+                };
+                match pair.call(&call, room) {
+                    Ok(answer) => println!("{line}: {:?}", answer.map(|a| answer_words(&a))),
+                    Err(case) => {
+                        println!("{case}");
+                        return 1;
+                    }
+                }
+                room = ANSWER;
+            }
+            _ => {
+                eprintln!("differential: a script starts with lend: {line}");
+                return 2;
+            }
+        }
+    }
+    0
+}
+
+/// A line as the program reads it, but an open of any length.
+fn read_call(line: &str, numbers: &[u32]) -> Option<Call> {
+    match numbers {
+        [run, list @ ..] if line.starts_with("open ") => Some(Call::Open(*run, list.to_vec())),
+        _ => text::read_line(line.as_bytes()),
+    }
+}

@@ -1,0 +1,113 @@
+//! One story and what follows it.
+
+use crate::arguments::{any_call, room, sizes};
+use crate::built;
+use crate::clocks;
+use crate::desk::{in_form, Sizes};
+use crate::met::{Met, Source};
+use crate::pair::{Pair, ANSWER, MARK};
+use crate::random::Random;
+use crate::teller::Teller;
+use crate::text;
+use crate::{everyday, odd, plots};
+
+/// Desks over so many words get shorter stories and fewer single calls.
+const LARGE: usize = 20_000;
+
+pub fn all_of_one(random: &mut Random, story: u64, met: &mut Met) -> Result<(), String> {
+    // Some stories are of the largest desk.
+    let counts = if story % 400 == 7 { [32, 16, 8, 8] } else { sizes(random) };
+    let total = Sizes::of(counts[0], counts[1], counts[2], counts[3]).map_or(0, |s| s.total());
+    let rounds = if total > LARGE { 2 } else { 8 };
+    let pair = tell(random, counts, total, met)?;
+    met.largest = met.largest.max(total);
+    for _ in 0..rounds {
+        single_calls(random, &mut pair.clone(), Source::Reached, met)?;
+        let mut damaged = pair.clone();
+        built::damage(random, &mut damaged);
+        single_calls(random, &mut damaged, Source::Damaged, met)?;
+    }
+    let mut short = pair.clone();
+    let most = random.one_of(&[3, total]);
+    short.shorten(total.saturating_sub(1 + random.below(most)));
+    single_calls(random, &mut short, Source::Short, met)?;
+    let spare = random.below(4);
+    let Some(words) = built::desk(random, counts, spare) else {
+        return Ok(());
+    };
+    let mut built = Pair::of(&words);
+    for _ in 0..rounds {
+        single_calls(random, &mut built.clone(), Source::Built, met)?;
+    }
+    single_calls(random, &mut built, Source::Built, met)?;
+    let words = built::noise(random, counts);
+    single_calls(random, &mut Pair::of(&words), Source::Noise, met)?;
+    clocks::compare(random, met)
+}
+
+/// A story of calls that are steered like the generated scripts.
+fn tell(
+    random: &mut Random,
+    counts: [u32; 4],
+    total: usize,
+    met: &mut Met,
+) -> Result<Pair, String> {
+    let lent = total + random.below(4);
+    let mut pair = Pair::lend(lent);
+    let mut teller = Teller::new(random.next());
+    teller.words = vec![MARK; lent];
+    if random.chance(10) {
+        odd::before_new(&mut teller);
+    }
+    teller.tell("new", &counts);
+    let lines = if total > LARGE { 30 } else { 20 + random.below(120) as u64 };
+    for k in 0..counts[0] as usize {
+        if random.chance(if total > LARGE { 20 } else { 60 }) {
+            plots::publish(&mut teller, k, 0);
+        }
+    }
+    let start = teller.counts.lines;
+    while teller.counts.lines < start + lines {
+        plot(&mut teller);
+    }
+    for line in teller.script.split(|byte| *byte == b'\n') {
+        if let Some(call) = text::read_line(line) {
+            let answer = pair.call(&call, ANSWER)?;
+            met.enter(Source::Story, &call, &answer);
+        }
+    }
+    met.rivals += teller.counts.rivals;
+    Ok(pair)
+}
+
+/// A few calls that belong together, as the generated scripts have them.
+fn plot(teller: &mut Teller) {
+    match teller.below(100) {
+        0..=24 => plots::break_a_run(teller),
+        25..=36 => plots::issue_rivals(teller),
+        37..=49 => everyday::prepared_run(teller),
+        50..=53 => everyday::prepare_again(teller),
+        54..=57 => everyday::plain_run(teller),
+        58..=69 => everyday::fetch_and_evict(teller),
+        70..=85 => everyday::any_call(teller),
+        _ => odd::refused(teller),
+    }
+}
+
+/// One to four calls of any kind on one desk.
+fn single_calls(
+    random: &mut Random,
+    pair: &mut Pair,
+    source: Source,
+    met: &mut Met,
+) -> Result<(), String> {
+    if in_form(pair.words()).is_some() {
+        met.in_form[source as usize] += 1;
+    }
+    for _ in 0..1 + random.below(4) {
+        let call = any_call(random, pair.words());
+        let answer = pair.call(&call, room(random))?;
+        met.enter(source, &call, &answer);
+    }
+    Ok(())
+}
