@@ -66,7 +66,7 @@ give_script() {
 
 # Whether the program answers a script otherwise. A fault that doesn't compile is no trial.
 differs_program() {
-    for script in 1 refused-2 line-lengths 2 3; do
+    for script in 1 2 3 4 line-lengths unread-forms refused-2; do
         give_script "$script"
         (cd "$work/copy" && rt try "$crate") >"$work/try.txt" 2>&1 && continue
         grep -q "wrote\|ended\|interpreter" "$work/try.txt" && return 0
