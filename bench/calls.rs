@@ -72,7 +72,8 @@ fn growth() {
             };
             let values = values.map(|value| value.to_string()).join(" ");
             let (mine, theirs) = (list(|c| c.library), list(|c| c.reference));
-            println!("| {name} | {} | {values} | {mine} | {theirs} |", ["K", "W", "N", "P"][count]);
+            let letter = ["K", "W", "N", "P"][count];
+            println!("| {name} | {letter} | {values} | {mine} | {theirs} |");
         }
     }
 }

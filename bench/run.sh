@@ -36,7 +36,7 @@ instructions() {
     echo "Made by \`sh bench/run.sh\` on $(uname -m), $(nproc) processors,"
     echo "$(sed -n 's/^model name[^:]*: //p' /proc/cpuinfo | head -n 1), $(rustc --version)."
     echo
-    echo "Calls of the library, each on a full desk, and how their cost grows from the desk 8 4 4 4:"
+    echo "Calls of the library on full desks, and how their cost grows from the desk 8 4 4 4:"
     echo
     "$out/calls"
     if command -v valgrind >/dev/null; then

@@ -1,4 +1,4 @@
-/* The sheet desk for C: its nine calls over one lent buffer of 32-bit words, and two helpers on
+/* The sheet desk for C: its nine calls over one lent buffer of 32-bit words, and two calls on
  * clocks. Link with libsheetdesk_c.a (made by `rt staticlib sheetdesk_c`, for x86-64 Linux).
  *
  * A slice is a pointer and a length in words. The pointer must be valid for so many words and
