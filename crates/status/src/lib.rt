@@ -1,4 +1,6 @@
 // One run of a store in form: the causes that calls on a run share, and the words of a free run.
+pub mod lent;
+
 use sizes::Counts;
 use states::is_allowed;
 use words::zero;
