@@ -1,3 +1,4 @@
 pub mod Copies
 pub mod Freed
 pub mod Known
+pub mod Statuses

@@ -1,9 +1,25 @@
--- What stands first in a run, as the functions that are lent it leave it.
--- freed: a freed run's. marked: a job is done with its reads. spoiled: the run is broken.
+-- What stands first in a run: where it lies, and as the functions that are lent it leave it.
+-- statusAt, putStatus: read at an index, and stored there.
+-- freed: of a freed run. marked: a job is done, with its reads. spoiled: of a broken run.
 -- Assumes nothing.
-use Prim.Native.Nat.{ℕ}
+use mathlib.Core.List.{List}
+use Prim.Native.Nat.{ℕ, _+_}
+use lib.ListN.{getD, set}
 use Rattle.model.specs.Outcome.{brokenState}
 use Rattle.status.specs.declared.lent.RunStatus.{RunStatus}
+
+-- "A run is state (0 free, 1 open, 2 broken), number of jobs, done mask, read mask"
+unfoldable pub statusAt : List ℕ → ℕ → RunStatus
+statusAt l at = record {
+  state = getD l at 0;
+  jobs = getD l (at + 1) 0;
+  done = getD l (at + 2) 0;
+  read = getD l (at + 3) 0;
+}
+
+unfoldable pub putStatus : List ℕ → ℕ → RunStatus → List ℕ
+putStatus l at s =
+    set (set (set (set l at (s .state)) (at + 1) (s .jobs)) (at + 2) (s .done)) (at + 3) (s .read)
 
 -- "a freed run is all zero"
 unfoldable pub freed : RunStatus → RunStatus
