@@ -12,7 +12,7 @@ pub struct RunStatus {
 }
 
 // Frees the run.
-fn free(s: &mut RunStatus)
+pub fn free(s: &mut RunStatus)
     ensures { λ _. ⌜ now (s .exit) ≡ freed (now (s .entry)) ⌝ }
 {
     s.state = 0;
@@ -22,7 +22,7 @@ fn free(s: &mut RunStatus)
 }
 
 // Marks what is done and read.
-fn mark(s: &mut RunStatus, done: u32, read: u32)
+pub fn mark(s: &mut RunStatus, done: u32, read: u32)
     ensures { λ _. ⌜ now (s .exit) ≡ marked (now (s .entry)) done read ⌝ }
 {
     s.done = done;
@@ -30,7 +30,7 @@ fn mark(s: &mut RunStatus, done: u32, read: u32)
 }
 
 // Breaks the run.
-fn spoil(s: &mut RunStatus)
+pub fn spoil(s: &mut RunStatus)
     ensures { λ _. ⌜ now (s .exit) ≡ spoiled (now (s .entry)) ⌝ }
 {
     s.state = BROKEN_STATE;
