@@ -1,3 +1,5 @@
 pub mod Copies
 pub mod Freed
 pub mod Known
+pub mod Loans
+pub mod Statuses
