@@ -35,7 +35,7 @@ ghost use Rattle.layout.specs.Calls.{on, callOn, leaves};
 ghost use Rattle.form.specs.Parts.{RunArea, FormWith};
 ghost use Rattle.step.specs.Answers.{steppedWords};
 ghost use Rattle.step.specs.Jobs.{jobCause};
-ghost use Rattle.step.specs.Visits.{visitOf, runVisit, startOf, trialOf, finished, brokenAt, VisitArea, VisitFormed};
+ghost use Rattle.step.specs.Visits.{visitOf, runVisit, startOf, trialOf, finished, VisitArea, VisitFormed};
 
 // The mask of every job.
 const EVERY_JOB: u32 = 255;
