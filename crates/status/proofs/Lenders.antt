@@ -1,7 +1,7 @@
--- A function that takes a status, lends it to a callee that leaves a new one, and answers that one.
+-- A function that takes a status, lends it to a callee that leaves a new one, and answers that.
 -- lending: its MIR, by the callee's name. Lent: the callee's contract. answers: its own.
 -- lending-meets: a walk of that MIR, by hand, taken to the contract. The local is lent for a
--- lifetime that is made for the call, and comes back at what the callee left.
+-- lifetime of the call, and comes back at what the callee left.
 -- Assumes nothing.
 use mathlib.Core.Path.{_≡_, refl, sym, ap, subst}
 use mathlib.Core.List.{[], _∷_, List}
