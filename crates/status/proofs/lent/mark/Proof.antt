@@ -46,8 +46,11 @@ use Rattle.status.proofs.lent.mark as f
 use Rattle.status.proofs.lent.mark.Statement as stated
 use Rattle.status.proofs.lent.mark.Code as code
 
-small : (h : RunStatus) (m n : ℕ) → Small h → m < 2 ^ 32 → n < 2 ^ 32 → Small (marked h m n)
-unfolding marked
+-- What the stores leave.
+abbrev left : RunStatus → ℕ → ℕ → RunStatus
+left h m n = record { state = h .state; jobs = h .jobs; done = m; read = n }
+
+small : (h : RunStatus) (m n : ℕ) → Small h → m < 2 ^ 32 → n < 2 ^ 32 → Small (left h m n)
 small h m n s fm fn = record { state = s .state; jobs = s .jobs; done = fm; read = fn }
 
 abbrev stayed : Stays (f.ended .signature .params) (f.ended .kept)
@@ -119,10 +122,10 @@ module _ {M : Type 1} (𝓤 : URA M) (H : Heap 𝓤) (A : Atoms 𝓤) (W : Given
         (store-in ! 0 (sub ! 3 refl (whole !)) (tt, record { fits = gn .1 })) $
         assigns ! (of-opd ! (unit-lit !)) (from ! (stop !)) (init ! 11 refl (tt, tt)) $
         move ! (1 ∷ []) $ drop ! $
-        owned ! T.the-row (Is T.the-row) (LL.makes T.the-type T′.the-plain 𝓤 H A) (marked h m n) _
-        (owes (marked h m n) (small h m n (owed h is) (gm .1) (gn .1))) $
+        owned ! T.the-row (Is T.the-row) (LL.makes T.the-type T′.the-plain 𝓤 H A) (left h m n) _
+        (owes (left h m n) (small h m n (owed h is) (gm .1) (gn .1))) $
         move ! (1 ∷ 0 ∷ []) $
-        closes ! tt T.the-row (marked h m n) (mach (marked h m n) ∷ []) b o $
+        closes ! tt T.the-row (left h m n) (mach (left h m n) ∷ []) b o $
         returns ! (look ! 9 refl) $
         forget ! 3 refl $ forget ! 5 refl $ forget ! 7 refl $ forget ! 9 refl $
         move ! (9 ∷ 10 ∷ []) $ free1 ! $ move ! (7 ∷ 8 ∷ []) $ free1 ! $
