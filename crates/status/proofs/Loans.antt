@@ -1,7 +1,7 @@
--- What the walks over a lent status share: a status's machine value, and the contract of a function
--- that is lent a status alone and leaves a new one.
--- mach, owes, owed: a status's machine value, and what is known of it. leaves: that contract.
--- exits: where such a walk ends. lent-meets: the walk taken to the contract.
+-- What the walks over a lent status share: a status's machine value, and the contract of those
+-- that are lent a status alone and leave a new one.
+-- mach, Small, owes, owed: that value, and what is known of it. stayed, passed, at: the parameter.
+-- leaves, Post: the contract. exits: where a walk ends. Walk, lent-meets: taken to the contract.
 -- Assumes nothing.
 use mathlib.Core.Path.{_≡_, refl}
 use mathlib.Core.List.{[], _∷_, List}

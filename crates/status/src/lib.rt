@@ -61,7 +61,8 @@ fn free_status(words: &mut [u32], at: usize)
 pub fn mark_done(words: &mut [u32], at: usize, done: u32, read: u32)
     requires { ⌜ at + 4 ≤ length (now words) ⌝ }
     ensures { λ _. ⌜ now (words .exit)
-        ≡ putStatus (now (words .entry)) at (marked (statusAt (now (words .entry)) at) done read) ⌝ }
+        ≡ putStatus (now (words .entry)) at
+        (marked (statusAt (now (words .entry)) at) done read) ⌝ }
 {
     let s = marked(status_at(words, at), done, read);
     put_status(words, at, s);

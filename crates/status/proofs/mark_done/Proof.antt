@@ -26,7 +26,8 @@ returns c =
     let a = f .before .before .before .before .args in
     p .put-status .ensures
     ∙ ap (putStatus (a .words .now) (a .at))
-    (f .marked .ensures ∙ ap (λ (s : RunStatus). marked s (a .done) (a .read)) (f .before .status-at .ensures))
+    (f .marked .ensures
+    ∙ ap (λ (s : RunStatus). marked s (a .done) (a .read)) (f .before .status-at .ensures))
 
 pub mark-done-spec : {M : Type 1} → statement M
 mark-done-spec =

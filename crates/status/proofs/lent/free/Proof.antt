@@ -36,9 +36,12 @@ use Rattle.status.proofs.lent.free.Code as code
 fit : Fits w32 0
 fit = record { fits = lit< tt }
 
-small : (h : RunStatus) → Small (freed h)
-unfolding freed
-small h = record { state = lit< tt; jobs = lit< tt; done = lit< tt; read = lit< tt }
+-- What the stores leave.
+abbrev left : RunStatus
+left = record { state = 0; jobs = 0; done = 0; read = 0 }
+
+small : Small left
+small = record { state = lit< tt; jobs = lit< tt; done = lit< tt; read = lit< tt }
 
 walk : {M : Type 1} (𝓤 : URA M) (H : Heap 𝓤) (A : Atoms 𝓤) (W : Given 𝓤 H A)
     → Walk 𝓤 H A W freed code.function
@@ -65,9 +68,9 @@ walk 𝓤 H A W κ q b o γ h C Λ =
     (store-in ! 0 (sub ! 3 refl (whole !)) (tt, fit)) $
     assigns ! (of-opd ! (unit-lit !)) (from ! (stop !)) (init ! 7 refl (tt, tt)) $
     move ! (1 ∷ []) $ drop ! $
-    owned ! T.the-row (Is T.the-row) (LL.makes T.the-type T′.the-plain 𝓤 H A) (freed h) _
-    (owes (freed h) (small h)) $
-    move ! (1 ∷ 0 ∷ []) $ closes ! tt T.the-row (freed h) (mach (freed h) ∷ []) b o $
+    owned ! T.the-row (Is T.the-row) (LL.makes T.the-type T′.the-plain 𝓤 H A) left _
+    (owes left small) $
+    move ! (1 ∷ 0 ∷ []) $ closes ! tt T.the-row left (mach left ∷ []) b o $
     returns ! (look ! 5 refl) $ forget ! 3 refl $ forget ! 5 refl $
     move ! (5 ∷ 6 ∷ []) $ free1 ! $ move ! (3 ∷ 4 ∷ []) $ free1 ! $ free0 ! $
     keep ! (0 ∷ 1 ∷ 2 ∷ []) $ by ! (exits 𝓤 H A W freed κ q b o γ h))))

@@ -36,8 +36,11 @@ use Rattle.status.proofs.lent.spoil.Code as code
 fit : Fits w32 2
 fit = record { fits = lit< tt }
 
-small : (h : RunStatus) → Small h → Small (spoiled h)
-unfolding spoiled
+-- What the store leaves.
+abbrev left : RunStatus → RunStatus
+left h = record { state = 2; jobs = h .jobs; done = h .done; read = h .read }
+
+small : (h : RunStatus) → Small h → Small (left h)
 small h s = record { state = lit< tt; jobs = s .jobs; done = s .done; read = s .read }
 
 walk : {M : Type 1} (𝓤 : URA M) (H : Heap 𝓤) (A : Atoms 𝓤) (W : Given 𝓤 H A)
@@ -62,9 +65,9 @@ walk 𝓤 H A W κ q b o γ h C Λ =
     (store-in ! 0 (sub ! 0 refl (whole !)) (tt, fit)) $
     assigns ! (of-opd ! (unit-lit !)) (from ! (stop !)) (init ! 7 refl (tt, tt)) $
     move ! (1 ∷ []) $ drop ! $
-    owned ! T.the-row (Is T.the-row) (LL.makes T.the-type T′.the-plain 𝓤 H A) (spoiled h) _
-    (owes (spoiled h) (small h (owed h is))) $
-    move ! (1 ∷ 0 ∷ []) $ closes ! tt T.the-row (spoiled h) (mach (spoiled h) ∷ []) b o $
+    owned ! T.the-row (Is T.the-row) (LL.makes T.the-type T′.the-plain 𝓤 H A) (left h) _
+    (owes (left h) (small h (owed h is))) $
+    move ! (1 ∷ 0 ∷ []) $ closes ! tt T.the-row (left h) (mach (left h) ∷ []) b o $
     returns ! (look ! 5 refl) $ forget ! 3 refl $ forget ! 5 refl $
     move ! (5 ∷ 6 ∷ []) $ free1 ! $ move ! (3 ∷ 4 ∷ []) $ free1 ! $ free0 ! $
     keep ! (0 ∷ 1 ∷ 2 ∷ []) $ by ! (exits 𝓤 H A W spoiled κ q b o γ h)))))
