@@ -1,5 +1,5 @@
--- `sheetdesk::main` meets its contract: the buffer is blank at first. Assumes nothing but what `libc`
--- says of reading and writing.
+-- `sheetdesk::main` meets its contract: the buffer is blank at first. Assumes what `libc` says of
+-- reading and writing.
 use Rattle.script.proofs.Ties.{blank-form}
 use native.Mathlib.Omega.{arith}
 use borrow.Author.Needs.{needs}

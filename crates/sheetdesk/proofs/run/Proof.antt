@@ -1,4 +1,4 @@
--- `sheetdesk::run` meets its contract. Assumes nothing but what `libc` says of reading and writing.
+-- `sheetdesk::run` meets its contract. Assumes what `libc` says of reading and writing.
 use native.Mathlib.Omega.{arith}
 use borrow.Author.Needs.{needs}
 use Rattle.sheetdesk.proofs.run.Statement.{statement}
@@ -44,7 +44,8 @@ part-write-all-start c = search needs
 
 part-write-all-end : tie.Need-part-write-all-end
 part-write-all-end c =
-    let f = c .before .before .before .before .before .before .before .before .before .before .before in
+    let w = c .before .before .before .before .before in
+    let f = w .before .before .before .before .before .before in
     let b = f .before .before .before .before .before .before .before .before .before in
     let t = b .before .before .before .before .before .before .before .before .before in
     let s = t .before .before .before .before .before in

@@ -1,4 +1,4 @@
--- `sheetdesk::turn` meets its contract. Assumes nothing but what `libc` says of reading and writing.
+-- `sheetdesk::turn` meets its contract. Assumes what `libc` says of reading and writing.
 use native.Mathlib.Omega.{arith}
 use borrow.Author.Needs.{needs}
 use Rattle.sheetdesk.proofs.turn.Statement.{statement}
@@ -44,7 +44,8 @@ part-write-all-start c = search needs
 
 part-write-all-end : tie.Need-part-write-all-end
 part-write-all-end c =
-    let t = c .before .before .before .before .before .before .before .before .before .before .before in
+    let w = c .before .before .before .before .before in
+    let t = w .before .before .before .before .before .before in
     let b = t .before .before .before .before .before .before .before in
     let r = b .before .before .before .before in
     let p = r .before .before .before .before .before .before .before .pre in

@@ -1,5 +1,4 @@
--- `sheetdesk::turns` meets its contract. Assumes nothing but what `libc` says of reading and
--- writing.
+-- `sheetdesk::turns` meets its contract. Assumes what `libc` says of reading and writing.
 use borrow.Author.Needs.{needs}
 use native.Mathlib.Omega.{arith}
 use mathlib.Core.Path.{_≡_, refl, sym}
@@ -56,8 +55,9 @@ loop-less c = omega arith
 loop-again : tie.Need-loop-again Inv-loop μ-loop
 loop-again c =
     let t = c .before .before .before .before .before .before in
-    let m = t .before .before .before .before .before .before .turn in
-    let o = t .before .before .before .before .before .before .before .before .before .before .before .before .before .loop .inv in
+    let s = t .before .before .before .before .before .before in
+    let m = s .turn in
+    let o = s .before .before .before .before .before .before .before .loop .inv in
     let k = m .kept in (
       omega (arith, k, o),
       omega (arith, k, o),
