@@ -1,17 +1,20 @@
 #!/bin/sh
 # Plants faults, one at a time, in copies of the sources; the differential tests must find each.
-# Usage, from the repository's root: sh tests/faults.sh program [CRATE] | library
+# Usage, from the repository's root: sh tests/faults.sh program|library [FIRST [LAST]]
+# FIRST and LAST number the faults of the list; all of them if they aren't given.
 #
 # program: faults of tests/faults/program.txt in a copy of the Rattle sources. The toolchain
-#   builds a library only if it is proved, so the faulty program (CRATE, sheetdesk) is run
-#   unproved by `rt try`, on some scripts with the reference's answers. 3 to 4 minutes.
+#   builds a library only if it is proved, so the faulty program is run unproved by `rt try`,
+#   on some scripts with the reference's answers. 3 to 4 minutes.
 # library: faults of tests/faults/library.txt, in what no script reaches (the test of form, spent
 #   numbers, buffers), in a copy of the reference behind the library's names, against the
 #   reference itself by tests/differential.rs. 1 minute.
 # Not part of ./test. Exits 1 if a fault isn't found.
 set -u
-kind=${1:?usage: faults.sh program [CRATE] | library}
-crate=${2:-sheetdesk}
+kind=${1:?usage: faults.sh program|library [FIRST [LAST]]}
+first=${2:-1}
+last=${3:-1000}
+crate=sheetdesk
 top=$PWD
 work=$top/target/faults
 list=$top/tests/faults/$kind.txt
@@ -102,9 +105,9 @@ if "differs_$kind"; then
     echo "faults: without a fault there is a difference; see $work/try.txt"
     exit 2
 fi
-number=1
+number=$first
 missed=0
-while fault "$number"; do
+while [ "$number" -le "$last" ] && fault "$number"; do
     plant "$work/copy" "$from"
     if "differs_$kind"; then
         echo "found: $what"
@@ -115,5 +118,5 @@ while fault "$number"; do
     cp "$top/$from/$file" "$work/copy/$file"
     number=$((number + 1))
 done
-echo "faults: $((number - 1)) planted, $missed not found"
+echo "faults: $((number - first)) planted, $missed not found"
 [ "$missed" -eq 0 ]
