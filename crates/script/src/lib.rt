@@ -86,13 +86,27 @@ pub fn feed(
     ensures { λ _. ⌜ Tied (now (desk .entry))
         (callsFed (partIn (now (line .entry)) len) (now (chunk .entry))) (now (desk .exit)) ⌝ }
 {
-    let mut state = State { ready, len, end: 0 };
+    let mut is_ready = ready;
+    let mut kept = len;
+    let mut end = 0;
     let mut i = 0;
     while i < chunk.len() {
-        state = step_byte(desk, state, line, numbers, answer, out, chunk[i]);
+        let state = State {
+            ready: is_ready,
+            len: kept,
+            end,
+        };
+        let next = step_byte(desk, state, line, numbers, answer, out, chunk[i]);
+        is_ready = next.ready;
+        kept = next.len;
+        end = next.end;
         i += 1;
     }
-    state
+    State {
+        ready: is_ready,
+        len: kept,
+        end,
+    }
 }
 
 // The end of the input: the call of a last line that lacks its end. Its answer follows what

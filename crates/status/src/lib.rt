@@ -1,14 +1,22 @@
-// One run of a store in form: the causes that calls on a run share, and the words of a free run.
+// One run of a store in form: the causes that calls on a run share, and how a run is freed, marked
+// and broken in its words.
+pub mod lent;
+
+use lent::RunStatus;
+use lent::freed;
+use lent::marked;
+use lent::spoiled;
 use sizes::Counts;
 use states::is_allowed;
 use words::zero;
 ghost use mathlib.Core.Path.{_≡_};
-ghost use Prim.Native.Nat.{_<_};
+ghost use Prim.Native.Nat.{_+_, _≤_, _<_};
 ghost use lib.ListN.{length};
 ghost use Rattle.model.specs.Store.{freeRun};
 ghost use Rattle.layout.specs.Reading.{storeOf};
 ghost use Rattle.layout.specs.Stored.{putRun};
 ghost use Rattle.form.specs.Parts.{RunArea, FormWith};
+ghost use Rattle.status.specs.Lent.{statusAt, putStatus, freed, marked, spoiled};
 ghost use Rattle.status.specs.Status.{runCause};
 
 // The first cause for which a call on run r is refused: there is no such run, or its state isn't
@@ -35,5 +43,61 @@ pub fn clear_run(words: &mut [u32], z: Counts, at: usize)
     ensures { λ _. ⌜ now (words .exit) ≡ putRun z (now (words .entry)) at freeRun ⌝ }
 {
     let n = z.run_size();
-    zero(words, at, n);
+    free_status(words, at);
+    zero(words, at + 4, n - 4);
+}
+
+// Frees what stands first in the run at an index.
+fn free_status(words: &mut [u32], at: usize)
+    requires { ⌜ at + 4 ≤ length (now words) ⌝ }
+    ensures { λ _. ⌜ now (words .exit)
+        ≡ putStatus (now (words .entry)) at (freed (statusAt (now (words .entry)) at)) ⌝ }
+{
+    let s = freed(status_at(words, at));
+    put_status(words, at, s);
+}
+
+// Marks in the run at an index which jobs are done and which keys are read.
+pub fn mark_done(words: &mut [u32], at: usize, done: u32, read: u32)
+    requires { ⌜ at + 4 ≤ length (now words) ⌝ }
+    ensures { λ _. ⌜ now (words .exit)
+        ≡ putStatus (now (words .entry)) at
+        (marked (statusAt (now (words .entry)) at) done read) ⌝ }
+{
+    let s = marked(status_at(words, at), done, read);
+    put_status(words, at, s);
+}
+
+// Breaks the run at an index.
+pub fn mark_broken(words: &mut [u32], at: usize)
+    requires { ⌜ at + 4 ≤ length (now words) ⌝ }
+    ensures { λ _. ⌜ now (words .exit)
+        ≡ putStatus (now (words .entry)) at (spoiled (statusAt (now (words .entry)) at)) ⌝ }
+{
+    let s = spoiled(status_at(words, at));
+    put_status(words, at, s);
+}
+
+// What stands first in the run at an index.
+fn status_at(words: &[u32], at: usize) -> RunStatus
+    requires { ⌜ at + 4 ≤ length (now words) ⌝ }
+    ensures { λ s. ⌜ s ≡ statusAt (now (words .entry)) at ⌝ }
+{
+    RunStatus {
+        state: words[at],
+        jobs: words[at + 1],
+        done: words[at + 2],
+        read: words[at + 3],
+    }
+}
+
+// Stores what stands first in the run at an index.
+fn put_status(words: &mut [u32], at: usize, s: RunStatus)
+    requires { ⌜ at + 4 ≤ length (now words) ⌝ }
+    ensures { λ _. ⌜ now (words .exit) ≡ putStatus (now (words .entry)) at s ⌝ }
+{
+    words[at] = s.state;
+    words[at + 1] = s.jobs;
+    words[at + 2] = s.done;
+    words[at + 3] = s.read;
 }

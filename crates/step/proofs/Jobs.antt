@@ -13,7 +13,7 @@ use lib.ListN.{getD}
 use lib.Pow.{pow-mono}
 use Rattle.words.proofs.Bools.{test, le-leb, gt-leb, leb-gt, eqb-eq, ne-eqb}
 use Rattle.sizes.specs.declared.Counts.{Counts}
-use Rattle.sizes.specs.Bounds.{maxJobs, runAt}
+use Rattle.sizes.specs.Bounds.{maxJobs, runAt, jobAt}
 use Rattle.model.specs.Version.{versions}
 use Rattle.model.specs.Sets.{unfetchable}
 use Rattle.model.specs.Store.{Job, Run, Store}
@@ -32,6 +32,7 @@ use Rattle.step.specs.Jobs.{limitOf, unready, jobCause}
 -- Job j of the run at an index.
 pub run-job : (z : Counts) (l : List ℕ) (at j : ℕ) → j < maxJobs → let i = at + 4 + j * 3 in
     readRun z l at .job j ≡ jobOf (getD l i 0) (getD l (i + 1) 0) (getD l (i + 2) 0)
+unfolding jobAt
 run-job z l at j h =
     ap (λ (a : Run). a .job j) (run-words z l at) ∙ job-words l (at + 4) j h
 
@@ -53,7 +54,7 @@ module _ (l : List ℕ) (z : Counts) (r j : ℕ) (K : RunKnown l z r) where
 
   pub unready-in : j < maxJobs → notReady (storeOf l) r j
       ≡ unready (getD l (runAt z r + 2) 0) (getD l (runAt z r + 6 + j * 3) 0) j
-  unfolding notReady unready
+  unfolding notReady unready jobAt
   unready-in h =
       let at = runAt z r in
       let e : at + 4 + j * 3 + 2 ≡ at + 6 + j * 3 = omega arith in

@@ -10,7 +10,7 @@ use native.Mathlib.Omega.{arith}
 use lib.ListN.{length, getD}
 use Rattle.masks.specs.Mask.{testBit, maskBelow}
 use Rattle.sizes.specs.declared.Counts.{Counts}
-use Rattle.sizes.specs.Bounds.{maxJobs, siteSize, masterAt, siteAt, runAt, snapshotAt}
+use Rattle.sizes.specs.Bounds.{maxJobs, siteSize, masterAt, siteAt, runAt, snapshotAt, jobAt}
 use Rattle.sizes.proofs.Offsets.{ordered, site-lies, run-lies, snapshot-lies}
 use Rattle.model.specs.Store.{Run}
 use Rattle.model.specs.Version.{versions}
@@ -44,7 +44,7 @@ pub visit-is : (z : Counts) (l : List ℕ) (at snapshot read j m c p : ℕ) → 
       read = getD l read 0;
     })
     (visitOf z l at snapshot read j)
-unfolding visitOf
+unfolding visitOf jobAt
 visit-is z l at snapshot read j m c p h d e f =
     rw (run-words z l at, job-words l (at + 4) j h) (λ i. record {
       master = d i;

@@ -14,7 +14,8 @@ use sets::fetch_set;
 use sets::missing::is_unfetchable;
 use sets::missing::lacking;
 use sizes::Counts;
-use states::BROKEN_STATE;
+use status::mark_broken;
+use status::mark_done;
 use version::copy_keys;
 use version::merge_keys;
 use words::wide;
@@ -34,7 +35,7 @@ ghost use Rattle.layout.specs.Calls.{on, callOn, leaves};
 ghost use Rattle.form.specs.Parts.{RunArea, FormWith};
 ghost use Rattle.step.specs.Answers.{steppedWords};
 ghost use Rattle.step.specs.Jobs.{jobCause};
-ghost use Rattle.step.specs.Visits.{visitOf, runVisit, startOf, trialOf, finished, brokenAt, VisitArea, VisitFormed};
+ghost use Rattle.step.specs.Visits.{visitOf, runVisit, startOf, trialOf, finished, VisitArea, VisitFormed};
 
 // The mask of every job.
 const EVERY_JOB: u32 = 255;
@@ -99,10 +100,10 @@ pub fn step_in(words: &mut [u32], run: u32, job: u32) -> Stepped
     let trial = try_visit(words, z, visit);
     let moved = trial.pulled & visit.read;
     if moved != 0 {
-        break_run(words, at);
+        mark_broken(words, at);
         return Stepped::Broken(moved);
     }
-    finish(words, z, visit, trial, at + 2, at + 3, job);
+    finish(words, z, visit, trial, at, job);
     divided(visit.reads, trial)
 }
 
@@ -189,34 +190,18 @@ fn try_visit(words: &[u32], z: Counts, visit: Visit) -> Trial
     Trial { taken, pulled }
 }
 
-// Breaks the run at an index: its state becomes 2, and nothing else changes.
-fn break_run(words: &mut [u32], at: usize)
-    requires { ⌜ at < length (now words) ⌝ }
-    ensures { λ _. ⌜ now (words .exit) ≡ brokenAt (now (words .entry)) at ⌝ }
-{
-    words[at] = BROKEN_STATE;
-}
-
-// The cache takes T, the snapshot C; the job is done, and its reads are read.
-fn finish(
-    words: &mut [u32],
-    z: Counts,
-    visit: Visit,
-    trial: Trial,
-    done: usize,
-    read: usize,
-    job: u32,
-)
+// The cache takes T, the snapshot C; of the run at an index the job is done, its reads are read.
+fn finish(words: &mut [u32], z: Counts, visit: Visit, trial: Trial, at: usize, job: u32)
     requires { ⌜ VisitArea (length (now words)) z visit × VisitFormed (now words) z visit ⌝ }
     requires { ⌜ trial ≡ trialOf z (now words) visit ⌝ }
-    requires { ⌜ (done < length (now words)) × (read < length (now words)) × (job < 32) ⌝ }
-    ensures { λ _. ⌜ now (words .exit) ≡ finished z (now (words .entry)) visit done read job ⌝ }
+    requires { ⌜ (at + 4 ≤ length (now words)) × (job < 32) ⌝ }
+    ensures { λ _. ⌜ now (words .exit)
+        ≡ finished z (now (words .entry)) visit (at + 2) (at + 3) job ⌝ }
 {
-    let jobs_done = with_item(words[done], job);
+    let jobs_done = with_item(words[at + 2], job);
     copy_keys(words, z, visit.cache, visit.master, trial.taken);
     merge_keys(words, z, visit.snapshot, visit.cache, trial.pulled);
-    words[done] = jobs_done;
-    words[read] = visit.read | visit.reads;
+    mark_done(words, at, jobs_done, visit.read | visit.reads);
 }
 
 // The reads divided by where they come from.

@@ -17,17 +17,16 @@ use Rattle.script.proofs.feed.Statement.{statement}
 use Rattle.script.proofs.feed.Tie as tie
 
 abbrev Inv-loop : tie.InvT-loop
-Inv-loop desk₀ ready len line₀ numbers₀ answer₀ out₀ chunk state₀ i₀
-    desk line numbers answer out state i =
+Inv-loop desk₀ ready len line₀ numbers₀ answer₀ out₀ chunk is-ready₀ kept₀ end₀ i₀
+    desk line numbers answer out is-ready kept end i =
     (i ≤ length chunk) × (length desk ≡ length desk₀) × (length line ≡ length line₀)
     × (length numbers ≡ length numbers₀) × (length answer ≡ length answer₀)
-    × (length out ≡ length out₀) × (state .end ≤ 256 * i) × (state .ready ≡ inForm desk)
-    × (progress desk line (state .len) (take (state .end) out)
-    ≡ fed (progress desk₀ line₀ len []) (take i chunk))
+    × (length out ≡ length out₀) × (end ≤ 256 * i) × (is-ready ≡ inForm desk)
+    × (progress desk line kept (take end out) ≡ fed (progress desk₀ line₀ len []) (take i chunk))
 
 abbrev μ-loop : tie.MeasureT-loop
-μ-loop desk₀ ready len line₀ numbers₀ answer₀ out₀ chunk state₀ i₀
-    desk line numbers answer out state i =
+μ-loop desk₀ ready len line₀ numbers₀ answer₀ out₀ chunk is-ready₀ kept₀ end₀ i₀
+    desk line numbers answer out is-ready kept end i =
     length chunk - i
 
 loop-holds : tie.Need-loop-holds Inv-loop μ-loop

@@ -1,34 +1,67 @@
 -- `clear_run` stores the words of a free run.
 -- Assumes nothing.
-use mathlib.Core.Path.{ap, _∙_}
-use Prim.Native.Nat.{ℕ}
+use mathlib.Core.Path.{_≡_, ap, _∙_}
+use mathlib.Core.List.{List}
+use Prim.Native.Nat.{ℕ, _+_, _-_}
 use borrow.Author.Needs.{needs}
 use native.Mathlib.Omega.{arith}
 use Rattle.words.specs.Words.{put}
+use Rattle.sizes.specs.Bounds.{runSize}
 use Rattle.status.proofs.Freed.{zeros-free}
 use Rattle.status.proofs.Known.{area-ends}
+use Rattle.status.proofs.Statuses.{freed-words, put-on}
 use Rattle.status.proofs.clear_run.Statement.{statement}
 use Rattle.status.proofs.clear_run.Tie as tie
 
 run-size-requires : tie.Need-run-size-requires
 run-size-requires c κs = c .before .pre .ranged
 
+free-status-requires : tie.Need-free-status-requires
+free-status-requires c κs = omega (arith, c .before .before .before .pre .fits)
+
+add-zero : tie.Need-add-zero
+add-zero c =
+    omega (arith, c .before .before .before .before .before .before .before .pre .low)
+
+sub-zero : tie.Need-sub-zero
+unfolding runSize
+sub-zero c = omega (arith, c .before .before .before .before .before .run-size .ensures)
+
 zero-requires : tie.Need-zero-requires
 zero-requires c κs =
-    let n = c .before in
+    let f = c .before .before .before in
+    let n = f .before .before in
     let s = n .before .before in
-    omega (arith, n .run-size .ensures, area-ends _ (s .args .z) (s .args .at) (s .pre))
+    rw (f .free-status .kept .0)
+    (omega (arith, n .run-size .ensures, area-ends _ (s .args .z) (s .args .at) (s .pre)))
 
 same-length : tie.Need-same-length
 same-length c = search needs
 
 returns : tie.Need-returns
+unfolding runSize
 returns c =
-    let n = c .before .before .before .before in
+    let t = c .before .before in
+    let f = t .before .before .before .before in
+    let n = f .before .before in
     let a = n .before .before .args in
     let l = a .words .now in
-    c .before .before .zero .ensures
-    ∙ ap (λ (k : ℕ). put l (a .at) k (λ _. 0)) (n .run-size .ensures) ∙ zeros-free (a .z) l (a .at)
+    let size = n .run-size .result in
+    let e : 4 + (size - 4) ≡ runSize (a .z) = omega (arith, n .run-size .ensures) in
+    t .zero .ensures
+    ∙ ap (λ (m : List ℕ). put m (a .at + 4) (size - 4) (λ _. 0))
+    (f .free-status .ensures ∙ freed-words l (a .at))
+    ∙ put-on l (a .at) 4 (size - 4) (λ _. 0)
+    ∙ ap (λ (k : ℕ). put l (a .at) k (λ _. 0)) e ∙ zeros-free (a .z) l (a .at)
 
 pub clear-run-spec : {M : Type 1} → statement M
-clear-run-spec = tie.close (tie.spec run-size-requires zero-requires same-length returns)
+clear-run-spec =
+    tie.close
+    (tie.spec
+    run-size-requires
+    free-status-requires
+    add-zero
+    sub-zero
+    zero-requires
+    same-length
+    returns)

@@ -5,12 +5,16 @@ use mathlib.Core.List.{List}
 use Prim.Native.Nat.{ℕ}
 use borrow.Author.Needs.{needs}
 use native.Mathlib.Omega.{arith}
-use lib.ListN.{length-set}
+use lib.Bits.{bitOr}
 use Rattle.layout.specs.Stored.{putPlace}
+use Rattle.status.proofs.Statuses.{marked-words}
 use Rattle.step.specs.Visits.{fetchedOf, snapshotOf, finished}
 use Rattle.step.proofs.Visits.{tried-taken, tried-pulled, fetch-areas, merge-areas, copied, both-formed, merged}
 use Rattle.step.proofs.finish.Statement.{statement}
 use Rattle.step.proofs.finish.Tie as tie
+
+add-with-item : tie.Need-add-with-item
+add-with-item c = search needs
 
 mul-with-item : tie.Need-mul-with-item
 mul-with-item c = search needs
@@ -51,28 +55,20 @@ merge-keys-requires c κs =
           (s .pre .0 .1),
     )
 
-mul-words : tie.Need-mul-words
-mul-words c = search needs
-
-slice-write-words : tie.Need-slice-write-words
-slice-write-words c = search needs
-
-mul-words-2 : tie.Need-mul-words-2
-mul-words-2 c = search needs
-
-slice-write-words-2 : tie.Need-slice-write-words-2
-slice-write-words-2 c = rw length-set (omega arith)
+mark-done-requires : tie.Need-mark-done-requires
+mark-done-requires c κs =
+    let m = c .before .before .before .before in
+    let n = m .before .before .before .before in
+    rw (m .merge-keys .kept .0 ∙ n .copy-keys .kept .0) (omega arith)
 
 same-length : tie.Need-same-length
-same-length c =
-    let m = c .before .before .before in
-    let n = m .before .before .before .before in
-    rw (length-set, length-set) (m .merge-keys .kept .0 ∙ n .copy-keys .kept .0)
+same-length c = search needs
 
 returns : tie.Need-returns
 unfolding finished
 returns c =
-    let m = c .before .before .before in
+    let d = c .before .before in
+    let m = d .before .before .before .before .before in
     let n = m .before .before .before .before in
     let s = n .before .before .before .before .before in
     let a = s .args in
@@ -85,20 +81,21 @@ returns c =
     ∙ merged (a .z) l v (s .pre .0 .0) (n .copy-keys .last .0) (fetched n) (a .trial .pulled)
     (tried-pulled (a .z) l v (a .trial) (s .pre .1 .0))
     ∙ ap (λ (m : List ℕ). putPlace (a .z) m (v .snapshot) (snapshotOf (a .z) l v)) (fetched n) in
-    rw (places, n .before .before .with-item .ensures)
+    d .mark-done .ensures
+    ∙ marked-words (m .merge-keys .last .0) (a .at) (n .before .before .with-item .result)
+    (bitOr (v .read) (v .reads))
+    ∙ rw (places, n .before .before .with-item .ensures)
 
 pub finish-spec : {M : Type 1} → statement M
 finish-spec =
     tie.close
     (tie.spec
+    add-with-item
     mul-with-item
     slice-read-with-item
     with-item-requires
     copy-keys-requires
     merge-keys-requires
-    mul-words
-    slice-write-words
-    mul-words-2
-    slice-write-words-2
+    mark-done-requires
     same-length
     returns)

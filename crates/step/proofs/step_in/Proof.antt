@@ -9,6 +9,7 @@ use Rattle.model.specs.Step.{stepCause}
 use Rattle.layout.specs.Reading.{storeOf}
 use Rattle.form.specs.Parts.{FormWith}
 use Rattle.form.proofs.Known.{form-long}
+use Rattle.status.proofs.Statuses.{spoiled-words}
 use Rattle.step.specs.Answers.{steppedWords}
 use Rattle.step.specs.Visits.{finished, brokenAt, VisitArea, VisitFormed}
 use Rattle.step.proofs.Jobs.{Ready, step-free}
@@ -101,15 +102,15 @@ try-visit-requires c κs =
 
 -- ---- broken
 
-break-run-requires : tie.Need-break-run-requires
-break-run-requires c κs =
+mark-broken-requires : tie.Need-mark-broken-requires
+mark-broken-requires c κs =
     omega (arith, here (c .before .before .before .before .before .before .before .before))
 
 same-length-2 : tie.Need-same-length-2
 same-length-2 c = search needs
 
 returns-2 : tie.Need-returns-2
-unfolding steppedWords
+unfolding steppedWords brokenAt
 returns-2 c =
     let b = c .before .before in
     let t = b .before .before .before .before .before in
@@ -120,18 +121,11 @@ returns-2 c =
     let l = a .words .now in
     step-broken l _ (a .run) (a .job) (formed e) (free e)
     (v .run-visit .result) (v .run-visit .ensures) (t .try-visit .result) (t .try-visit .ensures)
-    (b .break-run .last .0) (b .before .before .if2 .taken)
-    (b .break-run .ensures ∙ ap (brokenAt l) (n .run-at .ensures))
+    (b .mark-broken .last .0) (b .before .before .if2 .taken)
+    (b .mark-broken .ensures ∙ spoiled-words l (n .run-at .result)
+    ∙ ap (brokenAt l) (n .run-at .ensures))
 
 -- ---- done
-
-add-finish : tie.Need-add-finish
-add-finish c =
-    omega (arith, here (c .before .before .before .before .before .before .before .before))
-
-add-finish-2 : tie.Need-add-finish-2
-add-finish-2 c =
-    omega (arith, here (c .before .before .before .before .before .before .before .before))
 
 finish-requires : tie.Need-finish-requires
 finish-requires c κs =
@@ -140,7 +134,7 @@ finish-requires c κs =
     let n = v .before .before in
     let low = ready (n .before) .low in (
       (area v, places v),
-      (t .try-visit .ensures, (omega (arith, here n), omega (arith, here n), omega arith)),
+      (t .try-visit .ensures, (omega (arith, here n), omega arith)),
     )
 
 divided-requires : tie.Need-divided-requires
@@ -179,11 +173,9 @@ step-in-spec =
     run-at-requires
     run-visit-requires
     try-visit-requires
-    break-run-requires
+    mark-broken-requires
     same-length-2
     returns-2
-    add-finish
-    add-finish-2
     finish-requires
     divided-requires
     same-length-3

@@ -1,0 +1,32 @@
+-- `free_status` stores what `freed` answers.
+-- Assumes nothing.
+use mathlib.Core.Path.{ap, _∙_}
+use borrow.Author.Needs.{needs}
+use Rattle.status.specs.Lent.{putStatus, freed}
+use Rattle.status.proofs.free_status.Statement.{statement}
+use Rattle.status.proofs.free_status.Tie as tie
+
+status-at-requires : tie.Need-status-at-requires
+status-at-requires c κs = search needs
+
+freed-requires : tie.Need-freed-requires
+freed-requires c κs = search needs
+
+put-status-requires : tie.Need-put-status-requires
+put-status-requires c κs = search needs
+
+same-length : tie.Need-same-length
+same-length c = search needs
+
+returns : tie.Need-returns
+returns c =
+    let p = c .before .before in
+    let f = p .before .before in
+    let a = f .before .before .before .before .args in
+    p .put-status .ensures
+    ∙ ap (putStatus (a .words .now) (a .at))
+    (f .freed .ensures ∙ ap freed (f .before .status-at .ensures))
+
+pub free-status-spec : {M : Type 1} → statement M
+free-status-spec =
+    tie.close (tie.spec status-at-requires freed-requires put-status-requires same-length returns)

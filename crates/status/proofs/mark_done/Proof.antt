@@ -1,0 +1,34 @@
+-- `mark_done` stores what `marked` answers.
+-- Assumes nothing.
+use mathlib.Core.Path.{ap, _∙_}
+use borrow.Author.Needs.{needs}
+use Rattle.status.specs.declared.lent.RunStatus.{RunStatus}
+use Rattle.status.specs.Lent.{putStatus, marked}
+use Rattle.status.proofs.mark_done.Statement.{statement}
+use Rattle.status.proofs.mark_done.Tie as tie
+
+status-at-requires : tie.Need-status-at-requires
+status-at-requires c κs = search needs
+
+marked-requires : tie.Need-marked-requires
+marked-requires c κs = search needs
+
+put-status-requires : tie.Need-put-status-requires
+put-status-requires c κs = search needs
+
+same-length : tie.Need-same-length
+same-length c = search needs
+
+returns : tie.Need-returns
+returns c =
+    let p = c .before .before in
+    let f = p .before .before in
+    let a = f .before .before .before .before .args in
+    p .put-status .ensures
+    ∙ ap (putStatus (a .words .now) (a .at))
+    (f .marked .ensures
+    ∙ ap (λ (s : RunStatus). marked s (a .done) (a .read)) (f .before .status-at .ensures))
+
+pub mark-done-spec : {M : Type 1} → statement M
+mark-done-spec =
+    tie.close (tie.spec status-at-requires marked-requires put-status-requires same-length returns)

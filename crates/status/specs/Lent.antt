@@ -1,0 +1,34 @@
+-- What stands first in a run: where it lies, and as the functions that are lent it leave it.
+-- statusAt, putStatus: read at an index, and stored there.
+-- freed: of a freed run. marked: a job is done, with its reads. spoiled: of a broken run.
+-- Assumes nothing.
+use mathlib.Core.List.{List}
+use Prim.Native.Nat.{ℕ, _+_}
+use lib.ListN.{getD, set}
+use Rattle.model.specs.Outcome.{brokenState}
+use Rattle.status.specs.declared.lent.RunStatus.{RunStatus}
+
+-- "A run is state (0 free, 1 open, 2 broken), number of jobs, done mask, read mask"
+unfoldable pub statusAt : List ℕ → ℕ → RunStatus
+statusAt l at = record {
+  state = getD l at 0;
+  jobs = getD l (at + 1) 0;
+  done = getD l (at + 2) 0;
+  read = getD l (at + 3) 0;
+}
+
+unfoldable pub putStatus : List ℕ → ℕ → RunStatus → List ℕ
+putStatus l at s =
+    set (set (set (set l at (s .state)) (at + 1) (s .jobs)) (at + 2) (s .done)) (at + 3) (s .read)
+
+-- "a freed run is all zero"
+unfoldable pub freed : RunStatus → RunStatus
+freed s = record { state = 0; jobs = 0; done = 0; read = 0 }
+
+-- "R joins the read mask, the job is done"
+unfoldable pub marked : RunStatus → ℕ → ℕ → RunStatus
+marked s done read = record { state = s .state; jobs = s .jobs; done = done; read = read }
+
+-- "its state becomes 2, nothing else changes"
+unfoldable pub spoiled : RunStatus → RunStatus
+spoiled s = record { state = brokenState; jobs = s .jobs; done = s .done; read = s .read }
