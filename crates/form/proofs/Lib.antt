@@ -4,3 +4,4 @@ pub mod Masks
 pub mod Snapshots
 pub mod Stores
 pub mod Known
+pub mod Flat

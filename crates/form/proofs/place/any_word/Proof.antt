@@ -1,0 +1,72 @@
+-- `any_word` answers whether a word is set. The loop's invariant: so it is for the words passed.
+-- Assumes nothing.
+use mathlib.Core.Path.{_≡_, refl, sym, _∙_}
+use Prim.Native.Nat.{_+_, _≤_, _-_}
+use native.Mathlib.Omega.{arith}
+use lib.Bits.{bitOr}
+use lib.Dec.{leb}
+use lib.ListN.{getD}
+use Rattle.words.specs.Tests.{anyBelow}
+use Rattle.words.proofs.Tests.{any-more}
+use Rattle.clock.specs.Clock.{present, clockAt}
+use Rattle.form.proofs.Flat.{or-present}
+use Rattle.form.proofs.place.any_word.Statement.{statement}
+use Rattle.form.proofs.place.any_word.Tie as tie
+
+abbrev Inv-loop : tie.InvT-loop
+Inv-loop words at n all₀ i₀ all i = (i ≤ n) × (leb 1 all ≡ present i (clockAt words at))
+
+abbrev μ-loop : tie.MeasureT-loop
+μ-loop words at n all₀ i₀ all i = n - i
+
+loop-holds : tie.Need-loop-holds Inv-loop μ-loop
+unfolding present anyBelow
+loop-holds c = (omega arith, refl)
+
+add-all : tie.Need-add-all Inv-loop μ-loop
+add-all c = omega arith
+
+mul-all : tie.Need-mul-all Inv-loop μ-loop
+mul-all c = omega arith
+
+shared-slice-read-all : tie.Need-shared-slice-read-all Inv-loop μ-loop
+shared-slice-read-all c = omega arith
+
+add-i : tie.Need-add-i Inv-loop μ-loop
+add-i c = omega arith
+
+loop-less : tie.Need-loop-less Inv-loop μ-loop
+loop-less c = omega arith
+
+loop-again : tie.Need-loop-again Inv-loop μ-loop
+unfolding present clockAt
+loop-again c =
+    let l = c .before .before in
+    let a = l .before .args in
+    let C = clockAt (a .words .now) (a .at) in
+    let i = l .loop .i in (
+      omega arith,
+      or-present (l .loop .all) (C i)
+          ∙ rw (l .loop .inv .1) (sym (any-more (λ w. leb 1 (C w)) i)),
+    )
+
+returns : tie.Need-returns Inv-loop μ-loop
+returns c =
+    let l = c .before in
+    let e : l .loop .i ≡ l .before .args .n = omega arith in
+    rw (← e) (l .loop .inv .1)
+
+pub any-word-spec : {M : Type 1} → statement M
+any-word-spec =
+    tie.close
+    (tie.spec
+    Inv-loop
+    μ-loop
+    loop-holds
+    add-all
+    mul-all
+    shared-slice-read-all
+    add-i
+    loop-less
+    loop-again
+    returns)
