@@ -10,11 +10,13 @@ use native.Mathlib.Nat.{zero-add}
 use native.Mathlib.Omega.{arith}
 use lib.ListN.{length, getD}
 use Rattle.words.specs.Tests.{Items}
+use Rattle.words.proofs.Bools.{clash}
 use Rattle.words.proofs.Words.{length-put, put-in}
 use Rattle.masks.specs.Mask.{testBit, withBit, withIf, maskBelow}
-use Rattle.masks.proofs.Sets.{test-mask, mask-same}
+use Rattle.masks.proofs.Bits.{test-none}
+use Rattle.masks.proofs.Sets.{test-mask, mask-same, mask-of, mask-lt}
 use Rattle.reach.specs.Closure.{closure, edges, Rows}
-use Rattle.reach.proofs.Closures.{closure-same}
+use Rattle.reach.proofs.Closures.{closure-same, closure-fixed}
 use Rattle.reach.proofs.Masked.{rows-in, rows-closure}
 use Rattle.sizes.specs.declared.Counts.{Counts}
 use Rattle.model.specs.Algebra.{Algebra, Place, everything}
@@ -114,3 +116,11 @@ chosen z l at m S p q e =
     place-ext z l at (choice (testBit m) p q) (choice S p q) (λ k i.
     let same : testBit m k ≡ S k = rw e (test-mask (z .keys) S k i) in
     ap (λ (b : Bool). cond b (p k) (q k)) same)
+
+-- Nothing leads to nothing.
+pub table-none : (K : ℕ) (edge : ℕ → Items) → 0 ≡ maskBelow K (closure K edge (testBit 0))
+unfolding maskBelow
+table-none K edge =
+    sym (mask-same K (closure K edge (testBit 0)) (testBit 0)
+    (closure-fixed K edge (testBit 0) (λ t d i j p e. clash p (test-none t)))
+    ∙ mask-of K 0 (mask-lt 0 (testBit 0) K (omega arith)))

@@ -112,7 +112,7 @@ pub fn draw_table(words: &[u32], z: Counts, scope: u32, target: usize, source: V
     rows
 }
 
-// The least set that holds the start and what its members draw in.
+// The least set that holds the start and what its members draw in. Nothing draws in nothing.
 pub fn draw_set(
     words: &[u32],
     z: Counts,
@@ -128,6 +128,9 @@ pub fn draw_set(
         (readPlace z (now (words .entry)) target) (viewed z (now (words .entry)) source)
         (testBit start)) ⌝ }
 {
+    if start == 0 {
+        return 0;
+    }
     let n = z.keys;
     let drawn = draw_table(words, z, scope, target, source);
     grow(&drawn, n as u32, start)
