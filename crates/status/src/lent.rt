@@ -1,4 +1,5 @@
-// What stands first in a run, lent to those who change it: freed, marked or broken.
+// What stands first in a run, lent by `&mut` to those who free it, mark it or break it; and the
+// same by value, for callers with plain parameters.
 use states::BROKEN_STATE;
 ghost use mathlib.Core.Path.{_≡_};
 ghost use Rattle.status.specs.Lent.{freed, marked, spoiled};
@@ -11,7 +12,7 @@ pub struct RunStatus {
     pub read: u32,
 }
 
-// Frees the run.
+// Frees the run: all four are zero.
 pub fn free(s: &mut RunStatus)
     ensures { λ _. ⌜ now (s .exit) ≡ freed (now (s .entry)) ⌝ }
 {
@@ -21,7 +22,7 @@ pub fn free(s: &mut RunStatus)
     s.read = 0;
 }
 
-// Marks what is done and read.
+// Marks a job done with its reads: the two masks become these.
 pub fn mark(s: &mut RunStatus, done: u32, read: u32)
     ensures { λ _. ⌜ now (s .exit) ≡ marked (now (s .entry)) done read ⌝ }
 {
@@ -29,7 +30,7 @@ pub fn mark(s: &mut RunStatus, done: u32, read: u32)
     s.read = read;
 }
 
-// Breaks the run.
+// Breaks the run: its state alone changes.
 pub fn spoil(s: &mut RunStatus)
     ensures { λ _. ⌜ now (s .exit) ≡ spoiled (now (s .entry)) ⌝ }
 {
