@@ -2,7 +2,7 @@
 -- calls-append: the calls of two chunks. calls-whole: the calls of an input and of its end.
 -- Assumes nothing.
 use mathlib.Core.Path.{_≡_, refl, sym, ap, _∙_}
-use mathlib.Core.Bool.{Bool, true, false, cond, So}
+use mathlib.Core.Bool.{false, So}
 use mathlib.Core.List.{List, [], _∷_, _++_}
 use mathlib.Core.Option.{Option, none, some}
 use Prim.Native.Nat.{ℕ}
@@ -13,7 +13,7 @@ use Rattle.layout.specs.Calls.{Call}
 use Rattle.lines.specs.Grammar.{lineCall}
 use Rattle.lines.proofs.Calls.{line-long}
 use Rattle.script.specs.Script.{callText, callLeaves, linesOf, withCall, callsIn}
-use Rattle.script.specs.Fold.{Part, bytes, tooLong, Progress, partCall, longer, ended, kept, byteStep, fed, callsFed, callsLast}
+use Rattle.script.specs.Fold.{Part, bytes, Progress, partCall, longer, ended, kept, byteStep, fed, callsFed, callsLast}
 use Rattle.script.proofs.Lines.{joined, joined-last, lines-end, lines-more}
 use Rattle.script.proofs.Folds.{partOf, part-call, part-longer, under, step-end, step-kept}
 

@@ -3,15 +3,14 @@
 -- after a chunk. finished-after: and after the end.
 -- Assumes nothing.
 use mathlib.Core.Path.{_≡_, refl, sym, ap, _∙_}
-use mathlib.Core.Bool.{Bool, true, false, cond, So}
 use mathlib.Core.List.{List, [], _∷_, _++_, append-assoc, append-nil, flatten}
 use Prim.Native.Nat.{ℕ}
 use lib.Dec.{eqb}
 use Rattle.words.proofs.Bools.{test}
-use Rattle.layout.specs.Calls.{Call, after}
+use Rattle.layout.specs.Calls.{after}
 use Rattle.lines.specs.Grammar.{lineCall}
-use Rattle.script.specs.Script.{callText, callLeaves, linesOf, bufferAfter, program, withCall}
-use Rattle.script.specs.Fold.{Part, bytes, tooLong, Progress, partCall, longer, ended, kept, byteStep, fed, finishedPart, finished, callsFed, callsLast, inChunks}
+use Rattle.script.specs.Script.{callLeaves, program}
+use Rattle.script.specs.Fold.{Part, bytes, tooLong, Progress, partCall, ended, kept, byteStep, fed, finishedPart, finished, callsFed, callsLast, inChunks}
 use Rattle.script.proofs.Lines.{after-call}
 use Rattle.script.proofs.Folds.{fed-append, fed-whole}
 

@@ -3,18 +3,17 @@
 -- chunks-whole: an input in chunks. fed-after: the buffer after a chunk.
 -- Assumes nothing.
 use mathlib.Core.Path.{_≡_, refl, sym, ap, _∙_}
-use mathlib.Core.Bool.{Bool, true, false, So, cond}
-use mathlib.Core.List.{List, [], _∷_, _++_, append-assoc, append-nil, flatten}
-use Prim.Native.Nat.{ℕ, _+_, _≤_}
+use mathlib.Core.Bool.{false, So, cond}
+use mathlib.Core.List.{List, [], _∷_, _++_, append-assoc, append-nil}
+use Prim.Native.Nat.{ℕ, _+_}
 use native.Mathlib.Omega.{arith}
 use lib.Dec.{eqb, leb, ltb}
 use lib.ListN.{length, length-append}
-use Rattle.words.proofs.Bools.{test, leb-le, leb-gt, le-leb, gt-leb, ltb-lt, ltb-ge}
-use Rattle.layout.specs.Calls.{Call, after}
+use Rattle.words.proofs.Bools.{test, leb-gt, le-leb, gt-leb, ltb-lt, ltb-ge}
 use Rattle.lines.specs.Grammar.{lineCall}
 use Rattle.lines.proofs.Calls.{line-long}
-use Rattle.script.specs.Script.{callText, callLeaves, before, linesOf, outputs, bufferAfter, program, withCall, callsIn}
-use Rattle.script.specs.Fold.{Part, bytes, tooLong, Progress, partCall, longer, ended, kept, byteStep, fed, finishedPart, finished, callsFed, inChunks}
+use Rattle.script.specs.Script.{callText, callLeaves, linesOf, outputs, bufferAfter, program}
+use Rattle.script.specs.Fold.{Part, bytes, tooLong, Progress, partCall, longer, ended, kept, byteStep, fed, finishedPart, finished}
 use Rattle.script.proofs.Lines.{joined, joined-last, lines-end, lines-more}
 
 -- ---- chunks

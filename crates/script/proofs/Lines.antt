@@ -9,7 +9,7 @@ use mathlib.Core.List.{List, [], _∷_, _++_}
 use mathlib.Core.Option.{Option, none, some}
 use Prim.Native.Nat.{ℕ}
 use lib.Dec.{eqb}
-use Rattle.layout.specs.Calls.{Call, callOn, leaves, after}
+use Rattle.layout.specs.Calls.{Call, after}
 use Rattle.lines.specs.Grammar.{lineCall}
 use Rattle.script.specs.Script.{callLeaves, before, linesOf, bufferAfter, withCall, callsIn}
 

@@ -1,5 +1,5 @@
 -- `script::finish` meets its contract. Assumes nothing.
-use mathlib.Core.Path.{_≡_, sym, ap, _∙_}
+use mathlib.Core.Path.{sym, ap, _∙_}
 use lib.ListN.{take}
 use Rattle.script.proofs.Chunks.{finished-after}
 use Rattle.script.proofs.Ties.{tied-by}
