@@ -1,16 +1,16 @@
 -- An input in chunks: what is printed doesn't hang on where they end.
 -- chunks-fed: chunks are fed as their bytes. chunks-whole: what is printed. fed-after: the buffer
--- after a chunk.
+-- after a chunk. finished-after: and after the end.
 -- Assumes nothing.
 use mathlib.Core.Path.{_≡_, refl, sym, ap, _∙_}
-use mathlib.Core.Bool.{Bool, true, false, cond, So}
 use mathlib.Core.List.{List, [], _∷_, _++_, append-assoc, append-nil, flatten}
 use Prim.Native.Nat.{ℕ}
 use lib.Dec.{eqb}
 use Rattle.words.proofs.Bools.{test}
-use Rattle.layout.specs.Calls.{Call, after}
-use Rattle.script.specs.Script.{callText, linesOf, bufferAfter, program, withCall}
-use Rattle.script.specs.Fold.{Part, bytes, tooLong, Progress, partCall, longer, ended, kept, byteStep, fed, finishedPart, finished, callsFed, inChunks}
+use Rattle.layout.specs.Calls.{after}
+use Rattle.lines.specs.Grammar.{lineCall}
+use Rattle.script.specs.Script.{callLeaves, program}
+use Rattle.script.specs.Fold.{Part, bytes, tooLong, Progress, partCall, ended, kept, byteStep, fed, finishedPart, finished, callsFed, callsLast, inChunks}
 use Rattle.script.proofs.Lines.{after-call}
 use Rattle.script.proofs.Folds.{fed-append, fed-whole}
 
@@ -79,3 +79,10 @@ fed-after (b ∷ bs) p =
     ∙ test (eqb b 10)
     (λ h. rw h (after-call (partCall (p .part)) (callsFed (bytes []) bs) (p .buffer)))
     (λ h. rw h refl)
+
+pub finished-after : (p : Part) (l t : List ℕ)
+    → finishedPart p (record { buffer = l; part = p; text = t }) .buffer ≡ after (callsLast p) l
+unfolding finishedPart ended partCall callLeaves callsLast after
+finished-after (bytes []) l t = refl
+finished-after (bytes (b ∷ s)) l t = after-call (lineCall (b ∷ s)) [] l
+finished-after tooLong l t = refl

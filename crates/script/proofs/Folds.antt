@@ -3,19 +3,18 @@
 -- chunks-whole: an input in chunks. fed-after: the buffer after a chunk.
 -- Assumes nothing.
 use mathlib.Core.Path.{_≡_, refl, sym, ap, _∙_}
-use mathlib.Core.Bool.{Bool, true, false, So, cond}
-use mathlib.Core.List.{List, [], _∷_, _++_, append-assoc, append-nil, flatten}
-use Prim.Native.Nat.{ℕ, _+_, _≤_}
+use mathlib.Core.Bool.{false, So, cond}
+use mathlib.Core.List.{List, [], _∷_, _++_, append-assoc, append-nil}
+use Prim.Native.Nat.{ℕ, _+_}
 use native.Mathlib.Omega.{arith}
 use lib.Dec.{eqb, leb, ltb}
 use lib.ListN.{length, length-append}
-use Rattle.words.proofs.Bools.{test, leb-le, leb-gt, le-leb, gt-leb, ltb-lt, ltb-ge}
-use Rattle.layout.specs.Calls.{Call, after}
+use Rattle.words.proofs.Bools.{test, leb-gt, le-leb, gt-leb, ltb-lt, ltb-ge}
 use Rattle.lines.specs.Grammar.{lineCall}
 use Rattle.lines.proofs.Calls.{line-long}
-use Rattle.script.specs.Script.{callText, callLeaves, before, linesOf, outputs, bufferAfter, program, withCall, callsIn}
-use Rattle.script.specs.Fold.{Part, bytes, tooLong, Progress, partCall, longer, ended, kept, byteStep, fed, finishedPart, finished, callsFed, inChunks}
-use Rattle.script.proofs.Lines.{joined, joined-end, joined-more, joined-last, after-call}
+use Rattle.script.specs.Script.{callText, callLeaves, linesOf, outputs, bufferAfter, program}
+use Rattle.script.specs.Fold.{Part, bytes, tooLong, Progress, partCall, longer, ended, kept, byteStep, fed, finishedPart, finished}
+use Rattle.script.proofs.Lines.{joined, joined-last, lines-end, lines-more}
 
 -- ---- chunks
 
@@ -91,18 +90,18 @@ at-end l (b ∷ s) t =
     ∙ past-line l (b ∷ s) t []
     ∙ ap (Past l t) (sym (joined-last b s))
 
-step-end : (l s t : List ℕ) (b : ℕ) → So (eqb b 10)
+pub step-end : (l s t : List ℕ) (b : ℕ) → So (eqb b 10)
     → byteStep (under l s t) b
     ≡ under (callLeaves (lineCall s) l) [] (t ++ callText (lineCall s) l)
 unfolding byteStep
 step-end l s t b h = rw h (under-ended l s t)
 
-step-kept : (l s t : List ℕ) (b : ℕ) → eqb b 10 ≡ false
+pub step-kept : (l s t : List ℕ) (b : ℕ) → eqb b 10 ≡ false
     → byteStep (under l s t) b ≡ under l (s ++ (b ∷ [])) t
 unfolding byteStep kept
 step-kept l s t b h = rw (h, part-longer s b) refl
 
-pub fed-lines : (bs l s t : List ℕ)
+fed-lines : (bs l s t : List ℕ)
     → finished (fed (under l s t) bs) ≡ Past l t (joined s (linesOf bs))
 unfolding fed linesOf joined
 fed-lines [] l s t = at-end l s t
@@ -113,10 +112,10 @@ fed-lines (b ∷ bs) l s t =
     (λ h. ap (λ p. finished (fed p bs)) (step-end l s t b h)
     ∙ fed-lines bs k [] u
     ∙ past-line l s t (linesOf bs)
-    ∙ ap (Past l t) (rw (h, joined-end s (linesOf bs)) refl))
+    ∙ ap (Past l t) (lines-end s bs b h))
     (λ h. ap (λ p. finished (fed p bs)) (step-kept l s t b h)
     ∙ fed-lines bs l (s ++ (b ∷ [])) t
-    ∙ ap (Past l t) (rw (h, joined-more s b (linesOf bs)) refl))
+    ∙ ap (Past l t) (lines-more s bs b h))
 
 -- "One line out for each", and the buffer after all of them.
 pub fed-whole : (l input : List ℕ)

@@ -1,25 +1,28 @@
 -- Laws of the lines of an input.
--- joined: the line under way in front of the lines to come. joined-..: its end, one byte more.
+-- joined: the line under way in front of the lines to come. joined-last, lines-end, lines-more:
+-- the last line, a line's end, one byte more.
 -- after-lines: the buffer after lines is the one after their calls.
 -- Assumes nothing.
 use mathlib.Core.Path.{_≡_, refl, ap}
+use mathlib.Core.Bool.{false, So}
 use mathlib.Core.List.{List, [], _∷_, _++_}
 use mathlib.Core.Option.{Option, none, some}
 use Prim.Native.Nat.{ℕ}
-use Rattle.layout.specs.Calls.{Call, callOn, leaves, after}
+use lib.Dec.{eqb}
+use Rattle.layout.specs.Calls.{Call, after}
 use Rattle.lines.specs.Grammar.{lineCall}
-use Rattle.script.specs.Script.{callLeaves, before, bufferAfter, withCall, callsIn}
+use Rattle.script.specs.Script.{callLeaves, before, linesOf, bufferAfter, withCall, callsIn}
 
 unfoldable pub joined : List ℕ → List (List ℕ) → List (List ℕ)
 joined [] ss = ss
 joined (b ∷ s) ss = before b (joined s ss)
 
-pub joined-end : (s : List ℕ) (ss : List (List ℕ)) → joined s ([] ∷ ss) ≡ s ∷ ss
+joined-end : (s : List ℕ) (ss : List (List ℕ)) → joined s ([] ∷ ss) ≡ s ∷ ss
 unfolding joined before
 joined-end [] ss = refl
 joined-end (b ∷ s) ss = ap (before b) (joined-end s ss)
 
-pub joined-more : (s : List ℕ) (b : ℕ) (ss : List (List ℕ))
+joined-more : (s : List ℕ) (b : ℕ) (ss : List (List ℕ))
     → joined (s ++ (b ∷ [])) ss ≡ joined s (before b ss)
 unfolding joined
 joined-more [] b ss = refl
@@ -29,6 +32,16 @@ pub joined-last : (b : ℕ) (s : List ℕ) → joined (b ∷ s) [] ≡ (b ∷ s)
 unfolding joined before
 joined-last b [] = refl
 joined-last b (x ∷ s) = ap (before b) (joined-last x s)
+
+pub lines-end : (s bs : List ℕ) (b : ℕ) → So (eqb b 10)
+    → s ∷ linesOf bs ≡ joined s (linesOf (b ∷ bs))
+unfolding linesOf
+lines-end s bs b h = rw (h, joined-end s (linesOf bs)) refl
+
+pub lines-more : (s bs : List ℕ) (b : ℕ) → eqb b 10 ≡ false
+    → joined (s ++ (b ∷ [])) (linesOf bs) ≡ joined s (linesOf (b ∷ bs))
+unfolding linesOf
+lines-more s bs b h = rw (h, joined-more s b (linesOf bs)) refl
 
 -- ---- calls
 

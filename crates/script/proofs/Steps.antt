@@ -4,25 +4,24 @@
 -- Assumes nothing.
 use mathlib.Core.Path.{_≡_, refl, sym, ap, _∙_}
 use mathlib.Core.Logic.{_≢_}
-use mathlib.Core.Bool.{Bool, true, false, cond, So}
 use mathlib.Core.List.{List, [], _∷_, _++_}
 use mathlib.Core.Option.{Option, none, some}
 use Prim.Native.Nat.{ℕ, zero, suc, _+_, _≤_, _<_}
 use native.Mathlib.Nat.{not-suc-le-zero}
 use native.Mathlib.Numerals.{add-one}
 use native.Mathlib.Omega.{arith}
-use lib.Dec.{eqb, leb, ltb}
+use lib.Dec.{leb}
 use lib.ListN.{length, take, set, getD, length-take}
 use lib.Seq.{take-suc, take-suc-set}
-use Rattle.words.proofs.Bools.{test, leb-le, leb-gt, le-leb, gt-leb, lt-ltb, ge-ltb, ne-eqb}
+use Rattle.words.proofs.Bools.{test, leb-le, le-leb, gt-leb, lt-ltb, ge-ltb, ne-eqb}
 use Rattle.model.specs.Outcome.{Outcome, refused, broken, done, answer}
 use Rattle.layout.specs.Buffer.{inForm}
 use Rattle.layout.specs.Calls.{Call, callOn}
 use Rattle.lines.specs.Print.{answerText, unreadText}
-use Rattle.dispatch.specs.Performs.{Does, Performs}
+use Rattle.dispatch.specs.Performs.{Performs}
 use Rattle.dispatch.specs.declared.Performed.{Performed}
 use Rattle.script.specs.Script.{callText, callLeaves, lineText, lineLeaves, linesOf, bufferAfter, program}
-use Rattle.script.specs.Fold.{Part, bytes, tooLong, Progress, partCall, longer, ended, kept, byteStep, fed, finishedPart, finished, partIn, progress, wordsText}
+use Rattle.script.specs.Fold.{bytes, Progress, partCall, longer, ended, kept, byteStep, fed, finishedPart, finished, partIn, progress, wordsText}
 use Rattle.script.proofs.Folds.{fed-more, fed-whole}
 
 -- ---- answers in words

@@ -3,7 +3,7 @@
 -- isn't.
 -- Assumes nothing.
 use mathlib.Core.Path.{_≡_, refl, sym, ap, _∙_}
-use mathlib.Core.Bool.{Bool, true, false, So}
+use mathlib.Core.Bool.{false, So}
 use mathlib.Core.List.{List, [], _∷_, _++_}
 use Prim.Native.Nat.{ℕ, zero, suc}
 use native.Mathlib.Decide.{ℕ-discrete}
@@ -11,7 +11,6 @@ use lib.Dec.{leb}
 use lib.ListN.{length, replicate}
 use Rattle.words.proofs.Bools.{test}
 use Rattle.sizes.specs.Bounds.{countsOf, between, ranged}
-use Rattle.sizes.specs.declared.Counts.{Counts}
 use Rattle.layout.specs.Reading.{countsIn}
 use Rattle.layout.specs.Buffer.{shaped, inForm}
 use Rattle.layout.specs.Calls.{Call, new, on, newCause, newOn, callOn, leaves, isOk, after}

@@ -1,7 +1,7 @@
 -- The program as a fold over the bytes of its input, so that it may be read in chunks.
 -- Part: the line under way. Progress: what is kept from one byte to the next. byteStep: one byte.
 -- fed: a chunk. finished: the end of the input. partIn, progress, wordsText: as the code keeps it.
--- callsFed: the calls of the lines that end in a chunk. inChunks: all of an input, in chunks.
+-- callsFed, callsLast: the calls of a chunk and of the end. inChunks: all of an input, in chunks.
 -- Assumes nothing.
 use mathlib.Core.Bool.{cond}
 use mathlib.Core.List.{List, [], _∷_, _++_}
@@ -75,12 +75,19 @@ unfoldable pub wordsText : List ℕ → List ℕ
 wordsText [] = unreadText
 wordsText (t ∷ ns) = answerText (t ∷ ns)
 
--- ---- the calls of the lines that end in a chunk
+-- ---- calls
 
+-- Those of the lines that end in a chunk.
 unfoldable pub callsFed : Part → List ℕ → List Call
 callsFed p [] = []
 callsFed p (b ∷ bs) =
     cond (eqb b 10) (withCall (partCall p) (callsFed (bytes []) bs)) (callsFed (longer p b) bs)
+
+-- The call of a last line that lacks its end.
+unfoldable pub callsLast : Part → List Call
+callsLast (bytes []) = []
+callsLast (bytes (b ∷ s)) = withCall (lineCall (b ∷ s)) []
+callsLast tooLong = []
 
 -- ---- the input in chunks: each chunk's text is printed at once, and the last line's at the end
 

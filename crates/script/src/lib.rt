@@ -8,7 +8,7 @@ ghost use Prim.Native.Nat.{_+_, _*_, _≤_, _<_};
 ghost use lib.ListN.{length, take};
 ghost use Rattle.layout.specs.Buffer.{inForm};
 ghost use Rattle.script.specs.Script.{linesOf, program, callsIn};
-ghost use Rattle.script.specs.Fold.{progress, byteStep, fed, finished, partIn, callsFed};
+ghost use Rattle.script.specs.Fold.{progress, byteStep, fed, finished, partIn, callsFed, callsLast};
 ghost use Rattle.script.specs.Tie.{Tied};
 
 // What is kept between chunks. ready: the buffer is in form. len: bytes of the line under way, 401
@@ -129,6 +129,8 @@ pub fn finish(
         ≡ finished (progress (now (desk .entry)) (now (line .entry)) (state .len)
         (take (state .end) (now (out .entry)))) ⌝ }
     ensures { λ r. ⌜ r .end ≤ state .end + 256 ⌝ }
+    ensures { λ _. ⌜ Tied (now (desk .entry)) (callsLast (partIn (now (line .entry)) (state .len)))
+        (now (desk .exit)) ⌝ }
 {
     if state.len == 0 {
         return state;

@@ -4,11 +4,10 @@ use lib.Seq.{take-all}
 use Rattle.script.specs.Fold.{byteStep}
 use Rattle.script.proofs.Chunks.{fed-after}
 use Rattle.script.proofs.Ties.{tied-by}
-use borrow.Author.Needs.{needs}
 use native.Mathlib.Omega.{arith}
-use mathlib.Core.Path.{_≡_, refl, sym, ap, _∙_}
+use mathlib.Core.Path.{_≡_, refl, ap, _∙_}
 use mathlib.Core.List.{[]}
-use Prim.Native.Nat.{_+_, _*_, _-_, _<_, _≤_}
+use Prim.Native.Nat.{_*_, _-_, _≤_}
 use lib.ListN.{length, take, getD}
 use Rattle.layout.specs.Buffer.{inForm}
 use Rattle.script.specs.Fold.{progress, fed}

@@ -1,6 +1,8 @@
 -- `script::finish` meets its contract. Assumes nothing.
-use mathlib.Core.Path.{_≡_, sym, _∙_}
+use mathlib.Core.Path.{sym, ap, _∙_}
 use lib.ListN.{take}
+use Rattle.script.proofs.Chunks.{finished-after}
+use Rattle.script.proofs.Ties.{tied-by}
 use Rattle.script.proofs.Steps.{finished-none, finished-some}
 use native.Mathlib.Omega.{arith}
 use borrow.Author.Needs.{needs}
@@ -10,13 +12,12 @@ use Rattle.script.proofs.finish.Tie as tie
 returns : tie.Need-returns
 returns c =
     let k = c .before .before .before .before .before .before .before in
-    let a = k .args in (
+    let a = k .args in
+    let l = a .desk .now in
+    let t = take (a .state .end) (a .out .now) in
+    let e = finished-none l (a .line .now) (a .state .len) t (c .if1 .taken) in (
       k .pre .0,
-      (
-        finished-none (a .desk .now) (a .line .now) (a .state .len)
-            (take (a .state .end) (a .out .now)) (c .if1 .taken),
-        omega arith,
-      ),
+      (e, (omega arith, tied-by _ _ _ (ap (λ p. p .buffer) e ∙ finished-after _ l t))),
     )
 
 part-done-requires : tie.Need-part-done-requires
@@ -41,15 +42,14 @@ returns-2 : tie.Need-returns-2
 returns-2 c =
     let k = c .before .before .before .before .before .before .before .before in
     let p = k .part-done .ensures in
-    let t = k .before .before .before .before .before .before in
-    let a = t .before .before .before .before .before .before .before .args in (
+    let s = k .before .before .before .before .before .before in
+    let a = s .before .before .before .before .before .before .before .args in
+    let l = a .desk .now in
+    let t = take (a .state .end) (a .out .now) in
+    let f = finished-some l (a .line .now) (a .state .len) t (s .if1 .left) (omega arith) in
+    let e = p .1 .0 ∙ sym f in (
       p .0,
-      (
-        p .1 .0
-            ∙ sym (finished-some (a .desk .now) (a .line .now) (a .state .len)
-            (take (a .state .end) (a .out .now)) (t .if1 .left) (omega arith)),
-        omega arith,
-      ),
+      (e, (omega arith, tied-by _ _ _ (ap (λ q. q .buffer) e ∙ finished-after _ l t))),
     )
 
 pub finish-spec : {M : Type 1} → statement M

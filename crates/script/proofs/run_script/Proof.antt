@@ -1,5 +1,5 @@
 -- `script::run_script` meets its contract: the whole input is fed and finished. Assumes nothing.
-use mathlib.Core.Path.{_≡_, ap, _∙_}
+use mathlib.Core.Path.{ap, _∙_}
 use Rattle.script.specs.Script.{linesOf}
 use Rattle.script.proofs.Lines.{after-lines}
 use Rattle.script.proofs.Steps.{whole}

@@ -1,5 +1,5 @@
 -- `script::step_byte` meets its contract. Assumes nothing.
-use mathlib.Core.Path.{_≡_, sym, _∙_}
+use mathlib.Core.Path.{sym, _∙_}
 use lib.ListN.{take}
 use Rattle.script.proofs.Steps.{step-ends, step-keeps, step-long}
 use native.Mathlib.Omega.{arith}

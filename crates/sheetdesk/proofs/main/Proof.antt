@@ -1,7 +1,6 @@
 -- `sheetdesk::main` meets its contract: the buffer is blank at first. Assumes what `libc` says of
 -- reading and writing.
 use Rattle.script.proofs.Ties.{blank-form}
-use native.Mathlib.Omega.{arith}
 use borrow.Author.Needs.{needs}
 use Rattle.sheetdesk.proofs.main.Statement.{statement}
 use Rattle.sheetdesk.proofs.main.Tie as tie

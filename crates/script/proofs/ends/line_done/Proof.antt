@@ -1,6 +1,6 @@
 -- `script::ends::line_done` meets its contract: the call that is read is made, and its words are
 -- printed. Assumes nothing.
-use mathlib.Core.Path.{_≡_, refl, ap, _∙_}
+use mathlib.Core.Path.{refl, ap, _∙_}
 use mathlib.Core.List.{_++_}
 use lib.ListN.{take}
 use Rattle.script.specs.Script.{callText, callLeaves}

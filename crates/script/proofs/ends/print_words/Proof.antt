@@ -1,7 +1,6 @@
 -- `script::ends::print_words` meets its contract. Assumes nothing.
 use mathlib.Core.Path.{_≡_}
 use Prim.Native.Nat.{_-_}
-use lib.ListN.{take}
 use Rattle.script.specs.Fold.{wordsText}
 use Rattle.script.proofs.Steps.{words-taken}
 use native.Mathlib.Omega.{arith}
