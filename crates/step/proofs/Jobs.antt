@@ -6,7 +6,7 @@
 use mathlib.Core.Path.{_≡_, refl, sym, ap, _∙_}
 use mathlib.Core.Bool.{Bool, true, false, cond, not, So}
 use mathlib.Core.List.{List}
-use Prim.Native.Nat.{ℕ, _+_, _*_, _≤_, _<_, _^_}
+use Prim.Native.Nat.{ℕ, _+_, _≤_, _<_, _^_}
 use native.Mathlib.Omega.{arith}
 use lib.Dec.{eqb, leb}
 use lib.ListN.{getD}
@@ -30,17 +30,14 @@ use Rattle.step.specs.Jobs.{limitOf, unready, jobCause}
 -- ---- by the words of the run
 
 -- Job j of the run at an index.
-pub run-job : (z : Counts) (l : List ℕ) (at j : ℕ) → j < maxJobs → let i = at + 4 + j * 3 in
+pub run-job : (z : Counts) (l : List ℕ) (at j : ℕ) → j < maxJobs → let i = jobAt (at + 4) j in
     readRun z l at .job j ≡ jobOf (getD l i 0) (getD l (i + 1) 0) (getD l (i + 2) 0)
-unfolding jobAt
 run-job z l at j h =
     ap (λ (a : Run). a .job j) (run-words z l at) ∙ job-words l (at + 4) j h
 
 upstream-word : (z : Counts) (l : List ℕ) (at j : ℕ) → j < maxJobs
-    → readRun z l at .job j .upstream ≡ getD l (at + 6 + j * 3) 0
-upstream-word z l at j h =
-    ap (λ (x : Job). x .upstream) (run-job z l at j h)
-    ∙ ap (λ (i : ℕ). getD l i 0) (omega arith)
+    → readRun z l at .job j .upstream ≡ getD l (jobAt (at + 4) j + 2) 0
+upstream-word z l at j h = ap (λ (x : Job). x .upstream) (run-job z l at j h)
 
 module _ (l : List ℕ) (z : Counts) (r j : ℕ) (K : RunKnown l z r) where
   pub limit-in : jobLimit (storeOf l) r j
@@ -53,12 +50,10 @@ module _ (l : List ℕ) (z : Counts) (r j : ℕ) (K : RunKnown l z r) where
   state-in = rw (K .run)
 
   pub unready-in : j < maxJobs → notReady (storeOf l) r j
-      ≡ unready (getD l (runAt z r + 2) 0) (getD l (runAt z r + 6 + j * 3) 0) j
-  unfolding notReady unready jobAt
+      ≡ unready (getD l (runAt z r + 2) 0) (getD l (jobAt (runAt z r + 4) j + 2) 0) j
+  unfolding notReady unready
   unready-in h =
-      let at = runAt z r in
-      let e : at + 4 + j * 3 + 2 ≡ at + 6 + j * 3 = omega arith in
-      rw (K .run, run-words z l at, job-words l (at + 4) j h, e)
+      let at = runAt z r in rw (K .run, run-words z l at, job-words l (at + 4) j h)
 
 -- ---- a job in range of an open run
 
@@ -69,7 +64,7 @@ pub record Ready (l : List ℕ) (z : Counts) (r j : ℕ) : Type 0 where
   pub job : j < readRun z l (runAt z r) .jobs
   pub low : j < maxJobs
   pub valid : Valid z j (readRun z l (runAt z r) .job j)
-  pub upstream : getD l (runAt z r + 6 + j * 3) 0 < 2 ^ maxJobs
+  pub upstream : getD l (jobAt (runAt z r + 4) j + 2) 0 < 2 ^ maxJobs
 
 step-used : (n : ℕ) → So (allowed stepRow n) → 1 ≤ n
 unfolding allowed

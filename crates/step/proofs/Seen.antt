@@ -5,7 +5,7 @@
 use mathlib.Core.Path.{_≡_, refl, sym, ap, _∙_, fun-ext}
 use mathlib.Core.Bool.{Bool, _&&_}
 use mathlib.Core.List.{List}
-use Prim.Native.Nat.{ℕ, _+_, _*_, _<_, _^_}
+use Prim.Native.Nat.{ℕ, _+_, _<_, _^_}
 use native.Mathlib.Omega.{arith}
 use lib.ListN.{length, getD}
 use Rattle.masks.specs.Mask.{testBit, maskBelow}
@@ -33,25 +33,25 @@ use Rattle.step.proofs.Visits.{start-fetchable}
 
 -- A visit by the words of the run at an index.
 pub visit-is : (z : Counts) (l : List ℕ) (at snapshot read j m c p : ℕ) → j < maxJobs
-    → m ≡ masterAt z → c ≡ siteAt z (getD l (at + 4 + j * 3) 0)
+    → m ≡ masterAt z → c ≡ siteAt z (getD l (jobAt (at + 4) j) 0)
     → p ≡ readsOf (getD l (at + 1) 0) (readJobs l (at + 4)) 255
     → _≡_ {A = Visit} (record {
       master = m;
       cache = c;
       snapshot = snapshot;
       plan = p;
-      reads = getD l (at + 4 + j * 3 + 1) 0;
+      reads = getD l (jobAt (at + 4) j + 1) 0;
       read = getD l read 0;
     })
     (visitOf z l at snapshot read j)
-unfolding visitOf jobAt
+unfolding visitOf
 visit-is z l at snapshot read j m c p h d e f =
     rw (run-words z l at, job-words l (at + 4) j h) (λ i. record {
       master = d i;
       cache = e i;
       snapshot = snapshot;
       plan = f i;
-      reads = getD l (at + 4 + j * 3 + 1) 0;
+      reads = getD l (jobAt (at + 4) j + 1) 0;
       read = getD l read 0;
     })
 

@@ -3,6 +3,7 @@ use masks::has;
 use masks::without;
 use sizes::Counts;
 use sizes::Sizes;
+use sizes::job_at;
 use states::FREE_STATE;
 use states::STEP_ROW;
 use states::is_allowed;
@@ -46,7 +47,8 @@ pub fn job_cause(words: &[u32], z: Counts, r: usize, j: usize) -> u32
     if !is_allowed(STEP_ROW, words[at]) {
         return 4;
     }
-    if is_unready(words[at + 2], words[at + 6 + j * 3], j as u32) {
+    let job = job_at(at + 4, j);
+    if is_unready(words[at + 2], words[job + 2], j as u32) {
         return 6;
     }
     0

@@ -14,6 +14,7 @@ use sets::fetch_set;
 use sets::missing::is_unfetchable;
 use sets::missing::lacking;
 use sizes::Counts;
+use sizes::job_at;
 use status::mark_broken;
 use status::mark_done;
 use version::copy_keys;
@@ -148,7 +149,7 @@ fn visit_of(words: &[u32], z: Counts, at: usize, snapshot: usize, read: usize, j
         × (readRun z (now words) at .job j .site < z .sites) ⌝ }
     ensures { λ v. ⌜ v ≡ visitOf z (now (words .entry)) at snapshot read j ⌝ }
 {
-    let job = at + 4 + j * 3;
+    let job = job_at(at + 4, j);
     let areas = z.areas();
     let cache = z.site_at(wide(words[job]));
     let plan = reads_of(words, at + 4, words[at + 1], EVERY_JOB);

@@ -7,6 +7,7 @@ use borrow.Author.Tests.{not-true, not-false}
 use native.Mathlib.Omega.{arith}
 use lib.ListN.{length}
 use Rattle.words.proofs.Bools.{le-leb, gt-leb}
+use Rattle.sizes.proofs.Offsets.{job-lies}
 use Rattle.model.specs.Outcome.{refuse, allowed, stepRow}
 use Rattle.model.specs.Step.{jobLimit}
 use Rattle.layout.specs.Reading.{storeOf}
@@ -117,47 +118,60 @@ there : (c : tie.Else2) → let n = c .before .before .before .before .before .b
     n .run-at .result + 28 ≤ length (n .before .before .args .words .now)
 there c = here (c .before .before .before .before .before .before .before)
 
+add-job-at : tie.Need-add-job-at
+add-job-at c = omega (arith, there c)
+
+job-at-requires : tie.Need-job-at-requires
+job-at-requires c κs =
+    let n = c .before .before .before .before .before .before .before in
+    (omega (arith, known n .area .low, n .run-at .ensures), job-in c .low)
+
+inside : (c : tie.After-job-at)
+    → let n = c .before .before .before .before .before .before .before .before in
+    c .job-at .result + 3 ≤ length (n .before .before .args .words .now)
+inside c =
+    let e = c .before in
+    let n = e .before .before .before .before .before .before .before in
+    let a = n .before .before .args in
+    let lies = job-lies (n .run-at .result + 4) (a .j) (job-in e .low) in
+    omega (arith, lies .1, c .job-at .ensures, there e)
+
 add-is-unready : tie.Need-add-is-unready
-add-is-unready c = omega (arith, there c)
+add-is-unready c = omega (arith, there (c .before))
 
 mul-is-unready : tie.Need-mul-is-unready
-mul-is-unready c = omega (arith, there c)
+mul-is-unready c = omega (arith, there (c .before))
 
 shared-slice-read-is-unready : tie.Need-shared-slice-read-is-unready
-shared-slice-read-is-unready c = omega (arith, there (c .before))
+shared-slice-read-is-unready c = omega (arith, there (c .before .before))
 
 add-is-unready-2 : tie.Need-add-is-unready-2
-add-is-unready-2 c = omega (arith, there (c .before))
+add-is-unready-2 c = omega (arith, inside (c .before))
 
 mul-is-unready-2 : tie.Need-mul-is-unready-2
-mul-is-unready-2 c = omega (arith, job-in (c .before) .low)
-
-add-is-unready-3 : tie.Need-add-is-unready-3
-add-is-unready-3 c = omega (arith, there (c .before), job-in (c .before) .low)
-
-mul-is-unready-3 : tie.Need-mul-is-unready-3
-mul-is-unready-3 c = omega (arith, there (c .before), job-in (c .before) .low)
+mul-is-unready-2 c = omega (arith, inside (c .before))
 
 shared-slice-read-is-unready-2 : tie.Need-shared-slice-read-is-unready-2
-shared-slice-read-is-unready-2 c =
-    let e = c .before .before in omega (arith, there e, job-in e .low)
+shared-slice-read-is-unready-2 c = omega (arith, inside (c .before .before))
 
 cast-is-unready : tie.Need-cast-is-unready
-cast-is-unready c = omega (arith, job-in (c .before .before) .low)
+cast-is-unready c = omega (arith, job-in (c .before .before .before) .low)
 
 is-unready-requires : tie.Need-is-unready-requires
 is-unready-requires c κs =
-    let e = c .before .before in
+    let j = c .before .before in
+    let e = j .before in
     let n = e .before .before .before .before .before .before .before in
-    (job-in e .low, rw (n .run-at .ensures) (job-in e .upstream))
+    (job-in e .low, rw (j .job-at .ensures, n .run-at .ensures) (job-in e .upstream))
 
 -- What is left where the causes before it do not hold.
-tested : (c : tie.After-is-unready) → let e = c .before .before .before in
+tested : (c : tie.After-is-unready) → let e = c .before .before .before .before in
     let a = e .before .before .before .before .before .before .before .before .before .args in
     jobCause (storeOf (a .words .now)) (a .r) (a .j) ≡ refuse (c .is-unready .result) 6 0
 unfolding jobCause refuse
 tested c =
-    let e = c .before .before .before in
+    let j = c .before .before .before in
+    let e = j .before in
     let f = e .before .before .before in
     let n = f .before .before .before .before in
     let a = n .before .before .args in
@@ -168,6 +182,7 @@ tested c =
       not-false (e .before .is-allowed .result) (e .if2 .left),
       unready-in (a .words .now) (a .z) (a .r) (a .j) (known n) (job-in e .low),
       ← n .run-at .ensures,
+      ← j .job-at .ensures,
       ← c .is-unready .ensures,
     )
 
@@ -195,13 +210,13 @@ job-cause-spec =
     shared-slice-read-is-allowed
     is-allowed-requires
     returns-2
+    add-job-at
+    job-at-requires
     add-is-unready
     mul-is-unready
     shared-slice-read-is-unready
     add-is-unready-2
     mul-is-unready-2
-    add-is-unready-3
-    mul-is-unready-3
     shared-slice-read-is-unready-2
     cast-is-unready
     is-unready-requires
