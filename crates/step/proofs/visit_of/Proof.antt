@@ -78,7 +78,8 @@ mul-t12 : tie.Need-mul-t12
 mul-t12 c = omega (arith, inside (c .before .before .before .before .before .before))
 
 shared-slice-read-t14 : tie.Need-shared-slice-read-t14
-shared-slice-read-t14 c = omega (arith, inside (c .before .before .before .before .before .before .before))
+shared-slice-read-t14 c =
+    omega (arith, inside (c .before .before .before .before .before .before .before))
 
 mul-t15 : tie.Need-mul-t15
 mul-t15 c = search needs
