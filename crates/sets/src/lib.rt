@@ -58,7 +58,7 @@ impl View {
 }
 
 // Whether t draws in d: d is in the scope, needed by the source's t, the target does not meet that
-// need and the source holds d.
+// need and the source holds d. Few keys need another: that is asked first.
 pub fn draws(
     words: &[u32],
     z: Counts,
@@ -73,10 +73,11 @@ pub fn draws(
     ensures { λ r. ⌜ r ≡ drawsIn z (now (words .entry)) scope target source t d ⌝ }
 {
     let from = source.place(t);
+    if !(has(scope, d as u32) & needs(words, z, from, t, d)) {
+        return false;
+    }
     let other = source.place(d);
-    has(scope, d as u32)
-        & (needs(words, z, from, t, d)
-            & (!meets(words, z, target, d, from, t) & held(words, z, other, d)))
+    !meets(words, z, target, d, from, t) & held(words, z, other, d)
 }
 
 // The keys that t draws in.
