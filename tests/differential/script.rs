@@ -1,5 +1,6 @@
 //! Works a printed case again: `lend N`, `word I V`, `room N` (words of the next answer's
-//! slice), calls as the program reads them; `#` starts a remark.
+//! slice), calls as the program reads them; `#` starts a remark. What the test prints behind a
+//! case is passed over, so that its output can be taken as it is.
 
 use crate::pair::{answer_words, Pair, ANSWER};
 use crate::text::{self, Call};
@@ -12,7 +13,7 @@ pub fn work(file: &str) -> i32 {
     };
     let mut pair: Option<Pair> = None;
     let mut room = ANSWER;
-    for line in script.lines().filter(|line| !line.starts_with('#')) {
+    for line in script.lines().filter(|line| !is_said(line)) {
         let words = line.split(' ').collect::<Vec<&str>>();
         let numbers = words.iter().skip(1).map_while(|word| word.parse::<u32>().ok());
         let numbers = numbers.collect::<Vec<u32>>();
@@ -42,6 +43,11 @@ pub fn work(file: &str) -> i32 {
         }
     }
     0
+}
+
+/// A remark, or a line of the test's own.
+fn is_said(line: &str) -> bool {
+    line.is_empty() || line.starts_with('#') || line.starts_with("differential:")
 }
 
 /// A line as the program reads it, but an open of any length.
