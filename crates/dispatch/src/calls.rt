@@ -32,7 +32,7 @@ fn is_done(r: Created) -> bool
 }
 
 pub fn do_new(
-    desk: &mut [u32],
+    store: &mut [u32],
     ready: bool,
     keys: u32,
     writers: u32,
@@ -40,12 +40,12 @@ pub fn do_new(
     runs: u32,
     answer: &mut [u32],
 ) -> Performed
-    requires { ⌜ ready ≡ inForm (now desk) ⌝ }
+    requires { ⌜ ready ≡ inForm (now store) ⌝ }
     requires { ⌜ 24 ≤ length (now answer) ⌝ }
-    ensures { λ p. ⌜ Performs (some (new keys writers sites runs)) (now (desk .entry))
-        (now (desk .exit)) (now (answer .exit)) p ⌝ }
+    ensures { λ p. ⌜ Performs (some (new keys writers sites runs)) (now (store .entry))
+        (now (store .exit)) (now (answer .exit)) p ⌝ }
 {
-    let r = create::new(desk, keys, writers, sites, runs);
+    let r = create::new(store, keys, writers, sites, runs);
     let done = is_done(r);
     let count = put_created(answer, r);
     Performed {
@@ -54,120 +54,120 @@ pub fn do_new(
     }
 }
 
-pub fn do_open(desk: &mut [u32], ready: bool, run: u32, jobs: &[u32], answer: &mut [u32]) -> usize
-    requires { ⌜ ready ≡ inForm (now desk) ⌝ }
+pub fn do_open(store: &mut [u32], ready: bool, run: u32, jobs: &[u32], answer: &mut [u32]) -> usize
+    requires { ⌜ ready ≡ inForm (now store) ⌝ }
     requires { ⌜ 24 ≤ length (now answer) ⌝ }
     ensures { λ n. ⌜ Does (on (openRun run (now (jobs .entry))))
-        (now (desk .entry)) (now (desk .exit)) (now (answer .exit)) n ⌝ }
+        (now (store .entry)) (now (store .exit)) (now (answer .exit)) n ⌝ }
 {
     if !ready {
         return put_two(answer, 2, 1);
     }
-    let r = runs::open_in(desk, run, jobs);
+    let r = runs::open_in(store, run, jobs);
     put_opened(answer, r)
 }
 
-pub fn do_fetch(desk: &mut [u32], ready: bool, site: u32, key: u32, answer: &mut [u32]) -> usize
-    requires { ⌜ ready ≡ inForm (now desk) ⌝ }
+pub fn do_fetch(store: &mut [u32], ready: bool, site: u32, key: u32, answer: &mut [u32]) -> usize
+    requires { ⌜ ready ≡ inForm (now store) ⌝ }
     requires { ⌜ 24 ≤ length (now answer) ⌝ }
     ensures { λ n. ⌜ Does (on (fetch site key))
-        (now (desk .entry)) (now (desk .exit)) (now (answer .exit)) n ⌝ }
+        (now (store .entry)) (now (store .exit)) (now (answer .exit)) n ⌝ }
 {
     if !ready {
         return put_two(answer, 2, 1);
     }
-    let r = caches::fetch_in(desk, site, key);
+    let r = caches::fetch_in(store, site, key);
     put_fetched(answer, r)
 }
 
-pub fn do_evict(desk: &mut [u32], ready: bool, site: u32, key: u32, answer: &mut [u32]) -> usize
-    requires { ⌜ ready ≡ inForm (now desk) ⌝ }
+pub fn do_evict(store: &mut [u32], ready: bool, site: u32, key: u32, answer: &mut [u32]) -> usize
+    requires { ⌜ ready ≡ inForm (now store) ⌝ }
     requires { ⌜ 24 ≤ length (now answer) ⌝ }
     ensures { λ n. ⌜ Does (on (evict site key))
-        (now (desk .entry)) (now (desk .exit)) (now (answer .exit)) n ⌝ }
+        (now (store .entry)) (now (store .exit)) (now (answer .exit)) n ⌝ }
 {
     if !ready {
         return put_two(answer, 2, 1);
     }
-    let r = caches::evict_in(desk, site, key);
+    let r = caches::evict_in(store, site, key);
     put_evicted(answer, r)
 }
 
-pub fn do_prepare(desk: &mut [u32], ready: bool, run: u32, answer: &mut [u32]) -> usize
-    requires { ⌜ ready ≡ inForm (now desk) ⌝ }
+pub fn do_prepare(store: &mut [u32], ready: bool, run: u32, answer: &mut [u32]) -> usize
+    requires { ⌜ ready ≡ inForm (now store) ⌝ }
     requires { ⌜ 24 ≤ length (now answer) ⌝ }
     ensures { λ n. ⌜ Does (on (prepare run))
-        (now (desk .entry)) (now (desk .exit)) (now (answer .exit)) n ⌝ }
+        (now (store .entry)) (now (store .exit)) (now (answer .exit)) n ⌝ }
 {
     if !ready {
         return put_two(answer, 2, 1);
     }
-    let r = prepare::prepare_in(desk, run);
+    let r = prepare::prepare_in(store, run);
     put_prepared(answer, r)
 }
 
-pub fn do_step(desk: &mut [u32], ready: bool, run: u32, job: u32, answer: &mut [u32]) -> usize
-    requires { ⌜ ready ≡ inForm (now desk) ⌝ }
+pub fn do_step(store: &mut [u32], ready: bool, run: u32, job: u32, answer: &mut [u32]) -> usize
+    requires { ⌜ ready ≡ inForm (now store) ⌝ }
     requires { ⌜ 24 ≤ length (now answer) ⌝ }
     ensures { λ n. ⌜ Does (on (step run job))
-        (now (desk .entry)) (now (desk .exit)) (now (answer .exit)) n ⌝ }
+        (now (store .entry)) (now (store .exit)) (now (answer .exit)) n ⌝ }
 {
     if !ready {
         return put_two(answer, 2, 1);
     }
-    let r = step::step_in(desk, run, job);
+    let r = step::step_in(store, run, job);
     put_stepped(answer, r)
 }
 
 pub fn do_issue(
-    desk: &mut [u32],
+    store: &mut [u32],
     ready: bool,
     run: u32,
     writer: u32,
     mask: u32,
     answer: &mut [u32],
 ) -> usize
-    requires { ⌜ ready ≡ inForm (now desk) ⌝ }
+    requires { ⌜ ready ≡ inForm (now store) ⌝ }
     requires { ⌜ 24 ≤ length (now answer) ⌝ }
     ensures { λ n. ⌜ Does (on (issue run writer mask))
-        (now (desk .entry)) (now (desk .exit)) (now (answer .exit)) n ⌝ }
+        (now (store .entry)) (now (store .exit)) (now (answer .exit)) n ⌝ }
 {
     if !ready {
         return put_two(answer, 2, 1);
     }
-    let r = issue::issue_in(desk, run, writer, mask);
+    let r = issue::issue_in(store, run, writer, mask);
     put_issued(answer, r)
 }
 
-pub fn do_drop(desk: &mut [u32], ready: bool, run: u32, answer: &mut [u32]) -> usize
-    requires { ⌜ ready ≡ inForm (now desk) ⌝ }
+pub fn do_drop(store: &mut [u32], ready: bool, run: u32, answer: &mut [u32]) -> usize
+    requires { ⌜ ready ≡ inForm (now store) ⌝ }
     requires { ⌜ 24 ≤ length (now answer) ⌝ }
     ensures { λ n. ⌜ Does (on (dropRun run))
-        (now (desk .entry)) (now (desk .exit)) (now (answer .exit)) n ⌝ }
+        (now (store .entry)) (now (store .exit)) (now (answer .exit)) n ⌝ }
 {
     if !ready {
         return put_two(answer, 2, 1);
     }
-    let r = runs::drop_in(desk, run);
+    let r = runs::drop_in(store, run);
     put_dropped(answer, r)
 }
 
 pub fn do_look(
-    desk: &[u32],
+    store: &[u32],
     ready: bool,
     place: u32,
     number: u32,
     key: u32,
     answer: &mut [u32],
 ) -> usize
-    requires { ⌜ ready ≡ inForm (now desk) ⌝ }
+    requires { ⌜ ready ≡ inForm (now store) ⌝ }
     requires { ⌜ 24 ≤ length (now answer) ⌝ }
     ensures { λ n. ⌜ Does (on (look place number key))
-        (now (desk .entry)) (now (desk .entry)) (now (answer .exit)) n ⌝ }
+        (now (store .entry)) (now (store .entry)) (now (answer .exit)) n ⌝ }
 {
     if !ready {
         return put_two(answer, 2, 1);
     }
-    let r = look::look_in(desk, place, number, key);
-    put_looked(answer, desk, r)
+    let r = look::look_in(store, place, number, key);
+    put_looked(answer, store, r)
 }

@@ -27,51 +27,51 @@ pub struct Performed {
 
 // Makes the call of a command. ready: the buffer is in form.
 pub fn perform(
-    desk: &mut [u32],
+    store: &mut [u32],
     ready: bool,
     command: Command,
     numbers: &[u32],
     answer: &mut [u32],
 ) -> Performed
-    requires { ⌜ ready ≡ inForm (now desk) ⌝ }
+    requires { ⌜ ready ≡ inForm (now store) ⌝ }
     requires { ⌜ numbersEnd command ≤ length (now numbers) ⌝ }
     requires { ⌜ 24 ≤ length (now answer) ⌝ }
-    ensures { λ p. ⌜ Performs (spelled command (now (numbers .entry))) (now (desk .entry))
-        (now (desk .exit)) (now (answer .exit)) p ⌝ }
+    ensures { λ p. ⌜ Performs (spelled command (now (numbers .entry))) (now (store .entry))
+        (now (store .exit)) (now (answer .exit)) p ⌝ }
 {
     match command {
         Command::Unread => Performed { ready, count: 0 },
-        Command::New(k, w, n, p) => do_new(desk, ready, k, w, n, p, answer),
+        Command::New(k, w, n, p) => do_new(store, ready, k, w, n, p, answer),
         Command::Open(r, n) => {
-            let count = do_open(desk, ready, r, &numbers[1..n + 1], answer);
+            let count = do_open(store, ready, r, &numbers[1..n + 1], answer);
             Performed { ready, count }
         }
         Command::Fetch(o, k) => {
-            let count = do_fetch(desk, ready, o, k, answer);
+            let count = do_fetch(store, ready, o, k, answer);
             Performed { ready, count }
         }
         Command::Evict(o, k) => {
-            let count = do_evict(desk, ready, o, k, answer);
+            let count = do_evict(store, ready, o, k, answer);
             Performed { ready, count }
         }
         Command::Prepare(r) => {
-            let count = do_prepare(desk, ready, r, answer);
+            let count = do_prepare(store, ready, r, answer);
             Performed { ready, count }
         }
         Command::Step(r, j) => {
-            let count = do_step(desk, ready, r, j, answer);
+            let count = do_step(store, ready, r, j, answer);
             Performed { ready, count }
         }
         Command::Issue(r, w, m) => {
-            let count = do_issue(desk, ready, r, w, m, answer);
+            let count = do_issue(store, ready, r, w, m, answer);
             Performed { ready, count }
         }
         Command::Drop(r) => {
-            let count = do_drop(desk, ready, r, answer);
+            let count = do_drop(store, ready, r, answer);
             Performed { ready, count }
         }
         Command::Look(p, i, k) => {
-            let count = do_look(desk, ready, p, i, k, answer);
+            let count = do_look(store, ready, p, i, k, answer);
             Performed { ready, count }
         }
     }

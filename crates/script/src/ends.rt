@@ -24,7 +24,7 @@ fn print_words(out: &mut [u8], at: usize, answer: &[u32], count: usize) -> usize
 
 // A line of any length: read, performed, answered.
 fn line_done(
-    desk: &mut [u32],
+    store: &mut [u32],
     ready: bool,
     line: &[u8],
     numbers: &mut [u32],
@@ -32,17 +32,17 @@ fn line_done(
     out: &mut [u8],
     at: usize,
 ) -> State
-    requires { ⌜ ready ≡ inForm (now desk) ⌝ }
+    requires { ⌜ ready ≡ inForm (now store) ⌝ }
     requires { ⌜ (400 < length (now numbers)) × (24 ≤ length (now answer)) ⌝ }
     requires { ⌜ at + 256 ≤ length (now out) ⌝ }
-    ensures { λ r. ⌜ (r .ready ≡ inForm (now (desk .exit))) × (r .len ≡ 0) ⌝ }
-    ensures { λ _. ⌜ now (desk .exit) ≡ lineLeaves (now (desk .entry)) (now (line .entry)) ⌝ }
+    ensures { λ r. ⌜ (r .ready ≡ inForm (now (store .exit))) × (r .len ≡ 0) ⌝ }
+    ensures { λ _. ⌜ now (store .exit) ≡ lineLeaves (now (store .entry)) (now (line .entry)) ⌝ }
     ensures { λ r. ⌜ take (r .end) (now (out .exit))
-        ≡ take at (now (out .entry)) ++ lineText (now (desk .entry)) (now (line .entry)) ⌝ }
+        ≡ take at (now (out .entry)) ++ lineText (now (store .entry)) (now (line .entry)) ⌝ }
     ensures { λ r. ⌜ r .end ≤ at + 256 ⌝ }
 {
     let command = lines::read_line(line, numbers);
-    let made = dispatch::perform(desk, ready, command, numbers, answer);
+    let made = dispatch::perform(store, ready, command, numbers, answer);
     let end = print_words(out, at, answer, made.count);
     State {
         ready: made.ready,
@@ -53,21 +53,21 @@ fn line_done(
 
 // The line under way has ended.
 pub fn part_done(
-    desk: &mut [u32],
+    store: &mut [u32],
     state: State,
     line: &[u8],
     numbers: &mut [u32],
     answer: &mut [u32],
     out: &mut [u8],
 ) -> State
-    requires { ⌜ state .ready ≡ inForm (now desk) ⌝ }
+    requires { ⌜ state .ready ≡ inForm (now store) ⌝ }
     requires { ⌜ 400 ≤ length (now line) ⌝ }
     requires { ⌜ (400 < length (now numbers)) × (24 ≤ length (now answer)) ⌝ }
     requires { ⌜ state .end + 256 ≤ length (now out) ⌝ }
-    ensures { λ r. ⌜ r .ready ≡ inForm (now (desk .exit)) ⌝ }
-    ensures { λ r. ⌜ progress (now (desk .exit)) (now (line .entry)) (r .len)
+    ensures { λ r. ⌜ r .ready ≡ inForm (now (store .exit)) ⌝ }
+    ensures { λ r. ⌜ progress (now (store .exit)) (now (line .entry)) (r .len)
         (take (r .end) (now (out .exit)))
-        ≡ ended (progress (now (desk .entry)) (now (line .entry)) (state .len)
+        ≡ ended (progress (now (store .entry)) (now (line .entry)) (state .len)
         (take (state .end) (now (out .entry)))) ⌝ }
     ensures { λ r. ⌜ r .end ≤ state .end + 256 ⌝ }
 {
@@ -81,7 +81,7 @@ pub fn part_done(
     }
     let n = state.len;
     line_done(
-        desk,
+        store,
         state.ready,
         &line[0..n],
         numbers,

@@ -24,7 +24,7 @@ pub struct State {
 
 // One byte of the input.
 fn step_byte(
-    desk: &mut [u32],
+    store: &mut [u32],
     state: State,
     line: &mut [u8],
     numbers: &mut [u32],
@@ -32,19 +32,19 @@ fn step_byte(
     out: &mut [u8],
     byte: u8,
 ) -> State
-    requires { ⌜ state .ready ≡ inForm (now desk) ⌝ }
+    requires { ⌜ state .ready ≡ inForm (now store) ⌝ }
     requires { ⌜ 400 ≤ length (now line) ⌝ }
     requires { ⌜ (400 < length (now numbers)) × (24 ≤ length (now answer)) ⌝ }
     requires { ⌜ state .end + 256 ≤ length (now out) ⌝ }
-    ensures { λ r. ⌜ r .ready ≡ inForm (now (desk .exit)) ⌝ }
-    ensures { λ r. ⌜ progress (now (desk .exit)) (now (line .exit)) (r .len)
+    ensures { λ r. ⌜ r .ready ≡ inForm (now (store .exit)) ⌝ }
+    ensures { λ r. ⌜ progress (now (store .exit)) (now (line .exit)) (r .len)
         (take (r .end) (now (out .exit)))
-        ≡ byteStep (progress (now (desk .entry)) (now (line .entry)) (state .len)
+        ≡ byteStep (progress (now (store .entry)) (now (line .entry)) (state .len)
         (take (state .end) (now (out .entry)))) byte ⌝ }
     ensures { λ r. ⌜ r .end ≤ state .end + 256 ⌝ }
 {
     if byte == 10 {
-        return part_done(desk, state, line, numbers, answer, out);
+        return part_done(store, state, line, numbers, answer, out);
     }
     let n = state.len;
     if n < 400 {
@@ -65,7 +65,7 @@ fn step_byte(
 // A chunk of the input: makes the calls of the lines that end in it. Their answers are the first
 // end bytes of out.
 pub fn feed(
-    desk: &mut [u32],
+    store: &mut [u32],
     ready: bool,
     len: usize,
     line: &mut [u8],
@@ -74,17 +74,17 @@ pub fn feed(
     out: &mut [u8],
     chunk: &[u8],
 ) -> State
-    requires { ⌜ ready ≡ inForm (now desk) ⌝ }
+    requires { ⌜ ready ≡ inForm (now store) ⌝ }
     requires { ⌜ 400 ≤ length (now line) ⌝ }
     requires { ⌜ (400 < length (now numbers)) × (24 ≤ length (now answer)) ⌝ }
     requires { ⌜ 256 * length (now chunk) ≤ length (now out) ⌝ }
-    ensures { λ r. ⌜ r .ready ≡ inForm (now (desk .exit)) ⌝ }
-    ensures { λ r. ⌜ progress (now (desk .exit)) (now (line .exit)) (r .len)
+    ensures { λ r. ⌜ r .ready ≡ inForm (now (store .exit)) ⌝ }
+    ensures { λ r. ⌜ progress (now (store .exit)) (now (line .exit)) (r .len)
         (take (r .end) (now (out .exit)))
-        ≡ fed (progress (now (desk .entry)) (now (line .entry)) len []) (now (chunk .entry)) ⌝ }
+        ≡ fed (progress (now (store .entry)) (now (line .entry)) len []) (now (chunk .entry)) ⌝ }
     ensures { λ r. ⌜ r .end ≤ 256 * length (now (chunk .entry)) ⌝ }
-    ensures { λ _. ⌜ Tied (now (desk .entry))
-        (callsFed (partIn (now (line .entry)) len) (now (chunk .entry))) (now (desk .exit)) ⌝ }
+    ensures { λ _. ⌜ Tied (now (store .entry))
+        (callsFed (partIn (now (line .entry)) len) (now (chunk .entry))) (now (store .exit)) ⌝ }
 {
     let mut is_ready = ready;
     let mut kept = len;
@@ -96,7 +96,7 @@ pub fn feed(
             len: kept,
             end,
         };
-        let next = step_byte(desk, state, line, numbers, answer, out, chunk[i]);
+        let next = step_byte(store, state, line, numbers, answer, out, chunk[i]);
         is_ready = next.ready;
         kept = next.len;
         end = next.end;
@@ -112,35 +112,35 @@ pub fn feed(
 // The end of the input: the call of a last line that lacks its end. Its answer follows what
 // stands in out up to the state's end.
 pub fn finish(
-    desk: &mut [u32],
+    store: &mut [u32],
     state: State,
     line: &mut [u8],
     numbers: &mut [u32],
     answer: &mut [u32],
     out: &mut [u8],
 ) -> State
-    requires { ⌜ state .ready ≡ inForm (now desk) ⌝ }
+    requires { ⌜ state .ready ≡ inForm (now store) ⌝ }
     requires { ⌜ 400 ≤ length (now line) ⌝ }
     requires { ⌜ (400 < length (now numbers)) × (24 ≤ length (now answer)) ⌝ }
     requires { ⌜ state .end + 256 ≤ length (now out) ⌝ }
-    ensures { λ r. ⌜ r .ready ≡ inForm (now (desk .exit)) ⌝ }
-    ensures { λ r. ⌜ progress (now (desk .exit)) (now (line .exit)) (r .len)
+    ensures { λ r. ⌜ r .ready ≡ inForm (now (store .exit)) ⌝ }
+    ensures { λ r. ⌜ progress (now (store .exit)) (now (line .exit)) (r .len)
         (take (r .end) (now (out .exit)))
-        ≡ finished (progress (now (desk .entry)) (now (line .entry)) (state .len)
+        ≡ finished (progress (now (store .entry)) (now (line .entry)) (state .len)
         (take (state .end) (now (out .entry)))) ⌝ }
     ensures { λ r. ⌜ r .end ≤ state .end + 256 ⌝ }
-    ensures { λ _. ⌜ Tied (now (desk .entry)) (callsLast (partIn (now (line .entry)) (state .len)))
-        (now (desk .exit)) ⌝ }
+    ensures { λ _. ⌜ Tied (now (store .entry))
+        (callsLast (partIn (now (line .entry)) (state .len))) (now (store .exit)) ⌝ }
 {
     if state.len == 0 {
         return state;
     }
-    part_done(desk, state, line, numbers, answer, out)
+    part_done(store, state, line, numbers, answer, out)
 }
 
 // All of an input at once.
 pub fn run_script(
-    desk: &mut [u32],
+    store: &mut [u32],
     ready: bool,
     line: &mut [u8],
     numbers: &mut [u32],
@@ -148,16 +148,16 @@ pub fn run_script(
     out: &mut [u8],
     input: &[u8],
 ) -> State
-    requires { ⌜ ready ≡ inForm (now desk) ⌝ }
+    requires { ⌜ ready ≡ inForm (now store) ⌝ }
     requires { ⌜ 400 ≤ length (now line) ⌝ }
     requires { ⌜ (400 < length (now numbers)) × (24 ≤ length (now answer)) ⌝ }
     requires { ⌜ 256 * (length (now input) + 1) ≤ length (now out) ⌝ }
-    ensures { λ r. ⌜ r .ready ≡ inForm (now (desk .exit)) ⌝ }
+    ensures { λ r. ⌜ r .ready ≡ inForm (now (store .exit)) ⌝ }
     ensures { λ r. ⌜ take (r .end) (now (out .exit))
-        ≡ program (now (desk .entry)) (now (input .entry)) ⌝ }
-    ensures { λ _. ⌜ Tied (now (desk .entry)) (callsIn (linesOf (now (input .entry))))
-        (now (desk .exit)) ⌝ }
+        ≡ program (now (store .entry)) (now (input .entry)) ⌝ }
+    ensures { λ _. ⌜ Tied (now (store .entry)) (callsIn (linesOf (now (input .entry))))
+        (now (store .exit)) ⌝ }
 {
-    let state = feed(desk, ready, 0, line, numbers, answer, out, input);
-    finish(desk, state, line, numbers, answer, out)
+    let state = feed(store, ready, 0, line, numbers, answer, out, input);
+    finish(store, state, line, numbers, answer, out)
 }

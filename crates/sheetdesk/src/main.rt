@@ -21,7 +21,7 @@ struct Kept {
 
 // Reads once, and writes the answers to all lines that ended. A failed read counts as the end.
 fn turn(
-    desk: &mut [u32],
+    store: &mut [u32],
     ready: bool,
     len: usize,
     line: &mut [u8],
@@ -29,11 +29,11 @@ fn turn(
     answer: &mut [u32],
     out: &mut [u8],
 ) -> Kept
-    requires { ⌜ ready ≡ inForm (now desk) ⌝ }
+    requires { ⌜ ready ≡ inForm (now store) ⌝ }
     requires { ⌜ 400 ≤ length (now line) ⌝ }
     requires { ⌜ (400 < length (now numbers)) × (24 ≤ length (now answer)) ⌝ }
     requires { ⌜ 262144 ≤ length (now out) ⌝ }
-    ensures { λ k. ⌜ k .ready ≡ inForm (now (desk .exit)) ⌝ }
+    ensures { λ k. ⌜ k .ready ≡ inForm (now (store .exit)) ⌝ }
 {
     let mut chunk = [0u8; 1024];
     let got = libc::read(STDIN_FILENO, &mut chunk);
@@ -46,7 +46,7 @@ fn turn(
         };
     }
     let n = io::count(got, &chunk);
-    let state = script::feed(desk, ready, len, line, numbers, answer, out, &chunk[..n]);
+    let state = script::feed(store, ready, len, line, numbers, answer, out, &chunk[..n]);
     let end = state.end;
     let is_written = io::write_all(STDOUT_FILENO, &out[0..end]);
     Kept {
@@ -60,17 +60,17 @@ fn turn(
 // Turns until the input ends or a write fails. The count only shows that the loop ends: no run
 // uses it up.
 fn turns(
-    desk: &mut [u32],
+    store: &mut [u32],
     line: &mut [u8],
     numbers: &mut [u32],
     answer: &mut [u32],
     out: &mut [u8],
 ) -> Kept
-    requires { ⌜ inForm (now desk) ≡ false ⌝ }
+    requires { ⌜ inForm (now store) ≡ false ⌝ }
     requires { ⌜ 400 ≤ length (now line) ⌝ }
     requires { ⌜ (400 < length (now numbers)) × (24 ≤ length (now answer)) ⌝ }
     requires { ⌜ 262144 ≤ length (now out) ⌝ }
-    ensures { λ k. ⌜ k .ready ≡ inForm (now (desk .exit)) ⌝ }
+    ensures { λ k. ⌜ k .ready ≡ inForm (now (store .exit)) ⌝ }
 {
     let mut kept = Kept {
         ready: false,
@@ -80,7 +80,7 @@ fn turns(
     };
     let mut left = u64::MAX;
     while left > 0 {
-        kept = turn(desk, kept.ready, kept.len, line, numbers, answer, out);
+        kept = turn(store, kept.ready, kept.len, line, numbers, answer, out);
         if !kept.more {
             return kept;
         }
@@ -90,13 +90,13 @@ fn turns(
 }
 
 // All of the input, and then a last line that lacks its end.
-fn run(desk: &mut [u32], line: &mut [u8], numbers: &mut [u32], answer: &mut [u32], out: &mut [u8])
-    requires { ⌜ inForm (now desk) ≡ false ⌝ }
+fn run(store: &mut [u32], line: &mut [u8], numbers: &mut [u32], answer: &mut [u32], out: &mut [u8])
+    requires { ⌜ inForm (now store) ≡ false ⌝ }
     requires { ⌜ 400 ≤ length (now line) ⌝ }
     requires { ⌜ (400 < length (now numbers)) × (24 ≤ length (now answer)) ⌝ }
     requires { ⌜ 262144 ≤ length (now out) ⌝ }
 {
-    let kept = turns(desk, line, numbers, answer, out);
+    let kept = turns(store, line, numbers, answer, out);
     if !kept.is_written {
         return;
     }
@@ -105,17 +105,17 @@ fn run(desk: &mut [u32], line: &mut [u8], numbers: &mut [u32], answer: &mut [u32
         len: kept.len,
         end: 0,
     };
-    let last = script::finish(desk, state, line, numbers, answer, out);
+    let last = script::finish(store, state, line, numbers, answer, out);
     let end = last.end;
     io::write_all(STDOUT_FILENO, &out[0..end]);
 }
 
 // "The program lends 16,384 words." "Before any new, the buffer is all zero."
 fn main() {
-    let mut desk = [0u32; 16384];
+    let mut store = [0u32; 16384];
     let mut line = [0u8; 400];
     let mut numbers = [0u32; 401];
     let mut answer = [0u32; 24];
     let mut out = [0u8; 262144];
-    run(&mut desk, &mut line, &mut numbers, &mut answer, &mut out);
+    run(&mut store, &mut line, &mut numbers, &mut answer, &mut out);
 }

@@ -28,7 +28,7 @@ fn narrow(n: usize) -> u32
 
 #[no_mangle]
 pub extern "C" fn sheetdesk_new(
-    desk: &mut [u32],
+    store: &mut [u32],
     keys: u32,
     writers: u32,
     sites: u32,
@@ -36,128 +36,128 @@ pub extern "C" fn sheetdesk_new(
     out: &mut [u32],
 ) -> u32
     ensures { λ n. ⌜ Exported (new keys writers sites runs)
-        (now (desk .entry)) (now (desk .exit)) (now (out .entry)) (now (out .exit)) n ⌝ }
+        (now (store .entry)) (now (store .exit)) (now (out .entry)) (now (out .exit)) n ⌝ }
 {
     if out.len() < 24 {
         return 0;
     }
-    let r = create::new(desk, keys, writers, sites, runs);
+    let r = create::new(store, keys, writers, sites, runs);
     let n = put_created(out, r);
     narrow(n)
 }
 
 #[no_mangle]
-pub extern "C" fn sheetdesk_open(desk: &mut [u32], run: u32, jobs: &[u32], out: &mut [u32]) -> u32
+pub extern "C" fn sheetdesk_open(store: &mut [u32], run: u32, jobs: &[u32], out: &mut [u32]) -> u32
     ensures { λ n. ⌜ Exported (on (openRun run (now (jobs .entry))))
-        (now (desk .entry)) (now (desk .exit)) (now (out .entry)) (now (out .exit)) n ⌝ }
+        (now (store .entry)) (now (store .exit)) (now (out .entry)) (now (out .exit)) n ⌝ }
 {
     if out.len() < 24 {
         return 0;
     }
-    let r = runs::open(desk, run, jobs);
+    let r = runs::open(store, run, jobs);
     let n = put_opened(out, r);
     narrow(n)
 }
 
 #[no_mangle]
-pub extern "C" fn sheetdesk_fetch(desk: &mut [u32], site: u32, key: u32, out: &mut [u32]) -> u32
+pub extern "C" fn sheetdesk_fetch(store: &mut [u32], site: u32, key: u32, out: &mut [u32]) -> u32
     ensures { λ n. ⌜ Exported (on (fetch site key))
-        (now (desk .entry)) (now (desk .exit)) (now (out .entry)) (now (out .exit)) n ⌝ }
+        (now (store .entry)) (now (store .exit)) (now (out .entry)) (now (out .exit)) n ⌝ }
 {
     if out.len() < 24 {
         return 0;
     }
-    let r = caches::fetch(desk, site, key);
+    let r = caches::fetch(store, site, key);
     let n = put_fetched(out, r);
     narrow(n)
 }
 
 #[no_mangle]
-pub extern "C" fn sheetdesk_evict(desk: &mut [u32], site: u32, key: u32, out: &mut [u32]) -> u32
+pub extern "C" fn sheetdesk_evict(store: &mut [u32], site: u32, key: u32, out: &mut [u32]) -> u32
     ensures { λ n. ⌜ Exported (on (evict site key))
-        (now (desk .entry)) (now (desk .exit)) (now (out .entry)) (now (out .exit)) n ⌝ }
+        (now (store .entry)) (now (store .exit)) (now (out .entry)) (now (out .exit)) n ⌝ }
 {
     if out.len() < 24 {
         return 0;
     }
-    let r = caches::evict(desk, site, key);
+    let r = caches::evict(store, site, key);
     let n = put_evicted(out, r);
     narrow(n)
 }
 
 #[no_mangle]
-pub extern "C" fn sheetdesk_drop(desk: &mut [u32], run: u32, out: &mut [u32]) -> u32
+pub extern "C" fn sheetdesk_drop(store: &mut [u32], run: u32, out: &mut [u32]) -> u32
     ensures { λ n. ⌜ Exported (on (dropRun run))
-        (now (desk .entry)) (now (desk .exit)) (now (out .entry)) (now (out .exit)) n ⌝ }
+        (now (store .entry)) (now (store .exit)) (now (out .entry)) (now (out .exit)) n ⌝ }
 {
     if out.len() < 24 {
         return 0;
     }
-    let r = runs::drop(desk, run);
+    let r = runs::drop(store, run);
     let n = put_dropped(out, r);
     narrow(n)
 }
 
 #[no_mangle]
 pub extern "C" fn sheetdesk_look(
-    desk: &[u32],
+    store: &[u32],
     place: u32,
     number: u32,
     key: u32,
     out: &mut [u32],
 ) -> u32
     ensures { λ n. ⌜ Exported (on (look place number key))
-        (now (desk .entry)) (now (desk .entry)) (now (out .entry)) (now (out .exit)) n ⌝ }
+        (now (store .entry)) (now (store .entry)) (now (out .entry)) (now (out .exit)) n ⌝ }
 {
     if out.len() < 24 {
         return 0;
     }
-    let r = look::look(desk, place, number, key);
-    let n = put_looked(out, desk, r);
+    let r = look::look(store, place, number, key);
+    let n = put_looked(out, store, r);
     narrow(n)
 }
 
 #[no_mangle]
-pub extern "C" fn sheetdesk_prepare(desk: &mut [u32], run: u32, out: &mut [u32]) -> u32
+pub extern "C" fn sheetdesk_prepare(store: &mut [u32], run: u32, out: &mut [u32]) -> u32
     ensures { λ n. ⌜ Exported (on (prepare run))
-        (now (desk .entry)) (now (desk .exit)) (now (out .entry)) (now (out .exit)) n ⌝ }
+        (now (store .entry)) (now (store .exit)) (now (out .entry)) (now (out .exit)) n ⌝ }
 {
     if out.len() < 24 {
         return 0;
     }
-    let r = prepare::prepare(desk, run);
+    let r = prepare::prepare(store, run);
     let n = put_prepared(out, r);
     narrow(n)
 }
 
 #[no_mangle]
-pub extern "C" fn sheetdesk_step(desk: &mut [u32], run: u32, job: u32, out: &mut [u32]) -> u32
+pub extern "C" fn sheetdesk_step(store: &mut [u32], run: u32, job: u32, out: &mut [u32]) -> u32
     ensures { λ n. ⌜ Exported (on (step run job))
-        (now (desk .entry)) (now (desk .exit)) (now (out .entry)) (now (out .exit)) n ⌝ }
+        (now (store .entry)) (now (store .exit)) (now (out .entry)) (now (out .exit)) n ⌝ }
 {
     if out.len() < 24 {
         return 0;
     }
-    let r = step::step(desk, run, job);
+    let r = step::step(store, run, job);
     let n = put_stepped(out, r);
     narrow(n)
 }
 
 #[no_mangle]
 pub extern "C" fn sheetdesk_issue(
-    desk: &mut [u32],
+    store: &mut [u32],
     run: u32,
     writer: u32,
     mask: u32,
     out: &mut [u32],
 ) -> u32
     ensures { λ n. ⌜ Exported (on (issue run writer mask))
-        (now (desk .entry)) (now (desk .exit)) (now (out .entry)) (now (out .exit)) n ⌝ }
+        (now (store .entry)) (now (store .exit)) (now (out .entry)) (now (out .exit)) n ⌝ }
 {
     if out.len() < 24 {
         return 0;
     }
-    let r = issue::issue(desk, run, writer, mask);
+    let r = issue::issue(store, run, writer, mask);
     let n = put_issued(out, r);
     narrow(n)
 }

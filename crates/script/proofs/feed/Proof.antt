@@ -16,16 +16,16 @@ use Rattle.script.proofs.feed.Statement.{statement}
 use Rattle.script.proofs.feed.Tie as tie
 
 abbrev Inv-loop : tie.InvT-loop
-Inv-loop desk₀ ready len line₀ numbers₀ answer₀ out₀ chunk is-ready₀ kept₀ end₀ i₀
-    desk line numbers answer out is-ready kept end i =
-    (i ≤ length chunk) × (length desk ≡ length desk₀) × (length line ≡ length line₀)
+Inv-loop store₀ ready len line₀ numbers₀ answer₀ out₀ chunk is-ready₀ kept₀ end₀ i₀
+    store line numbers answer out is-ready kept end i =
+    (i ≤ length chunk) × (length store ≡ length store₀) × (length line ≡ length line₀)
     × (length numbers ≡ length numbers₀) × (length answer ≡ length answer₀)
-    × (length out ≡ length out₀) × (end ≤ 256 * i) × (is-ready ≡ inForm desk)
-    × (progress desk line kept (take end out) ≡ fed (progress desk₀ line₀ len []) (take i chunk))
+    × (length out ≡ length out₀) × (end ≤ 256 * i) × (is-ready ≡ inForm store)
+    × (progress store line kept (take end out) ≡ fed (progress store₀ line₀ len []) (take i chunk))
 
 abbrev μ-loop : tie.MeasureT-loop
-μ-loop desk₀ ready len line₀ numbers₀ answer₀ out₀ chunk is-ready₀ kept₀ end₀ i₀
-    desk line numbers answer out is-ready kept end i =
+μ-loop store₀ ready len line₀ numbers₀ answer₀ out₀ chunk is-ready₀ kept₀ end₀ i₀
+    store line numbers answer out is-ready kept end i =
     length chunk - i
 
 loop-holds : tie.Need-loop-holds Inv-loop μ-loop
@@ -87,7 +87,7 @@ returns : tie.Need-returns Inv-loop μ-loop
 returns c =
     let a = c .before .before .before .before .before .before .before .before .args in
     let o = c .before .loop in
-    let p = progress (a .desk .now) (a .line .now) (a .len) [] in
+    let p = progress (a .store .now) (a .line .now) (a .len) [] in
     let e = o .inv .8 ∙ ap (fed p) (take-all (o .i) (a .chunk .now) (omega arith)) in (
       o .inv .7,
       (e, (omega arith, tied-by _ _ _ (ap (λ q. q .buffer) e ∙ fed-after (a .chunk .now) p))),

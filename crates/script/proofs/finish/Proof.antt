@@ -13,7 +13,7 @@ returns : tie.Need-returns
 returns c =
     let k = c .before .before .before .before .before .before .before in
     let a = k .args in
-    let l = a .desk .now in
+    let l = a .store .now in
     let t = take (a .state .end) (a .out .now) in
     let e = finished-none l (a .line .now) (a .state .len) t (c .if1 .taken) in (
       k .pre .0,
@@ -44,7 +44,7 @@ returns-2 c =
     let p = k .part-done .ensures in
     let s = k .before .before .before .before .before .before in
     let a = s .before .before .before .before .before .before .before .args in
-    let l = a .desk .now in
+    let l = a .store .now in
     let t = take (a .state .end) (a .out .now) in
     let f = finished-some l (a .line .now) (a .state .len) t (s .if1 .left) (omega arith) in
     let e = p .1 .0 ∙ sym f in (

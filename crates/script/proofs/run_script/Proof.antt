@@ -50,7 +50,7 @@ returns c =
     let t = b .before .before .before .before .before .before .before .before in
     let s = t .before .before .before .before .before .before in
     let a = s .before .before .before .before .before .before .args in
-    let l = a .desk .now in
+    let l = a .store .now in
     let e = whole l (a .line .now) (a .input .now) (t .feed .ensures .1 .0) (f .1 .0) in (
       f .0,
       (

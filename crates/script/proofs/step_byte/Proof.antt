@@ -34,7 +34,7 @@ returns c =
       p .0,
       (
         p .1 .0
-            ∙ sym (step-ends (a .desk .now) (a .line .now) (a .state .len)
+            ∙ sym (step-ends (a .store .now) (a .line .now) (a .state .len)
             (take (a .state .end) (a .out .now)) (a .byte) (t .if1 .taken)),
         omega arith,
       ),
@@ -55,7 +55,7 @@ returns-2 c =
     let a = k .args in (
       k .pre .0,
       (
-        step-keeps (a .desk .now) (a .line .now) (a .state .len)
+        step-keeps (a .store .now) (a .line .now) (a .state .len)
             (take (a .state .end) (a .out .now)) (a .byte) (c .before .if1 .left) (c .if2 .taken)
             (k .pre .1 .0),
         omega arith,
@@ -68,7 +68,7 @@ returns-3 c =
     let a = k .args in (
       k .pre .0,
       (
-        step-long (a .desk .now) (a .line .now) (a .state .len)
+        step-long (a .store .now) (a .line .now) (a .state .len)
             (take (a .state .end) (a .out .now)) (a .byte) (c .before .if1 .left) (omega arith)
             (k .pre .1 .0),
         omega arith,

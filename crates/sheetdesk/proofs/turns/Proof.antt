@@ -8,13 +8,14 @@ use Rattle.sheetdesk.proofs.turns.Statement.{statement}
 use Rattle.sheetdesk.proofs.turns.Tie as tie
 
 abbrev Inv-loop : tie.InvT-loop
-Inv-loop desk₀ line₀ numbers₀ answer₀ out₀ kept₀ left₀ desk line numbers answer out kept left =
-    (length desk ≡ length desk₀) × (length line ≡ length line₀)
+Inv-loop store₀ line₀ numbers₀ answer₀ out₀ kept₀ left₀ store line numbers answer out kept left =
+    (length store ≡ length store₀) × (length line ≡ length line₀)
     × (length numbers ≡ length numbers₀) × (length answer ≡ length answer₀)
-    × (length out ≡ length out₀) × (kept .ready ≡ inForm desk)
+    × (length out ≡ length out₀) × (kept .ready ≡ inForm store)
 
 abbrev μ-loop : tie.MeasureT-loop
-μ-loop desk₀ line₀ numbers₀ answer₀ out₀ kept₀ left₀ desk line numbers answer out kept left = left
+μ-loop store₀ line₀ numbers₀ answer₀ out₀ kept₀ left₀ store line numbers answer out kept left =
+    left
 
 loop-holds : tie.Need-loop-holds Inv-loop μ-loop
 loop-holds c =

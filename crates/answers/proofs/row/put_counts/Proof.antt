@@ -10,12 +10,12 @@ use Rattle.answers.proofs.row.put_counts.Statement.{statement}
 use Rattle.answers.proofs.row.put_counts.Tie as tie
 
 abbrev Inv-loop : tie.InvT-loop
-Inv-loop answer₀ desk at n i₀ answer i =
+Inv-loop answer₀ store at n i₀ answer i =
     (i ≤ n) × (length answer ≡ length answer₀)
-    × (answer ≡ put answer₀ 2 i (λ j. getD desk (at + j) 0))
+    × (answer ≡ put answer₀ 2 i (λ j. getD store (at + j) 0))
 
 abbrev μ-loop : tie.MeasureT-loop
-μ-loop answer₀ desk at n i₀ answer i = n - i
+μ-loop answer₀ store at n i₀ answer i = n - i
 
 loop-holds : tie.Need-loop-holds Inv-loop μ-loop
 unfolding put
@@ -50,7 +50,7 @@ loop-again c =
     let l = c .before .before in
     let a = l .before .args in
     let i = l .loop .i in
-    let f : ℕ → ℕ = λ j. getD (a .desk .now) (a .at + j) 0 in (
+    let f : ℕ → ℕ = λ j. getD (a .store .now) (a .at + j) 0 in (
       omega arith,
       rw length-set (l .loop .inv .1),
       put-step (a .answer .now) 2 i f (l .loop .answer) (f i) (l .loop .inv .2) refl,
@@ -63,7 +63,7 @@ returns : tie.Need-returns Inv-loop μ-loop
 returns c =
     let l = c .before in
     let a = l .before .args in
-    let f : ℕ → ℕ = λ j. getD (a .desk .now) (a .at + j) 0 in
+    let f : ℕ → ℕ = λ j. getD (a .store .now) (a .at + j) 0 in
     let e : l .loop .i ≡ a .n = omega arith in
     l .loop .inv .2 ∙ ap (λ (n : ℕ). put (a .answer .now) 2 n f) e
 

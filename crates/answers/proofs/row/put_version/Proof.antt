@@ -28,7 +28,7 @@ returns c =
     let a = s .args in
     let two = ap (λ (k : ℕ). take k (t .last .0)) (sym (t .ensures .1)) ∙ t .ensures .0 in
     rw (t .ensures .1, c .before .before .put-counts .ensures) (
-      front-row (t .last .0) (a .desk .now) 0 (a .issue) (a .at) (a .n) two
+      front-row (t .last .0) (a .store .now) 0 (a .issue) (a .at) (a .n) two
           (omega (arith, t .kept .0, s .pre .0 .1, s .pre .1)),
       (omega (arith, s .pre .0 .1), omega (arith, s .pre .0 .1)),
     )

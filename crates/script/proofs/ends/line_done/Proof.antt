@@ -46,11 +46,11 @@ returns c =
     let d = m .perform .ensures in (
       (performs-ready _ _ _ _ _ d, refl),
       (
-        performs-leaves _ _ _ _ _ d ∙ ap (λ o. callLeaves o (a .desk .now)) e,
+        performs-leaves _ _ _ _ _ d ∙ ap (λ o. callLeaves o (a .store .now)) e,
         (
           w .ensures .0
               ∙ ap (λ t. take (a .at) (a .out .now) ++ t)
-              (performs-text _ _ _ _ _ d ∙ ap (λ o. callText o (a .desk .now)) e),
+              (performs-text _ _ _ _ _ d ∙ ap (λ o. callText o (a .store .now)) e),
           omega arith,
         ),
       ),

@@ -20,7 +20,7 @@ returns c =
     let a = k .args in (
       k .pre .0,
       (
-        ended-long (a .desk .now) (a .line .now) (a .state .len) _ 0 _ (omega arith) refl
+        ended-long (a .store .now) (a .line .now) (a .state .len) _ 0 _ (omega arith) refl
             (u .print-unread .ensures .0),
         omega arith,
       ),
@@ -59,7 +59,7 @@ returns-2 c =
     let z : a .state .len - 0 ≡ a .state .len = omega arith in (
       d .0 .0,
       (
-        ended-line (a .desk .now) (a .line .now) (a .state .len) _ _ _ _ (omega arith) (d .0 .1)
+        ended-line (a .store .now) (a .line .now) (a .state .len) _ _ _ _ (omega arith) (d .0 .1)
             (rw z at (d .1 .0)) (rw z at (d .1 .1 .0)),
         omega arith,
       ),
