@@ -11,46 +11,51 @@ const ANSWER_WORDS: usize = 24;
 /// The words of the largest desk (32 sheets, 16 writers, 8 offices, 8 runs).
 pub const MOST_WORDS: usize = 287_514;
 
-extern "C" {
-    fn sheetdesk_new(
-        desk: *mut u32, desk_len: usize, k: u32, w: u32, n: u32, p: u32,
-        answer: *mut u32, answer_len: usize,
-    ) -> u32;
-    fn sheetdesk_open(
-        desk: *mut u32, desk_len: usize, run: u32, jobs: *const u32, jobs_len: usize,
-        answer: *mut u32, answer_len: usize,
-    ) -> u32;
-    fn sheetdesk_fetch(
-        desk: *mut u32, desk_len: usize, office: u32, sheet: u32,
-        answer: *mut u32, answer_len: usize,
-    ) -> u32;
-    fn sheetdesk_evict(
-        desk: *mut u32, desk_len: usize, office: u32, sheet: u32,
-        answer: *mut u32, answer_len: usize,
-    ) -> u32;
-    fn sheetdesk_prepare(
-        desk: *mut u32, desk_len: usize, run: u32, answer: *mut u32, answer_len: usize,
-    ) -> u32;
-    fn sheetdesk_step(
-        desk: *mut u32, desk_len: usize, run: u32, job: u32,
-        answer: *mut u32, answer_len: usize,
-    ) -> u32;
-    fn sheetdesk_issue(
-        desk: *mut u32, desk_len: usize, run: u32, writer: u32, mask: u32,
-        answer: *mut u32, answer_len: usize,
-    ) -> u32;
-    fn sheetdesk_drop(
-        desk: *mut u32, desk_len: usize, run: u32, answer: *mut u32, answer_len: usize,
-    ) -> u32;
-    fn sheetdesk_look(
-        desk: *const u32, desk_len: usize, place: u32, number: u32, sheet: u32,
-        answer: *mut u32, answer_len: usize,
-    ) -> u32;
-    fn sheetdesk_covers(p: *const u32, p_len: usize, q: *const u32, q_len: usize) -> u32;
-    fn sheetdesk_merge(
-        target: *mut u32, target_len: usize, source: *const u32, source_len: usize,
-    ) -> u32;
+/// The exports as C has them: a slice is a pointer and a length in words.
+pub mod exports {
+    extern "C" {
+        pub fn sheetdesk_new(
+            desk: *mut u32, desk_len: usize, k: u32, w: u32, n: u32, p: u32,
+            answer: *mut u32, answer_len: usize,
+        ) -> u32;
+        pub fn sheetdesk_open(
+            desk: *mut u32, desk_len: usize, run: u32, jobs: *const u32, jobs_len: usize,
+            answer: *mut u32, answer_len: usize,
+        ) -> u32;
+        pub fn sheetdesk_fetch(
+            desk: *mut u32, desk_len: usize, office: u32, sheet: u32,
+            answer: *mut u32, answer_len: usize,
+        ) -> u32;
+        pub fn sheetdesk_evict(
+            desk: *mut u32, desk_len: usize, office: u32, sheet: u32,
+            answer: *mut u32, answer_len: usize,
+        ) -> u32;
+        pub fn sheetdesk_prepare(
+            desk: *mut u32, desk_len: usize, run: u32, answer: *mut u32, answer_len: usize,
+        ) -> u32;
+        pub fn sheetdesk_step(
+            desk: *mut u32, desk_len: usize, run: u32, job: u32,
+            answer: *mut u32, answer_len: usize,
+        ) -> u32;
+        pub fn sheetdesk_issue(
+            desk: *mut u32, desk_len: usize, run: u32, writer: u32, mask: u32,
+            answer: *mut u32, answer_len: usize,
+        ) -> u32;
+        pub fn sheetdesk_drop(
+            desk: *mut u32, desk_len: usize, run: u32, answer: *mut u32, answer_len: usize,
+        ) -> u32;
+        pub fn sheetdesk_look(
+            desk: *const u32, desk_len: usize, place: u32, number: u32, sheet: u32,
+            answer: *mut u32, answer_len: usize,
+        ) -> u32;
+        pub fn sheetdesk_covers(p: *const u32, p_len: usize, q: *const u32, q_len: usize) -> u32;
+        pub fn sheetdesk_merge(
+            target: *mut u32, target_len: usize, source: *const u32, source_len: usize,
+        ) -> u32;
+    }
 }
+
+use exports::*;
 
 /// The numbers of an answer.
 #[derive(Clone, Copy, PartialEq, Eq, Debug)]

@@ -7,6 +7,9 @@
 //! script, or if too little was met. `differential --script FILE` works such a script again.
 #![allow(dead_code)]
 
+#[path = "../embed/sheetdesk.rs"]
+mod embed;
+
 #[path = "../reference"]
 mod reference {
     pub mod desk;

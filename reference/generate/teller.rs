@@ -49,19 +49,23 @@ pub struct Teller {
     state: u64,
 }
 
+/// The next number of a splitmix sequence.
+pub fn mixed(state: &mut u64) -> u64 {
+    *state = state.wrapping_add(0x9E37_79B9_7F4A_7C15);
+    let mut mixed = *state;
+    mixed = (mixed ^ (mixed >> 30)).wrapping_mul(0xBF58_476D_1CE4_E5B9);
+    mixed = (mixed ^ (mixed >> 27)).wrapping_mul(0x94D0_49BB_1331_11EB);
+    mixed ^ (mixed >> 31)
+}
+
 impl Teller {
     pub fn new(seed: u64) -> Teller {
         let words = vec![0; text::LENT];
         Teller { script: Vec::new(), words, counts: Counts::default(), state: seed }
     }
 
-    /// The next number of a splitmix sequence.
     pub fn next(&mut self) -> u64 {
-        self.state = self.state.wrapping_add(0x9E37_79B9_7F4A_7C15);
-        let mut mixed = self.state;
-        mixed = (mixed ^ (mixed >> 30)).wrapping_mul(0xBF58_476D_1CE4_E5B9);
-        mixed = (mixed ^ (mixed >> 27)).wrapping_mul(0x94D0_49BB_1331_11EB);
-        mixed ^ (mixed >> 31)
+        mixed(&mut self.state)
     }
 
     pub fn below(&mut self, count: usize) -> usize {

@@ -1,47 +1,7 @@
 //! The library's calls by the C convention: a slice is a pointer and a length in words.
 
+use crate::embed::exports::*;
 use crate::text::Call;
-
-extern "C" {
-    fn sheetdesk_new(
-        desk: *mut u32, desk_len: usize, k: u32, w: u32, n: u32, p: u32,
-        answer: *mut u32, answer_len: usize,
-    ) -> u32;
-    fn sheetdesk_open(
-        desk: *mut u32, desk_len: usize, run: u32, jobs: *const u32, jobs_len: usize,
-        answer: *mut u32, answer_len: usize,
-    ) -> u32;
-    fn sheetdesk_fetch(
-        desk: *mut u32, desk_len: usize, office: u32, sheet: u32,
-        answer: *mut u32, answer_len: usize,
-    ) -> u32;
-    fn sheetdesk_evict(
-        desk: *mut u32, desk_len: usize, office: u32, sheet: u32,
-        answer: *mut u32, answer_len: usize,
-    ) -> u32;
-    fn sheetdesk_drop(
-        desk: *mut u32, desk_len: usize, run: u32, answer: *mut u32, answer_len: usize,
-    ) -> u32;
-    fn sheetdesk_look(
-        desk: *const u32, desk_len: usize, place: u32, number: u32, sheet: u32,
-        answer: *mut u32, answer_len: usize,
-    ) -> u32;
-    fn sheetdesk_prepare(
-        desk: *mut u32, desk_len: usize, run: u32, answer: *mut u32, answer_len: usize,
-    ) -> u32;
-    fn sheetdesk_step(
-        desk: *mut u32, desk_len: usize, run: u32, job: u32,
-        answer: *mut u32, answer_len: usize,
-    ) -> u32;
-    fn sheetdesk_issue(
-        desk: *mut u32, desk_len: usize, run: u32, writer: u32, mask: u32,
-        answer: *mut u32, answer_len: usize,
-    ) -> u32;
-    fn sheetdesk_covers(p: *const u32, p_len: usize, q: *const u32, q_len: usize) -> u32;
-    fn sheetdesk_merge(
-        target: *mut u32, target_len: usize, source: *const u32, source_len: usize,
-    ) -> u32;
-}
 
 /// One call on lent words. Gives how many words of the answer were written.
 pub fn call(desk: &mut [u32], call: &Call, answer: &mut [u32]) -> u32 {

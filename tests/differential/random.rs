@@ -1,4 +1,6 @@
-//! A splitmix sequence of numbers.
+//! A sequence of numbers, as the generated scripts have it.
+
+use crate::teller::mixed;
 
 #[derive(Clone)]
 pub struct Random {
@@ -11,11 +13,7 @@ impl Random {
     }
 
     pub fn next(&mut self) -> u64 {
-        self.state = self.state.wrapping_add(0x9E37_79B9_7F4A_7C15);
-        let mut mixed = self.state;
-        mixed = (mixed ^ (mixed >> 30)).wrapping_mul(0xBF58_476D_1CE4_E5B9);
-        mixed = (mixed ^ (mixed >> 27)).wrapping_mul(0x94D0_49BB_1331_11EB);
-        mixed ^ (mixed >> 31)
+        mixed(&mut self.state)
     }
 
     pub fn below(&mut self, count: usize) -> usize {
