@@ -14,6 +14,7 @@ use Rattle.words.specs.Tests.{allBelow}
 use Rattle.words.proofs.Numbers.{when-le}
 use Rattle.words.proofs.Tests.{any-same}
 use Rattle.masks.specs.Mask.{testBit, maskBelow, unionBelow}
+use Rattle.masks.proofs.Bits.{test-when}
 use Rattle.masks.proofs.Sets.{union-more, mask-lt, test-mask, mask-ext-below, union-lt, test-union}
 use Rattle.sizes.specs.Bounds.{maxJobs, jobAt, between}
 use Rattle.sizes.specs.declared.Counts.{Counts}
@@ -23,7 +24,6 @@ use Rattle.layout.specs.Reading.{readJobs, readRun}
 use Rattle.model.proofs.Plans.{jobs-out, valid-out}
 use Rattle.form.specs.Parts.{jobFormed, readsOf}
 use Rattle.form.proofs.Runs.{job-words, wordsRun, run-words}
-use Rattle.reach.proofs.Masked.{test-when}
 
 -- One job more.
 pub reads-step : (l : List ℕ) (at mask j : ℕ) → j < maxJobs

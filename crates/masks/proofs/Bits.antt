@@ -12,6 +12,7 @@ use lib.Arith.{bin-ind}
 use lib.Dec.{eqb, eqb·zero-suc, eqb·suc-zero, eqb·suc-suc}
 use lib.Pow.{shr-shr, shl-exact, pow-mono, pow-lt}
 use lib.Bits.{bitOr, bitAnd, bitXor, differ, or-step, and-step, xor-step, or-shr, and-shr, xor-shr, or-lt, xor-lt, and-le-l}
+use Rattle.words.specs.Numbers.{when}
 use Rattle.words.proofs.Bools.{test, clash, eqb-eq, eqb-ne, eq-eqb, ne-eqb, or-true-right, or-false-right}
 use Rattle.words.proofs.Tests.{below-or-not}
 use Rattle.masks.specs.Mask.{testBit, withBit, withIf, without}
@@ -96,6 +97,11 @@ test-suc m j =
 pub test-none : (j : ℕ) → testBit 0 j ≡ false
 unfolding testBit
 test-none j = rw (zero-div (2 ^ j))
+
+pub test-when : (b : Bool) (x j : ℕ) → testBit (when b x) j ≡ b && testBit x j
+unfolding when
+test-when true x j = refl
+test-when false x j = test-none j
 
 double-even : (n : ℕ) → 2 ^ suc n % 2 ≡ 0
 double-even n = rw pow-suc (omega arith)

@@ -51,6 +51,11 @@ mask-same zero p q h = refl
 mask-same (suc n) p q h = rw (mask-same n p q (λ i k. h i (omega arith)), h n (omega arith))
 
 -- Two masks of items below n are equal if they have the same items below n.
+pub mask-no : (n : ℕ) (p : Items) → ((i : ℕ) → i < n → p i ≡ false) → maskBelow n p ≡ 0
+unfolding maskBelow withIf
+mask-no zero p h = refl
+mask-no (suc n) p h = rw (h n (omega arith)) (mask-no n p (λ i l. h i (omega arith)))
+
 pub mask-ext-below : (n a b : ℕ) → a < 2 ^ n → b < 2 ^ n
     → ((j : ℕ) → j < n → testBit a j ≡ testBit b j) → a ≡ b
 mask-ext-below n a b ha hb f =

@@ -33,11 +33,11 @@ outside-falls n a b h i l p q =
 
 -- ---- rounds
 
-pub round-grows : (n : ℕ) (edge : ℕ → Items) (m : Items) (d : ℕ) → So (m d) → So (round n edge m d)
+round-grows : (n : ℕ) (edge : ℕ → Items) (m : Items) (d : ℕ) → So (m d) → So (round n edge m d)
 unfolding round
 round-grows n edge m d p = or-left _ p
 
-pub round-adds : (n : ℕ) (edge : ℕ → Items) (m : Items) (t d : ℕ) → t < n
+round-adds : (n : ℕ) (edge : ℕ → Items) (m : Items) (t d : ℕ) → t < n
     → So (m t) → So (edge t d) → So (round n edge m d)
 unfolding round
 round-adds n edge m t d l p q =
@@ -193,17 +193,6 @@ pub closure-between : (n : ℕ) (edge : ℕ → Items) (s m : Items) → Within 
 closure-between n edge s m low up d l =
     same-test (closure-least n edge m (closure n edge s) up (closure-closed n edge s) d l)
     (closure-mono n edge edge s m (λ t _ i _ q. q) low d l)
-
--- A round stays within the closure.
-pub round-within : (n : ℕ) (edge : ℕ → Items) (m : Items)
-    → Within n (round n edge m) (closure n edge m)
-round-within n edge m d l p =
-    elim (round-from n edge m d p) [
-      | inl q ↦ closure-start n edge m d q
-      | inr q ↦
-          let y = closure-start n edge m (q .0) (q .2) in
-          closure-closed n edge m (q .0) d (q .1) l y (q .3)
-    ]
 
 -- A closed set is its own closure: where the recursion ends.
 pub closure-fixed : (n : ℕ) (edge : ℕ → Items) (m : Items) → Closed n edge m

@@ -1,2 +1,2 @@
 pub mod Closures
-pub mod Masked
+pub mod Frontiers

@@ -1,12 +1,11 @@
 -- The least set that holds a start set and is closed under a relation, of items below n.
 -- Reach: what is meant. closure: what is computed. Closed, outside.
--- edges, Rows: a relation as rows of masks.
+-- joining, Frontier: a set that grows from those that joined it last.
 -- Assumes nothing.
-use mathlib.Core.Bool.{not, _&&_, _||_, So}
-use mathlib.Core.List.{List}
-use Prim.Native.Nat.{ℕ, zero, suc, _≤_, _<_, _^_}
-use lib.ListN.{getD, length}
-use Rattle.words.specs.Tests.{Items, anyBelow}
+use mathlib.Core.Path.{_≡_}
+use mathlib.Core.Bool.{false, not, _&&_, _||_, So}
+use Prim.Native.Nat.{ℕ, zero, suc, _<_, _^_}
+use Rattle.words.specs.Tests.{Items, Within, anyBelow}
 use Rattle.words.specs.Numbers.{countBelow}
 use Rattle.masks.specs.Mask.{testBit}
 
@@ -35,13 +34,15 @@ closure n edge start = rounds n n edge start
 unfoldable pub outside : ℕ → Items → ℕ
 outside n m = countBelow n (λ i. not (m i))
 
--- The relation whose row t, a mask, has the items to which t leads.
-unfoldable pub edges : List ℕ → ℕ → Items
-edges l t = testBit (getD l t 0)
+-- ---- a set that grows, as masks
 
--- k rows of masks and one mask more, all of items below k.
-pub record Rows (l : List ℕ) (k m : ℕ) : Type 0 where
-  pub small : k ≤ 32
-  pub long : k ≤ length l
-  pub below : m < 2 ^ k
-  pub rows : (t : ℕ) → t < k → getD l t 0 < 2 ^ k
+-- The items outside of m to which a member of f leads.
+unfoldable pub joining : ℕ → (ℕ → Items) → Items → Items → Items
+joining n edge m f d = anyBelow n (λ t. f t && (not (m d) && edge t d))
+
+-- A set m of items below n, and its frontier f: only these of m may lead outside of m.
+pub record Frontier (n : ℕ) (edge : ℕ → Items) (m f : ℕ) : Type 0 where
+  pub below : m < 2 ^ n
+  pub within : Within n (testBit f) (testBit m)
+  pub settled : (t d : ℕ) → t < n → d < n → So (testBit m t) → testBit f t ≡ false
+      → So (edge t d) → So (testBit m d)

@@ -1,2 +1,3 @@
-pub mod Tables
+pub mod Views
+pub mod Leads
 pub mod Lacks

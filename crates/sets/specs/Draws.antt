@@ -1,18 +1,15 @@
--- What the contracts of the sets speak of: a place seen through a mask, the relations by which the
--- sets grow, and a relation as a table of masks.
--- viewAt, viewed: a view. DrawArea: where target and source lie. drawsIn, evictsIn: the relations.
--- rowsOf: the table.
+-- What the contracts of drawn sets speak of: a place seen through a mask, and which of its keys
+-- draws in which.
+-- viewAt, viewed: a view. DrawArea: where target and source lie. drawsIn: the relation.
 -- Assumes nothing.
-use mathlib.Core.Bool.{cond, _&&_}
+use mathlib.Core.Bool.{cond}
 use mathlib.Core.List.{List}
 use Prim.Native.Nat.{ℕ}
-use lib.ListN.{replicate}
 use Rattle.words.specs.Tests.{Items}
-use Rattle.words.specs.Words.{put}
-use Rattle.masks.specs.Mask.{testBit, maskBelow}
+use Rattle.masks.specs.Mask.{testBit}
 use Rattle.sizes.specs.declared.Counts.{Counts}
-use Rattle.model.specs.Algebra.{Place}
-use Rattle.model.specs.Version.{Version, held, dependency, versions}
+use Rattle.model.specs.Algebra.{Place, everything}
+use Rattle.model.specs.Version.{Version, versions}
 use Rattle.model.specs.Sets.{draws}
 use Rattle.layout.specs.Reading.{readPlace}
 use Rattle.version.specs.Places.{Area}
@@ -35,25 +32,9 @@ pub record DrawArea (len : ℕ) (z : Counts) (target : ℕ) (source : View) : Ty
   pub first-in : Area len z (source .first)
   pub second-in : Area len z (source .second)
 
--- ---- which key leads to which
+-- ---- which key draws in which
 
--- T and C: key t of the source draws in key d.
-abbrev pub drawsIn : Counts → List ℕ → ℕ → ℕ → View → ℕ → Items
-drawsIn z l scope target source =
-    draws (versions (z .writers)) (z .keys) (testBit scope) (readPlace z l target)
-    (viewed z l source)
-
--- E: key d of the place is held and needs key t.
-unfoldable pub evictsIn : Counts → List ℕ → ℕ → ℕ → Items
-evictsIn z l at t d =
-    let p = readPlace z l at in
-    held (p d) && dependency (z .writers) d (p d) t
-
--- ---- a relation as a table
-
-unfoldable pub noRows : List ℕ
-noRows = replicate 32 0
-
--- Row t: the keys below K to which t leads.
-unfoldable pub rowsOf : ℕ → (ℕ → Items) → List ℕ
-rowsOf K edge = put noRows 0 K (λ t. maskBelow K (edge t))
+-- T and C, in any scope: key t of the source draws in key d.
+abbrev pub drawsIn : Counts → List ℕ → ℕ → View → ℕ → Items
+drawsIn z l target source =
+    draws (versions (z .writers)) (z .keys) everything (readPlace z l target) (viewed z l source)

@@ -1,14 +1,16 @@
 // The least sets T, E and C as masks of keys, from the places of a buffer, and the caches that T
 // and E leave.
+pub mod growth;
 pub mod missing;
 
+use crate::growth::Rule;
+use crate::growth::grow;
 use masks::has;
-use masks::with_if;
-use reach::grow;
 use sizes::Counts;
 use version::clear_keys;
 use version::copy_keys;
 use version::held;
+use version::held_mask;
 use version::meets;
 use version::needs;
 ghost use mathlib.Core.Path.{_≡_};
@@ -20,10 +22,7 @@ ghost use Rattle.model.specs.Sets.{drawSet, fetchSet, fetched, evictSet, evicte
 ghost use Rattle.layout.specs.Reading.{readPlace};
 ghost use Rattle.version.specs.Places.{Area, Areas};
 ghost use Rattle.layout.specs.Stored.{putPlace};
-ghost use Rattle.sets.specs.Draws.{viewAt, viewed, DrawArea, drawsIn, evictsIn, rowsOf};
-
-// The mask of every key.
-const EVERY_KEY: u32 = 4294967295;
+ghost use Rattle.sets.specs.Draws.{viewAt, viewed, DrawArea, drawsIn};
 
 // A place seen through a mask: the first for the keys of the mask, the second for the others.
 pub struct View {
@@ -57,63 +56,22 @@ impl View {
     }
 }
 
-// Whether t draws in d: d is in the scope, needed by the source's t, the target does not meet that
-// need and the source holds d. Few keys need another: that is asked first.
-pub fn draws(
-    words: &[u32],
-    z: Counts,
-    scope: u32,
-    target: usize,
-    source: View,
-    t: usize,
-    d: usize,
-) -> bool
+// Whether t draws in d: d is needed by the source's t, the target does not meet that need and the
+// source holds d. Few keys need another: that is asked first.
+pub fn draws(words: &[u32], z: Counts, target: usize, source: View, t: usize, d: usize) -> bool
     requires { ⌜ DrawArea (length (now words)) z target source ⌝ }
     requires { ⌜ (t < z .keys) × (d < z .keys) ⌝ }
-    ensures { λ r. ⌜ r ≡ drawsIn z (now (words .entry)) scope target source t d ⌝ }
+    ensures { λ r. ⌜ r ≡ drawsIn z (now (words .entry)) target source t d ⌝ }
 {
     let from = source.place(t);
-    if !(has(scope, d as u32) & needs(words, z, from, t, d)) {
+    if !needs(words, z, from, t, d) {
         return false;
     }
     let other = source.place(d);
     !meets(words, z, target, d, from, t) & held(words, z, other, d)
 }
 
-// The keys that t draws in.
-pub fn draw_row(words: &[u32], z: Counts, scope: u32, target: usize, source: View, t: usize) -> u32
-    requires { ⌜ DrawArea (length (now words)) z target source ⌝ }
-    requires { ⌜ t < z .keys ⌝ }
-    ensures { λ r. ⌜ r ≡ maskBelow (z .keys)
-        (drawsIn z (now (words .entry)) scope target source t) ⌝ }
-{
-    let n = z.keys;
-    let mut mask: u32 = 0;
-    let mut d = 0;
-    while d < n {
-        mask = with_if(draws(words, z, scope, target, source, t, d), mask, d as u32);
-        d += 1;
-    }
-    mask
-}
-
-// For each key, the keys that it draws in.
-pub fn draw_table(words: &[u32], z: Counts, scope: u32, target: usize, source: View) -> [u32; 32]
-    requires { ⌜ DrawArea (length (now words)) z target source ⌝ }
-    ensures { λ r. ⌜ r ≡ rowsOf (z .keys)
-        (drawsIn z (now (words .entry)) scope target source) ⌝ }
-{
-    let n = z.keys;
-    let mut rows = [0u32; 32];
-    let mut t = 0;
-    while t < n {
-        rows[t] = draw_row(words, z, scope, target, source, t);
-        t += 1;
-    }
-    rows
-}
-
-// The least set that holds the start and what its members draw in. Nothing draws in nothing.
+// The least set that holds the start and what its members draw in.
 pub fn draw_set(
     words: &[u32],
     z: Counts,
@@ -129,12 +87,7 @@ pub fn draw_set(
         (readPlace z (now (words .entry)) target) (viewed z (now (words .entry)) source)
         (testBit start)) ⌝ }
 {
-    if start == 0 {
-        return 0;
-    }
-    let n = z.keys;
-    let drawn = draw_table(words, z, scope, target, source);
-    grow(&drawn, n as u32, start)
+    grow(words, z, Rule::Draw(target, source), scope, start, start)
 }
 
 // T: the keys that a cache takes from the master.
@@ -145,8 +98,9 @@ pub fn fetch_set(words: &[u32], z: Counts, master: usize, cache: usize, start: u
         (fetchSet (versions (z .writers)) (z .keys) (readPlace z (now (words .entry)) master)
         (readPlace z (now (words .entry)) cache) (testBit start)) ⌝ }
 {
+    let scope = held_mask(words, z, master);
     let source = View::of(master);
-    draw_set(words, z, EVERY_KEY, cache, source, start)
+    draw_set(words, z, scope, cache, source, start)
 }
 
 // The cache takes the master's version of each key in T. Answers T.
@@ -165,46 +119,6 @@ pub fn fetch_keys(words: &mut [u32], z: Counts, master: usize, cache: usize, sta
     taken
 }
 
-// Whether d leaves with t: d is held and needs t.
-pub fn evicts(words: &[u32], z: Counts, at: usize, t: usize, d: usize) -> bool
-    requires { ⌜ Area (length (now words)) z at ⌝ }
-    requires { ⌜ (t < z .keys) × (d < z .keys) ⌝ }
-    ensures { λ r. ⌜ r ≡ evictsIn z (now (words .entry)) at t d ⌝ }
-{
-    held(words, z, at, d) & needs(words, z, at, d, t)
-}
-
-// The keys that leave with t.
-pub fn evict_row(words: &[u32], z: Counts, at: usize, t: usize) -> u32
-    requires { ⌜ Area (length (now words)) z at ⌝ }
-    requires { ⌜ t < z .keys ⌝ }
-    ensures { λ r. ⌜ r ≡ maskBelow (z .keys) (evictsIn z (now (words .entry)) at t) ⌝ }
-{
-    let n = z.keys;
-    let mut mask: u32 = 0;
-    let mut d = 0;
-    while d < n {
-        mask = with_if(evicts(words, z, at, t, d), mask, d as u32);
-        d += 1;
-    }
-    mask
-}
-
-// For each key, the keys that leave with it.
-pub fn evict_table(words: &[u32], z: Counts, at: usize) -> [u32; 32]
-    requires { ⌜ Area (length (now words)) z at ⌝ }
-    ensures { λ r. ⌜ r ≡ rowsOf (z .keys) (evictsIn z (now (words .entry)) at) ⌝ }
-{
-    let n = z.keys;
-    let mut rows = [0u32; 32];
-    let mut t = 0;
-    while t < n {
-        rows[t] = evict_row(words, z, at, t);
-        t += 1;
-    }
-    rows
-}
-
 // E: the keys of the start, and the held ones that need a member.
 pub fn evict_set(words: &[u32], z: Counts, at: usize, start: u32) -> u32
     requires { ⌜ Area (length (now words)) z at ⌝ }
@@ -213,9 +127,8 @@ pub fn evict_set(words: &[u32], z: Counts, at: usize, start: u32) -> u32
         (evictSet (versions (z .writers)) (z .keys) (readPlace z (now (words .entry)) at)
         (testBit start)) ⌝ }
 {
-    let n = z.keys;
-    let leaving = evict_table(words, z, at);
-    grow(&leaving, n as u32, start)
+    let scope = held_mask(words, z, at);
+    grow(words, z, Rule::Evict(at), scope, start, start)
 }
 
 // E leaves the cache. Answers E.

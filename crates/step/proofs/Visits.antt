@@ -31,7 +31,7 @@ use Rattle.version.specs.Places.{choice, Areas}
 use Rattle.version.proofs.Stores.{place-beside}
 use Rattle.sets.specs.declared.View.{View}
 use Rattle.sets.specs.Draws.{viewed, DrawArea}
-use Rattle.sets.proofs.Tables.{chosen}
+use Rattle.sets.proofs.Views.{chosen}
 use Rattle.step.specs.declared.Visit.{Visit}
 use Rattle.step.specs.declared.Trial.{Trial}
 use Rattle.step.proofs.Divisions.{item-of}

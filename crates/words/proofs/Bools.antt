@@ -85,6 +85,15 @@ pub not-elim : {b : Bool} → So (not b) → b ≡ false
 not-elim {b = true} p = absurd (false≢true p)
 not-elim {b = false} p = refl
 
+-- A test that is made first, and ends the work where it fails.
+pub first-fails : (a b : Bool) → not a ≡ true → false ≡ a && b
+first-fails true b e = absurd (false≢true e)
+first-fails false b e = refl
+
+pub first-passes : (a b : Bool) → not a ≡ false → b ≡ a && b
+first-passes true b e = refl
+first-passes false b e = absurd (true≢false e)
+
 -- ---- tests of numbers
 
 so-of-T : {b : Bool} → T b → So b

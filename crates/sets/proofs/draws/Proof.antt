@@ -1,23 +1,16 @@
--- `draws` makes the four tests, the source's keys read where its view says.
+-- `draws` makes the three tests, the source's keys read where its view says.
 -- Assumes nothing.
-use mathlib.Core.Path.{_≡_, refl}
-use mathlib.Core.Bool.{Bool, true, false, not, _&&_, true≢false, false≢true}
 use borrow.Author.Needs.{needs}
 use lib.ListN.{length}
+use Rattle.words.proofs.Bools.{first-fails, first-passes}
 use Rattle.model.specs.Sets.{draws}
 use Rattle.version.specs.Places.{Area}
-use Rattle.sets.proofs.Tables.{view-key, view-area}
+use Rattle.sets.proofs.Views.{view-key, view-area}
 use Rattle.sets.proofs.draws.Statement.{statement}
 use Rattle.sets.proofs.draws.Tie as tie
 
 place-requires : tie.Need-place-requires
 place-requires c κs = search needs
-
-cast-has : tie.Need-cast-has
-cast-has c = search needs
-
-has-requires : tie.Need-has-requires
-has-requires c κs = search needs
 
 -- The place from which t is read.
 from : (c : tie.After-place) → Area (length (c .before .before .args .words .now))
@@ -29,55 +22,42 @@ from c =
     (view-area (length (a .words .now)) (a .z) (a .target) (a .source) (s .pre .0) (a .t))
 
 needs-requires : tie.Need-needs-requires
-needs-requires c κs = (from (c .before), c .before .before .before .pre .1)
-
--- What the first two tests leave of four.
-none : (a b x : Bool) → not (a && b) ≡ true → false ≡ a && (b && x)
-none true true x e = absurd (false≢true e)
-none true false x e = refl
-none false b x e = refl
-
-both : (a b x : Bool) → not (a && b) ≡ false → x ≡ a && (b && x)
-both true true x e = refl
-both true false x e = absurd (true≢false e)
-both false b x e = absurd (true≢false e)
+needs-requires c κs = (from c, c .before .before .pre .1)
 
 returns : tie.Need-returns
 unfolding draws
 returns c =
     let n = c .before in
-    let h = n .before in
-    let p = h .before in
+    let p = n .before in
     let a = p .before .before .args in
     rw (
       view-key (a .z) (a .words .now) (a .source) (a .t),
       ← p .place .ensures,
-      ← h .has .ensures,
       ← n .needs .ensures,
     )
-    (none (h .has .result) (n .needs .result) _ (c .if1 .taken))
+    (first-fails (n .needs .result) _ (c .if1 .taken))
 
 place-requires-2 : tie.Need-place-requires-2
 place-requires-2 c κs = search needs
 
 -- The place from which d is read.
-other : (c : tie.After-place2) → let s = c .before .before .before .before .before .before in
+other : (c : tie.After-place2) → let s = c .before .before .before .before .before in
     Area (length (s .args .words .now)) (s .args .z) (c .place2 .result)
 other c =
-    let s = c .before .before .before .before .before .before in
+    let s = c .before .before .before .before .before in
     let a = s .args in
     rw (c .place2 .ensures)
     (view-area (length (a .words .now)) (a .z) (a .target) (a .source) (s .pre .0) (a .d))
 
 meets-requires : tie.Need-meets-requires
 meets-requires c κs =
-    let p = c .before .before .before .before in
+    let p = c .before .before .before in
     let s = p .before .before in
     ((s .pre .0 .target-in, from p), (s .pre .1 .1, s .pre .1 .0))
 
 held-requires : tie.Need-held-requires
 held-requires c κs =
-    let s = c .before .before .before .before .before .before .before in
+    let s = c .before .before .before .before .before .before in
     (other (c .before), s .pre .1 .1)
 
 returns-2 : tie.Need-returns-2
@@ -87,28 +67,24 @@ returns-2 c =
     let o = m .before in
     let e = o .before in
     let n = e .before in
-    let h = n .before in
-    let p = h .before in
+    let p = n .before in
     let a = p .before .before .args in
     rw (
       view-key (a .z) (a .words .now) (a .source) (a .t),
       view-key (a .z) (a .words .now) (a .source) (a .d),
       ← p .place .ensures,
       ← o .place2 .ensures,
-      ← h .has .ensures,
       ← n .needs .ensures,
       ← m .meets .ensures,
       ← c .held .ensures,
     )
-    (both (h .has .result) (n .needs .result) _ (e .if1 .left))
+    (first-passes (n .needs .result) _ (e .if1 .left))
 
 pub draws-spec : {M : Type 1} → statement M
 draws-spec =
     tie.close
     (tie.spec
     place-requires
-    cast-has
-    has-requires
     needs-requires
     returns
     place-requires-2

@@ -7,7 +7,7 @@ use Rattle.model.specs.Version.{versions}
 use Rattle.model.specs.Store.{emptyPlace}
 use Rattle.model.specs.Sets.{evictSet, evicted}
 use Rattle.layout.specs.Reading.{readPlace}
-use Rattle.sets.proofs.Tables.{chosen}
+use Rattle.sets.proofs.Views.{chosen}
 use Rattle.sets.proofs.evict_keys.Statement.{statement}
 use Rattle.sets.proofs.evict_keys.Tie as tie
 

@@ -1,39 +1,32 @@
--- `evict_set` grows over its table.
+-- `evict_set` grows by the rule Evict from its start, in the scope of the held keys.
 -- Assumes nothing.
+use mathlib.Core.Path.{_∙_}
 use borrow.Author.Needs.{needs}
-use Rattle.model.specs.Sets.{evictSet}
-use Rattle.sets.specs.Draws.{evictsIn}
-use Rattle.sets.proofs.Tables.{table-rows, table-grown}
+use Rattle.reach.proofs.Frontiers.{first-frontier}
+use Rattle.sets.specs.declared.growth.Rule.{Rule}
+use Rattle.sets.specs.Leads.{RuleArea, leadsTo}
+use Rattle.sets.proofs.Leads.{evict-grown}
 use Rattle.sets.proofs.evict_set.Statement.{statement}
 use Rattle.sets.proofs.evict_set.Tie as tie
 
-evict-table-requires : tie.Need-evict-table-requires
-evict-table-requires c κs = search needs
-
-slice-aggregate-grow : tie.Need-slice-aggregate-grow
-slice-aggregate-grow c = search needs
-
-cast-grow : tie.Need-cast-grow
-cast-grow c = search needs
+held-mask-requires : tie.Need-held-mask-requires
+held-mask-requires c κs = search needs
 
 grow-requires : tie.Need-grow-requires
+unfolding RuleArea
 grow-requires c κs =
-    let s = c .before .before .before in
+    let s = c .before .before in
     let a = s .args in
-    rw (c .before .evict-table .ensures)
-    (table-rows (a .z .keys) (evictsIn (a .z) (a .words .now) (a .at))
-    (s .pre .0 .ranged .keys-high) (a .start) (s .pre .1))
+    let edge = leadsTo (a .z) (a .words .now) (Rule.Evict (a .at)) (c .held-mask .result) in
+    (s .pre .0, first-frontier (a .z .keys) edge (a .start) (s .pre .1))
 
 returns : tie.Need-returns
-unfolding evictSet evictsIn
 returns c =
-    let s = c .before .before .before .before in
-    let a = s .args in
-    rw (c .grow .ensures, c .before .before .evict-table .ensures)
-    (table-grown (a .z .keys) (evictsIn (a .z) (a .words .now) (a .at))
-    (s .pre .0 .ranged .keys-high) (a .start))
+    let h = c .before in
+    let a = h .before .before .args in
+    c .grow .ensures
+    ∙ evict-grown (a .z) (a .words .now) (a .at) (h .held-mask .result) (a .start)
+    (h .held-mask .ensures)
 
 pub evict-set-spec : {M : Type 1} → statement M
-evict-set-spec =
-    tie.close
-    (tie.spec evict-table-requires slice-aggregate-grow cast-grow grow-requires returns)
+evict-set-spec = tie.close (tie.spec held-mask-requires grow-requires returns)

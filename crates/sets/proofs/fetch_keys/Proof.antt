@@ -6,7 +6,7 @@ use Rattle.masks.specs.Mask.{testBit}
 use Rattle.model.specs.Version.{versions}
 use Rattle.model.specs.Sets.{fetchSet, fetched}
 use Rattle.layout.specs.Reading.{readPlace}
-use Rattle.sets.proofs.Tables.{chosen}
+use Rattle.sets.proofs.Views.{chosen}
 use Rattle.sets.proofs.fetch_keys.Statement.{statement}
 use Rattle.sets.proofs.fetch_keys.Tie as tie
 
