@@ -7,6 +7,8 @@
 //! `counted_reference`, for a tool that counts instructions.
 #![allow(dead_code)]
 
+#[path = "../embed/sheetdesk.rs"]
+mod embed;
 #[path = "../reference"]
 mod reference {
     pub mod desk;

@@ -2,6 +2,7 @@
 # Measures, and puts the tables into docs/PERFORMANCE.md between its two marks.
 # Usage, from the repository's root, on a quiet machine, after `rt staticlib sheetdesk_c`:
 #   sh bench/run.sh [PROGRAM]
+#   sh bench/run.sh --try      only builds, and makes each call once on each side: both must leave the same desk
 # PROGRAM is the text program (target/bin/sheetdesk); without it its tables are left out.
 # Needs rustc, and valgrind for the counts of instructions. About 2 minutes.
 set -eu
@@ -15,6 +16,14 @@ rustc --edition 2021 -C opt-level=3 -o "$out/program" bench/program.rs
 for name in sheetdesk generate; do
     rustc --edition 2021 -C opt-level=3 -o "$out/$name" "reference/$name.rs"
 done
+
+if [ "$program" = --try ]; then
+    for desk in "2 2 2 1" "8 4 4 4" "32 16 8 8"; do
+        "$out/calls" --count $desk >"$out/names.txt"
+    done
+    echo "bench: each call does the same on both sides"
+    exit 0
+fi
 
 # Instructions of one call on each side: a dump after each counted function, in order.
 instructions() {

@@ -19,7 +19,7 @@ fn copies(words: &[u32]) -> usize {
     (65_536 / words.len()).clamp(2, 512)
 }
 
-fn time(desks: &mut [Vec<u32>], case: &Case, call: impl Fn(&mut [u32])) -> f64 {
+fn time(desks: &mut [Vec<u32>], case: &Case, mut call: impl FnMut(&mut [u32])) -> f64 {
     for desk in desks.iter_mut() {
         desk.copy_from_slice(&case.words);
     }
@@ -30,10 +30,9 @@ fn time(desks: &mut [Vec<u32>], case: &Case, call: impl Fn(&mut [u32])) -> f64 {
     start.elapsed().as_nanos() as f64 / desks.len() as f64
 }
 
-fn by_library(words: &mut [u32], case: &Case) {
-    let mut answer = [0; 24];
-    black_box(library::call(words, &case.call, &mut answer));
-    black_box(answer);
+/// The answer's words are lent too, by whoever calls.
+fn by_library(words: &mut [u32], case: &Case, answer: &mut [u32]) {
+    black_box(library::call(words, &case.call, black_box(answer)));
 }
 
 fn by_reference(words: &mut [u32], case: &Case) {
@@ -50,11 +49,14 @@ fn middle(values: &mut [f64]) -> f64 {
 pub fn measure(case: &Case, rounds: usize) -> Cost {
     check(case);
     let mut desks = vec![case.words.clone(); copies(&case.words)];
+    let mut answer = [0; 24];
     let (mut mine, mut theirs, mut ratios) = (Vec::new(), Vec::new(), Vec::new());
     for _ in 0..rounds {
         let (mut library, mut reference) = (f64::MAX, f64::MAX);
         for _ in 0..3 {
-            library = library.min(time(&mut desks, case, |words| by_library(words, case)));
+            library = library.min(time(&mut desks, case, |words| {
+                by_library(words, case, &mut answer);
+            }));
             reference = reference.min(time(&mut desks, case, |words| by_reference(words, case)));
         }
         mine.push(library);

@@ -2,10 +2,11 @@
 -- dominates-..: an order. join-..: the least upper bound. present-..: who is in a clock.
 -- Assumes nothing.
 use mathlib.Core.Path.{_≡_, sym, fun-ext}
-use mathlib.Core.Bool.{Bool, true, false, So}
+use mathlib.Core.Bool.{Bool, true, false, _||_, So}
 use mathlib.Core.Logic.{_↔_, _⊎_, inl, inr}
 use Prim.Native.Nat.{ℕ, _≤_, _<_, max}
 use native.Mathlib.Omega.{arith}
+use lib.Bits.{bitOr, or-zero-l, or-comm, or-add-and, and-le-l}
 use lib.Dec.{leb}
 use Rattle.words.proofs.Bools.{test, clash, leb-le, le-leb, leb-gt, gt-leb}
 use Rattle.words.proofs.Tests.{any-intro, any-some, any-no, any-same, all-intro, all-at, all-same}
@@ -89,6 +90,17 @@ present-some W p s =
 pub present-intro : (W : ℕ) (p : Clock) (w : ℕ) → w < W → 1 ≤ p w → So (present W p)
 unfolding present
 present-intro W p w l h = any-intro W (λ w. leb 1 (p w)) w l (le-leb 1 (p w) h)
+
+-- Two counts taken together.
+pub or-present : (a b : ℕ) → leb 1 (bitOr a b) ≡ leb 1 a || leb 1 b
+or-present a b =
+    test (leb 1 a)
+    (λ y. rw (
+      y,
+      le-leb 1 (bitOr a b)
+          (omega (arith, leb-le 1 a y, or-comm a b, or-add-and b a, and-le-l b a)),
+    ))
+    (λ n. let e : a ≡ 0 = omega (arith, leb-gt 1 a n) in rw (e, or-zero-l b))
 
 pub present-mono : (W : ℕ) (p q : Clock) → Dominates W p q → So (present W q) → So (present W p)
 present-mono W p q c s =

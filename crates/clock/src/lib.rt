@@ -22,19 +22,19 @@ pub fn dominates(words: &[u32], a: usize, b: usize, w: usize) -> bool
     true
 }
 
-// Whether some writer is present in the clock at an index.
+// Whether some writer is present in the clock at an index. All counts are read: that is quicker
+// than to stop at the first.
 pub fn present(words: &[u32], at: usize, w: usize) -> bool
     requires { ⌜ at + w ≤ length (now words) ⌝ }
     ensures { λ r. ⌜ r ≡ present w (clockAt (now (words .entry)) at) ⌝ }
 {
+    let mut all: u32 = 0;
     let mut i = 0;
     while i < w {
-        if words[at + i] != 0 {
-            return true;
-        }
+        all = all | words[at + i];
         i += 1;
     }
-    false
+    1 <= all
 }
 
 // Merges n counts at src into those at dst: each becomes the larger of the two.

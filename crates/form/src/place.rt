@@ -4,9 +4,9 @@ use sizes::Counts;
 use version::held;
 use version::row_of;
 ghost use mathlib.Core.Path.{_≡_};
-ghost use Prim.Native.Nat.{_+_, _≤_, _<_};
+ghost use Prim.Native.Nat.{_<_};
 ghost use lib.ListN.{length};
-ghost use Rattle.clock.specs.Clock.{present, clockAt};
+ghost use Rattle.clock.specs.Clock.{present};
 ghost use Rattle.model.specs.Form.{zeroRows, versionFormed, placeFormed};
 ghost use Rattle.layout.specs.Reading.{readPlace};
 ghost use Rattle.version.specs.Places.{Area};
@@ -22,21 +22,6 @@ pub fn has_row(words: &[u32], z: Counts, at: usize, k: usize, d: usize) -> bool
     present(words, row, z.writers)
 }
 
-// Whether one of n words isn't zero, from index at on. All of them are read: that is quicker than
-// to stop at the first.
-pub fn any_word(words: &[u32], at: usize, n: usize) -> bool
-    requires { ⌜ at + n ≤ length (now words) ⌝ }
-    ensures { λ r. ⌜ r ≡ present n (clockAt (now (words .entry)) at) ⌝ }
-{
-    let mut all: u32 = 0;
-    let mut i = 0;
-    while i < n {
-        all = all | words[at + i];
-        i += 1;
-    }
-    1 <= all
-}
-
 // Whether the version of key k has only zero rows.
 pub fn zero_rows(words: &[u32], z: Counts, at: usize, k: usize) -> bool
     requires { ⌜ Area (length (now words)) z at ⌝ }
@@ -45,7 +30,7 @@ pub fn zero_rows(words: &[u32], z: Counts, at: usize, k: usize) -> bool
 {
     let row = row_of(z, at, k, 0);
     let n = z.past_size();
-    !any_word(words, row, n)
+    !present(words, row, n)
 }
 
 // Whether the version of key k is in form: held with an own row that isn't zero, or all zero.

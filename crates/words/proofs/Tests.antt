@@ -1,15 +1,15 @@
 -- Laws of tests of every number below a bound.
 -- Assumes nothing.
 use mathlib.Core.Path.{_≡_, refl, sym, ap, _∙_}
-use mathlib.Core.Bool.{false, _&&_, _||_, So, false≢true, true≢false}
+use mathlib.Core.Bool.{Bool, true, false, not, _&&_, _||_, So, false≢true, true≢false}
 use mathlib.Core.Logic.{_⊎_, inl, inr}
-use Prim.Native.Nat.{ℕ, zero, suc, _+_, _≤_, _<_}
+use Prim.Native.Nat.{ℕ, zero, suc, _+_, _*_, _≤_, _<_}
 use native.Mathlib.Omega.{arith}
 use native.Mathlib.Nat.{not-suc-le-zero}
 use native.Mathlib.Numerals.{add-one}
 use native.Mathlib.Decide.{decLt, ℕ-discrete}
 use Rattle.words.specs.Tests.{Items, anyBelow, allBelow}
-use Rattle.words.proofs.Bools.{and-intro, and-left, and-right, and-cases, and-false-right, or-left, or-right, or-cases, or-none}
+use Rattle.words.proofs.Bools.{and-intro, and-left, and-right, and-cases, and-false-right, or-left, or-right, or-cases, or-none, or-false-right}
 
 -- Below `suc n`: the last one, or below n.
 pub below-cases {ℓ} : {X : Type ℓ} (i n : ℕ) → i < suc n → (i ≡ n → X) → (i < n → X) → X
@@ -101,3 +101,38 @@ all-more p n = rw add-one
 
 pub all-yes : (p : Items) (n : ℕ) → So (allBelow n p) → So (p n) → So (allBelow (n + 1) p)
 all-yes p n h k = rw (all-more, h, k)
+
+-- ---- by rows
+
+or-assoc : (a b c : Bool) → (a || b) || c ≡ a || (b || c)
+or-assoc true b c = refl
+or-assoc false b c = refl
+
+pub any-plus : (p : Items) (m n : ℕ)
+    → anyBelow (m + n) p ≡ anyBelow m p || anyBelow n (λ i. p (m + i))
+unfolding anyBelow
+any-plus p m zero =
+    let e : m + 0 ≡ m = omega arith in
+    rw e (sym (or-false-right (anyBelow m p)))
+any-plus p m (suc n) =
+    let e : m + suc n ≡ suc (m + n) = omega arith in
+    rw (e, any-plus p m n) (or-assoc (anyBelow m p) (anyBelow n (λ i. p (m + i))) (p (m + n)))
+
+pub any-rows : (p : Items) (W K : ℕ)
+    → anyBelow (K * W) p ≡ anyBelow K (λ d. anyBelow W (λ w. p (d * W + w)))
+unfolding anyBelow
+any-rows p W zero =
+    let e : 0 * W ≡ 0 = omega arith in
+    rw e
+any-rows p W (suc K) =
+    let e : suc K * W ≡ K * W + W = omega arith in
+    rw (e, any-plus p (K * W) W, any-rows p W K)
+
+pub all-not : (n : ℕ) (p : Items) → allBelow n (λ i. not (p i)) ≡ not (anyBelow n p)
+unfolding anyBelow allBelow
+all-not zero p = refl
+all-not (suc n) p = rw (all-not n p) (not-or (anyBelow n p) (p n))
+  where
+    not-or : (a b : Bool) → not a && not b ≡ not (a || b)
+    not-or true b = refl
+    not-or false b = refl

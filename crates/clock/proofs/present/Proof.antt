@@ -1,40 +1,35 @@
--- `present` answers whether some count of a clock is not zero.
--- The loop's invariant: the counts passed are zero.
+-- `present` answers whether some count of a clock is not zero. The loop's invariant: so it does
+-- for the counts passed.
 -- Assumes nothing.
-use mathlib.Core.Path.{_≡_, sym}
-use Prim.Native.Nat.{ℕ, _≤_, _<_, _-_}
+use mathlib.Core.Path.{_≡_, refl, sym, _∙_}
+use Prim.Native.Nat.{_≤_, _-_}
 use native.Mathlib.Omega.{arith}
-use Rattle.words.proofs.Tests.{below-cases}
-use Rattle.clock.specs.Clock.{clockAt}
-use Rattle.clock.proofs.Order.{present-intro, present-no}
+use lib.Dec.{leb}
+use Rattle.words.specs.Tests.{anyBelow}
+use Rattle.words.proofs.Tests.{any-more}
+use Rattle.clock.specs.Clock.{present, clockAt}
+use Rattle.clock.proofs.Order.{or-present}
 use Rattle.clock.proofs.present.Statement.{statement}
 use Rattle.clock.proofs.present.Tie as tie
 
 abbrev Inv-loop : tie.InvT-loop
-Inv-loop words at w i₀ i = (i ≤ w) × ((j : ℕ) → j < i → clockAt words at j ≡ 0)
+Inv-loop words at w all₀ i₀ all i = (i ≤ w) × (leb 1 all ≡ present i (clockAt words at))
 
 abbrev μ-loop : tie.MeasureT-loop
-μ-loop words at w i₀ i = w - i
+μ-loop words at w all₀ i₀ all i = w - i
 
 loop-holds : tie.Need-loop-holds Inv-loop μ-loop
-loop-holds c = (omega arith, λ w l. omega arith)
+unfolding present anyBelow
+loop-holds c = (omega arith, refl)
 
-add-if1 : tie.Need-add-if1 Inv-loop μ-loop
-add-if1 c = omega arith
+add-all : tie.Need-add-all Inv-loop μ-loop
+add-all c = omega arith
 
-mul-if1 : tie.Need-mul-if1 Inv-loop μ-loop
-mul-if1 c = omega arith
+mul-all : tie.Need-mul-all Inv-loop μ-loop
+mul-all c = omega arith
 
-shared-slice-read-if1 : tie.Need-shared-slice-read-if1 Inv-loop μ-loop
-shared-slice-read-if1 c = omega arith
-
-returns : tie.Need-returns Inv-loop μ-loop
-unfolding clockAt
-returns c =
-    let l = c .before .before .before in
-    let a = l .before .args in
-    let p = clockAt (a .words .now) (a .at) in
-    sym (present-intro (a .w) p (l .loop .i) (omega arith) (omega arith))
+shared-slice-read-all : tie.Need-shared-slice-read-all Inv-loop μ-loop
+shared-slice-read-all c = omega arith
 
 add-i : tie.Need-add-i Inv-loop μ-loop
 add-i c = omega arith
@@ -43,20 +38,22 @@ loop-less : tie.Need-loop-less Inv-loop μ-loop
 loop-less c = omega arith
 
 loop-again : tie.Need-loop-again Inv-loop μ-loop
-unfolding clockAt
+unfolding present clockAt
 loop-again c =
-    let l = c .before .before .before in (
+    let l = c .before .before in
+    let a = l .before .args in
+    let C = clockAt (a .words .now) (a .at) in
+    let i = l .loop .i in (
       omega arith,
-      λ j k. below-cases j (l .loop .i) (omega arith)
-          (λ e. rw e (omega arith)) (λ m. l .loop .inv .1 j m),
+      or-present (l .loop .all) (C i)
+          ∙ rw (l .loop .inv .1) (sym (any-more (λ u. leb 1 (C u)) i)),
     )
 
-returns-2 : tie.Need-returns-2 Inv-loop μ-loop
-returns-2 c =
+returns : tie.Need-returns Inv-loop μ-loop
+returns c =
     let l = c .before in
-    let a = l .before .args in
-    let p = clockAt (a .words .now) (a .at) in
-    sym (present-no (a .w) p (λ j k. l .loop .inv .1 j (omega arith)))
+    let e : l .loop .i ≡ l .before .args .w = omega arith in
+    rw (← e) (l .loop .inv .1)
 
 pub present-spec : {M : Type 1} → statement M
 present-spec =
@@ -65,11 +62,10 @@ present-spec =
     Inv-loop
     μ-loop
     loop-holds
-    add-if1
-    mul-if1
-    shared-slice-read-if1
-    returns
+    add-all
+    mul-all
+    shared-slice-read-all
     add-i
     loop-less
     loop-again
-    returns-2)
+    returns)

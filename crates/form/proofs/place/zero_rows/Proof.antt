@@ -14,8 +14,8 @@ row-of-requires c κs =
 past-size-requires : tie.Need-past-size-requires
 past-size-requires c κs = search needs
 
-any-word-requires : tie.Need-any-word-requires
-any-word-requires c κs =
+present-requires : tie.Need-present-requires
+present-requires c κs =
     let s = c .before .before .before in
     let a = s .args in
     rw (c .past-size .ensures, c .before .row-of .ensures)
@@ -26,9 +26,9 @@ returns c =
     let p = c .before in
     let s = p .before .before .before in
     let a = s .args in
-    rw (c .any-word .ensures, p .past-size .ensures, p .before .row-of .ensures)
+    rw (c .present .ensures, p .past-size .ensures, p .before .row-of .ensures)
     (flat-rows (a .z) (a .words .now) (a .at) (a .k) (s .pre .1))
 
 pub zero-rows-spec : {M : Type 1} → statement M
 zero-rows-spec =
-    tie.close (tie.spec row-of-requires past-size-requires any-word-requires returns)
+    tie.close (tie.spec row-of-requires past-size-requires present-requires returns)
