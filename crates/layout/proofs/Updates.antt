@@ -214,7 +214,8 @@ pub put-masks : (s : Store) (l : List ℕ) (r x y : ℕ) → r < s .counts .runs
 unfolding runSize runWords withJobDone
 put-masks s l r x y h =
     let a = s .run r in
-    put-run-part s l r doneOffset (x ∷ y ∷ []) (withJobDone a x y (a .snapshot)) h (omega arith) refl
+    put-run-part s l r doneOffset (x ∷ y ∷ []) (withJobDone a x y (a .snapshot)) h (omega arith)
+    refl
 
 -- ---- one change after another
 
