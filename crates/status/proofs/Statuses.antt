@@ -2,7 +2,7 @@
 -- freed-words: zeros. marked-words: two masks. spoiled-words: the state.
 -- put-on: words stored after others, as one store.
 -- Assumes nothing.
-use mathlib.Core.Path.{_≡_, refl, sym, ap, _∙_}
+use mathlib.Core.Path.{_≡_, sym, ap, _∙_}
 use mathlib.Core.List.{List}
 use mathlib.Core.Logic.{_≢_}
 use Prim.Native.Nat.{ℕ, zero, suc, _+_}
