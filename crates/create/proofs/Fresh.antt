@@ -13,7 +13,7 @@ use Rattle.words.specs.Words.{put}
 use Rattle.words.specs.Lists.{blocks}
 use Rattle.sizes.specs.declared.Counts.{Counts}
 use Rattle.sizes.specs.declared.Sizes.{Sizes}
-use Rattle.sizes.specs.Bounds.{pastSize, versionSize, placeSize, siteSize, writerSize, runSize, masterAt, sitesAt, writersAt, runsAt, totalOf}
+use Rattle.sizes.specs.Bounds.{snapshotOffset, pastSize, versionSize, placeSize, siteSize, writerSize, runSize, masterAt, sitesAt, writersAt, runsAt, totalOf}
 use Rattle.model.specs.Version.{zeroPast, unheld}
 use Rattle.model.specs.Store.{emptyPlace, noWriter, noSite, freeRun, fresh}
 use Rattle.layout.specs.Words.{clockWords, pastWords, versionWords, placeWords, siteWords, sitesWords, writerWords, writersWords, jobWords, jobsWords, runWords, runsWords, headerWords, storeWords}
@@ -79,8 +79,8 @@ module _ (z : Counts) where
   run-zero : runWords z freeRun ≡ zeros (runSize z)
   unfolding runWords runSize jobsWords jobWords blocks
   run-zero =
-      zero-join (zeros 28) (placeWords z emptyPlace) 28 (placeSize z) (runSize z)
-      refl place-zero refl
+      zero-join (zeros snapshotOffset) (placeWords z emptyPlace) snapshotOffset (placeSize z)
+      (runSize z) refl place-zero refl
 
   runs-zero : runsWords z (λ r. freeRun) ≡ zeros (z .runs * runSize z)
   unfolding runsWords

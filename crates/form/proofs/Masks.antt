@@ -16,14 +16,14 @@ use Rattle.words.proofs.Tests.{any-same}
 use Rattle.masks.specs.Mask.{testBit, maskBelow, unionBelow}
 use Rattle.masks.proofs.Bits.{test-when}
 use Rattle.masks.proofs.Sets.{union-more, mask-lt, test-mask, mask-ext-below, union-lt, test-union}
-use Rattle.sizes.specs.Bounds.{maxJobs, jobAt, between}
+use Rattle.sizes.specs.Bounds.{maxJobs, jobsOffset, doneOffset, readOffset, planOffset, jobAt, between}
 use Rattle.sizes.specs.declared.Counts.{Counts}
 use Rattle.model.specs.Form.{jobsFormed, masksFormed}
 use Rattle.model.specs.Store.{Job, Run, doneReads}
 use Rattle.layout.specs.Reading.{readJobs, readRun}
 use Rattle.model.proofs.Plans.{jobs-out, valid-out}
 use Rattle.form.specs.Parts.{jobFormed, readsOf}
-use Rattle.form.proofs.Runs.{job-words, wordsRun, run-words}
+use Rattle.form.proofs.Runs.{job-words, run-words}
 
 -- One job more.
 pub reads-step : (l : List ℕ) (at mask j : ℕ) → j < maxJobs
@@ -65,22 +65,22 @@ reads-done z a p mask =
 -- ---- what the code tests is what is asked
 
 module _ (z : Counts) (l : List ℕ) (at : ℕ) where
-  pub jobs-test : let n = getD l (at + 1) 0 in
-      between maxJobs n && allBelow maxJobs (λ i. jobFormed z n i (readJobs l (at + 4) i))
+  pub jobs-test : let n = getD l (at + jobsOffset) 0 in
+      between maxJobs n && allBelow maxJobs (λ i. jobFormed z n i (readJobs l (at + planOffset) i))
       ≡ jobsFormed z (readRun z l at)
   unfolding jobsFormed jobFormed
   jobs-test = rw (run-words z l at)
 
   -- There are 8 jobs at most.
-  pub jobs-most : So (jobsFormed z (readRun z l at)) → getD l (at + 1) 0 ≤ maxJobs
+  pub jobs-most : So (jobsFormed z (readRun z l at)) → getD l (at + jobsOffset) 0 ≤ maxJobs
   unfolding readRun
   jobs-most p = jobs-out z (readRun z l at) p .high
 
-  pub masks-test : So (jobsFormed z (readRun z l at)) → let n = getD l (at + 1) 0 in
-      let done = getD l (at + 2) 0 in
-      ltb done (2 ^ n) && eqb (getD l (at + 3) 0) (readsOf n (readJobs l (at + 4)) done)
+  pub masks-test : So (jobsFormed z (readRun z l at)) → let n = getD l (at + jobsOffset) 0 in
+      let done = getD l (at + doneOffset) 0 in
+      let reads = readsOf n (readJobs l (at + planOffset)) done in
+      ltb done (2 ^ n) && eqb (getD l (at + readOffset) 0) reads
       ≡ masksFormed z (readRun z l at)
   unfolding masksFormed
   masks-test p =
-      let a = wordsRun z l at in
-      rw (run-words z l at, reads-done z a (rw (run-words z l at) at p) (a .done))
+      let a = readRun z l at in rw (← reads-done z a p (a .done), run-words z l at)

@@ -16,7 +16,7 @@ use Rattle.masks.specs.Mask.{testBit, maskBelow, without}
 use Rattle.masks.proofs.Bits.{test-without, without-lt}
 use Rattle.masks.proofs.Sets.{mask-lt, test-mask, mask-none, set-none}
 use Rattle.clock.specs.Clock.{present}
-use Rattle.sizes.specs.Bounds.{maxJobs}
+use Rattle.sizes.specs.Bounds.{maxJobs, jobsOffset, doneOffset, readOffset, planOffset, snapshotOffset}
 use Rattle.sizes.specs.declared.Counts.{Counts}
 use Rattle.model.specs.Algebra.{Place, implies}
 use Rattle.model.specs.Form.{zeroJob, zeroRows, versionFormed, placeFormed, freeFormed, jobsFormed, masksFormed, snapshotFormed}
@@ -26,7 +26,7 @@ use Rattle.layout.specs.Reading.{readJobs, readPlace, readRun}
 use Rattle.model.proofs.Plans.{jobs-out, masks-out}
 use Rattle.form.specs.Parts.{jobFormed, readsOf}
 use Rattle.form.proofs.Masks.{test-reads}
-use Rattle.form.proofs.Runs.{wordsRun, run-words}
+use Rattle.form.proofs.Runs.{run-words}
 
 -- ---- tests of every number
 
@@ -147,19 +147,21 @@ no-jobs z job =
 
 module _ (z : Counts) (l : List ℕ) (at : ℕ) where
   pub snapshot-test : So (jobsFormed z (readRun z l at)) → So (masksFormed z (readRun z l at))
-      → let p = readPlace z l (at + 28) in
+      → let p = readPlace z l (at + snapshotOffset) in
+      let plan = readsOf (getD l (at + jobsOffset) 0) (readJobs l (at + planOffset)) 255 in
       placeFormed z p
-      && (eqb (without (heldMask z p) (readsOf (getD l (at + 1) 0) (readJobs l (at + 4)) 255)) 0
-      && eqb (without (getD l (at + 3) 0) (heldMask z p)) 0)
+      && (eqb (without (heldMask z p) plan) 0
+      && eqb (without (getD l (at + readOffset) 0) (heldMask z p)) 0)
       ≡ snapshotFormed z (readRun z l at)
-  snapshot-test J M =
-      let e = run-words z l at in
-      rw e (carried-test z (wordsRun z l at) (rw e at J) (rw e at M))
+  unfolding readRun
+  snapshot-test J M = carried-test z (readRun z l at) J M
 
-  pub free-test : let p = readPlace z l (at + 28) in
-      eqb (getD l (at + 1) 0) 0 && (eqb (getD l (at + 2) 0) 0 && (eqb (getD l (at + 3) 0) 0
-      && (allBelow maxJobs (λ i. jobFormed z 0 i (readJobs l (at + 4) i))
+  pub free-test : let p = readPlace z l (at + snapshotOffset) in
+      eqb (getD l (at + jobsOffset) 0) 0
+      && (eqb (getD l (at + doneOffset) 0) 0
+      && (eqb (getD l (at + readOffset) 0) 0
+      && (allBelow maxJobs (λ i. jobFormed z 0 i (readJobs l (at + planOffset) i))
       && allBelow (z .keys) (λ k. not (held (p k)) && zeroRows z (p k)))))
       ≡ freeFormed z (readRun z l at)
   unfolding freeFormed
-  free-test = rw (run-words z l at, no-jobs z (readJobs l (at + 4)))
+  free-test = rw (run-words z l at, no-jobs z (readJobs l (at + planOffset)))

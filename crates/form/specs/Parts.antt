@@ -9,7 +9,7 @@ use Prim.Native.Nat.{ℕ, _+_, _≤_, _<_}
 use lib.Dec.{ltb}
 use Rattle.words.specs.Numbers.{when}
 use Rattle.masks.specs.Mask.{testBit, unionBelow}
-use Rattle.sizes.specs.Bounds.{Ranged, placeSize, totalOf}
+use Rattle.sizes.specs.Bounds.{Ranged, snapshotOffset, placeSize, totalOf}
 use Rattle.sizes.specs.declared.Counts.{Counts}
 use Rattle.model.specs.Store.{Job}
 use Rattle.model.specs.Form.{validJob, zeroJob}
@@ -29,11 +29,11 @@ readsOf n job mask = unionBelow n (λ j. when (testBit mask j) (job j .reads))
 
 -- ---- where a part lies in a buffer of len words
 
--- The run at an index: 28 words, and the snapshot.
+-- The run at an index.
 pub record RunArea (len : ℕ) (z : Counts) (at : ℕ) : Type 0 where
   pub ranged : Ranged z
-  pub low : at + 28 < 1000000
-  pub fits : at + 28 + placeSize z ≤ len
+  pub low : at + snapshotOffset < 1000000
+  pub fits : at + snapshotOffset + placeSize z ≤ len
 
 -- The whole store.
 pub record StoreArea (len : ℕ) (z : Counts) : Type 0 where

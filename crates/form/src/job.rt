@@ -4,13 +4,14 @@ use masks::mask_if;
 use sizes::Counts;
 use sizes::Sizes;
 use sizes::job_at;
+use sizes::run::JobOffset;
 use words::wide;
 ghost use mathlib.Core.Path.{_≡_};
 ghost use Prim.Native.Nat.{_+_, _^_, _≤_, _<_};
 ghost use lib.Dec.{ltb};
 ghost use lib.ListN.{length};
 ghost use Rattle.words.specs.Tests.{allBelow};
-ghost use Rattle.sizes.specs.Bounds.{Ranged, maxJobs};
+ghost use Rattle.sizes.specs.Bounds.{Ranged, maxJobs, planSize};
 ghost use Rattle.model.specs.Form.{validJob, zeroJob};
 ghost use Rattle.layout.specs.Reading.{readJobs};
 ghost use Rattle.form.specs.Parts.{jobOf, jobFormed, readsOf};
@@ -42,13 +43,13 @@ pub fn zero_job(site: u32, reads: u32, upstream: u32) -> bool
 // Whether job i of the jobs at an index is in form, in a run of n jobs.
 pub fn job_formed(words: &[u32], z: Counts, at: usize, n: usize, i: usize) -> bool
     requires { ⌜ Ranged z ⌝ }
-    requires { ⌜ (at + 24 ≤ length (now words)) × (i < maxJobs) ⌝ }
+    requires { ⌜ (at + planSize ≤ length (now words)) × (i < maxJobs) ⌝ }
     ensures { λ r. ⌜ r ≡ jobFormed z n i (readJobs (now (words .entry)) at i) ⌝ }
 {
     let job = job_at(at, i);
     let site = words[job];
-    let reads = words[job + 1];
-    let upstream = words[job + 2];
+    let reads = words[job + JobOffset::READS];
+    let upstream = words[job + JobOffset::UPSTREAM];
     if i < n {
         valid_job(z, i, site, reads, upstream)
     } else {
@@ -59,7 +60,7 @@ pub fn job_formed(words: &[u32], z: Counts, at: usize, n: usize, i: usize) -> bo
 // Whether each of the 8 jobs at an index is in form, in a run of n jobs.
 pub fn each_job(words: &[u32], z: Counts, at: usize, n: usize) -> bool
     requires { ⌜ Ranged z ⌝ }
-    requires { ⌜ at + 24 ≤ length (now words) ⌝ }
+    requires { ⌜ at + planSize ≤ length (now words) ⌝ }
     ensures { λ r. ⌜ r ≡ allBelow maxJobs
         (λ i. jobFormed z n i (readJobs (now (words .entry)) at i)) ⌝ }
 {
@@ -75,14 +76,14 @@ pub fn each_job(words: &[u32], z: Counts, at: usize, n: usize) -> bool
 
 // What the jobs of a mask read, of the first n jobs at an index.
 pub fn reads_of(words: &[u32], at: usize, n: u32, mask: u32) -> u32
-    requires { ⌜ (at + 24 ≤ length (now words)) × (n ≤ maxJobs) ⌝ }
+    requires { ⌜ (at + planSize ≤ length (now words)) × (n ≤ maxJobs) ⌝ }
     ensures { λ r. ⌜ r ≡ readsOf n (readJobs (now (words .entry)) at) mask ⌝ }
 {
     let mut all: u32 = 0;
     let mut j: u32 = 0;
     while j < n {
         let job = job_at(at, wide(j));
-        all = all | mask_if(has(mask, j), words[job + 1]);
+        all = all | mask_if(has(mask, j), words[job + JobOffset::READS]);
         j += 1;
     }
     all

@@ -9,6 +9,7 @@ use masks::without;
 use sizes::Counts;
 use sizes::Sizes;
 use sizes::is_between;
+use sizes::run::RunOffset;
 use version::held_mask;
 use words::wide;
 ghost use mathlib.Core.Path.{_≡_};
@@ -26,8 +27,8 @@ pub fn jobs_formed(words: &[u32], z: Counts, at: usize) -> bool
     requires { ⌜ RunArea (length (now words)) z at ⌝ }
     ensures { λ r. ⌜ r ≡ jobsFormed z (readRun z (now (words .entry)) at) ⌝ }
 {
-    let n = wide(words[at + 1]);
-    is_between(n, Sizes::MAX_JOBS) & each_job(words, z, at + 4, n)
+    let n = wide(words[at + RunOffset::JOBS]);
+    is_between(n, Sizes::MAX_JOBS) & each_job(words, z, at + RunOffset::PLAN, n)
 }
 
 // Whether the done mask is one of the run's jobs, and the read mask just what these read.
@@ -36,10 +37,10 @@ pub fn masks_formed(words: &[u32], z: Counts, at: usize) -> bool
     requires { ⌜ So (jobsFormed z (readRun z (now words) at)) ⌝ }
     ensures { λ r. ⌜ r ≡ masksFormed z (readRun z (now (words .entry)) at) ⌝ }
 {
-    let n = words[at + 1];
-    let done = words[at + 2];
-    let reads = reads_of(words, at + 4, n, done);
-    is_below(done, wide(n)) & (words[at + 3] == reads)
+    let n = words[at + RunOffset::JOBS];
+    let done = words[at + RunOffset::DONE];
+    let reads = reads_of(words, at + RunOffset::PLAN, n, done);
+    is_below(done, wide(n)) & (words[at + RunOffset::READ] == reads)
 }
 
 // Whether the snapshot is in form, holds only keys of the plan, and each key that was read.
@@ -50,11 +51,11 @@ pub fn snapshot_formed(words: &[u32], z: Counts, at: usize) -> bool
     requires { ⌜ So (masksFormed z (readRun z (now words) at)) ⌝ }
     ensures { λ r. ⌜ r ≡ snapshotFormed z (readRun z (now (words .entry)) at) ⌝ }
 {
-    let n = words[at + 1];
-    let read = words[at + 3];
-    let plan = reads_of(words, at + 4, n, 255);
-    let carried = held_mask(words, z, at + 28);
-    place_formed(words, z, at + 28)
+    let n = words[at + RunOffset::JOBS];
+    let read = words[at + RunOffset::READ];
+    let plan = reads_of(words, at + RunOffset::PLAN, n, 255);
+    let carried = held_mask(words, z, at + RunOffset::SNAPSHOT);
+    place_formed(words, z, at + RunOffset::SNAPSHOT)
         & ((without(carried, plan) == 0) & (without(read, carried) == 0))
 }
 
@@ -89,10 +90,11 @@ pub fn free_formed(words: &[u32], z: Counts, at: usize) -> bool
     requires { ⌜ RunArea (length (now words)) z at ⌝ }
     ensures { λ r. ⌜ r ≡ freeFormed z (readRun z (now (words .entry)) at) ⌝ }
 {
-    word_is(words, at + 1, 0)
-        & (word_is(words, at + 2, 0)
-            & (word_is(words, at + 3, 0)
-                & (each_job(words, z, at + 4, 0) & is_empty(words, z, at + 28))))
+    word_is(words, at + RunOffset::JOBS, 0)
+        & (word_is(words, at + RunOffset::DONE, 0)
+            & (word_is(words, at + RunOffset::READ, 0)
+                & (each_job(words, z, at + RunOffset::PLAN, 0)
+                    & is_empty(words, z, at + RunOffset::SNAPSHOT))))
 }
 
 // Whether the run is in form.

@@ -12,6 +12,7 @@ use numbers::raised;
 use past::merge_saved;
 use past::save_writer;
 use sizes::Counts;
+use sizes::run::RunOffset;
 use states::ISSUE_ROW;
 use status::clear_run;
 use status::run_cause;
@@ -114,7 +115,7 @@ fn jobs_done(words: &[u32], z: Counts, r: usize) -> bool
         (testBit (storeOf (now (words .entry)) .run r .done)) ⌝ }
 {
     let at = z.run_at(r);
-    has_all(words[at + 2], words[at + 1])
+    has_all(words[at + RunOffset::DONE], words[at + RunOffset::JOBS])
 }
 
 // Whether each item below n is in the mask.
@@ -172,7 +173,7 @@ fn read_mask(words: &[u32], z: Counts, r: usize) -> u32
     ensures { λ m. ⌜ m ≡ storeOf (now (words .entry)) .run r .read ⌝ }
 {
     let at = z.run_at(r);
-    words[at + 3]
+    words[at + RunOffset::READ]
 }
 
 // The last issue number and the count of writer w, both raised.

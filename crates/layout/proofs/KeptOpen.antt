@@ -15,7 +15,7 @@ use Rattle.words.proofs.Tests.{all-at}
 use Rattle.words.proofs.Lists.{upto-in, upto-out}
 use Rattle.masks.proofs.Bits.{test-none}
 use Rattle.sizes.specs.declared.Counts.{Counts}
-use Rattle.sizes.specs.Bounds.{maxJobs, between}
+use Rattle.sizes.specs.Bounds.{maxJobs, jobSize, between}
 use Rattle.sizes.proofs.Offsets.{between-out}
 use Rattle.model.specs.Version.{held}
 use Rattle.model.specs.Store.{Store, noJob, withRun}
@@ -32,7 +32,7 @@ use Rattle.layout.proofs.Kept.{Kept, kept-done, kept-unless}
 
 -- A list of jobs that is accepted.
 pub record Listed (z : Counts) (l : List ℕ) : Type 0 where
-  pub whole : length l ≡ listedCount l * 3
+  pub whole : length l ≡ listedCount l * jobSize
   pub low : 1 ≤ listedCount l
   pub high : listedCount l ≤ maxJobs
   pub valid : (i : ℕ) → i < listedCount l → So (validJob z i (listedJob l i))
@@ -42,7 +42,7 @@ unfolding listValid
 list-out z l p =
     let n = listedCount l in
     let valid = allBelow n (λ i. validJob z i (listedJob l i)) in
-    let whole = eqb (length l) (n * 3) in
+    let whole = eqb (length l) (n * jobSize) in
     let q = and-right whole (between maxJobs n && valid) p in
     let range = between-out maxJobs n (and-left (between maxJobs n) valid q) in
     record {

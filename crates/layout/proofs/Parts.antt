@@ -11,7 +11,7 @@ use Rattle.words.specs.Lists.{window, upto}
 use Rattle.words.proofs.Lists.{append-same, window-add, window-cons}
 use Rattle.clock.specs.Clock.{Clock}
 use Rattle.sizes.specs.declared.Counts.{Counts}
-use Rattle.sizes.specs.Bounds.{maxJobs, pastSize, versionSize, placeSize, siteSize, writerSize, runSize}
+use Rattle.sizes.specs.Bounds.{maxJobs, jobSize, upstreamOffset, jobsOffset, doneOffset, readOffset, planOffset, planSize, snapshotOffset, pastSize, versionSize, placeSize, siteSize, writerSize, runSize}
 use Rattle.model.specs.Algebra.{Place}
 use Rattle.model.specs.Version.{Version, unheld}
 use Rattle.model.specs.Store.{Writer, Job, Run, Site, noWriter, noJob, noSite, freeRun}
@@ -152,11 +152,12 @@ writers-laws z = many (z .writers) (writer-laws z) noWriter
 -- Any job.
 pub record AnyJob (x : Job) : Type 0 where
 
-job-laws : Laws 3 jobWords readJob AnyJob
+job-laws : Laws jobSize jobWords readJob AnyJob
 unfolding jobWords readJob window
 job-laws = record {
   long = λ a. refl;
-  round = λ l at. refl;
+  round = λ l at.
+      let e : at + 1 + 1 ≡ at + upstreamOffset = omega arith in rw e;
   fits = λ l at. record {};
   same = λ a b _ _ e.
       let x = cons-same _ _ _ _ e in
@@ -169,7 +170,7 @@ job-laws = record {
 abbrev pub FitJobs : (ℕ → Job) → Type 0
 FitJobs = FitMany maxJobs noJob AnyJob
 
-pub jobs-laws : Laws 24 jobsWords readJobs FitJobs
+pub jobs-laws : Laws planSize jobsWords readJobs FitJobs
 unfolding jobsWords readJobs
 jobs-laws = many maxJobs job-laws noJob
 
@@ -180,21 +181,29 @@ pub record FitRun (z : Counts) (r : Run) : Type 0 where
 -- Four words, and a window behind them.
 abbrev fourWords : List ℕ → ℕ → List ℕ → List ℕ
 fourWords l at t =
-    readWord l at ∷ readWord l (at + 1) ∷ readWord l (at + 1 + 1) ∷ readWord l (at + 1 + 1 + 1) ∷ t
+    readWord l at ∷ readWord l (at + jobsOffset)
+    ∷ readWord l (at + doneOffset) ∷ readWord l (at + readOffset) ∷ t
 
 four : (l : List ℕ) (at n : ℕ)
-    → fourWords l at (window l (at + 1 + 1 + 1 + 1) n) ≡ window l at (4 + n)
+    → fourWords l at (window l (at + planOffset) n) ≡ window l at (planOffset + n)
 unfolding window
-four l at n = let e : 4 + n ≡ suc (suc (suc (suc n))) = omega arith in rw e
+four l at n =
+    let e : planOffset + n ≡ suc (suc (suc (suc n))) = omega arith in
+    let d : at + 1 + 1 ≡ at + doneOffset = omega arith in
+    let r : at + doneOffset + 1 ≡ at + readOffset = omega arith in
+    let p : at + readOffset + 1 ≡ at + planOffset = omega arith in
+    rw (e, d, r, p)
 
 run-round : (z : Counts) (l : List ℕ) (at : ℕ)
     → runWords z (readRun z l at) ≡ window l at (runSize z)
 unfolding runSize runWords readRun
 run-round z l at =
-    let b = at + 1 + 1 + 1 + 1 in
-    ap (fourWords l at) (ap₂ _++_ (jobs-laws .round l b) (place-laws z .round l (b + 24))
-    ∙ sym (window-add l b 24 (placeSize z)))
-    ∙ four l at (24 + placeSize z) ∙ ap (window l at) (omega arith)
+    let b = at + planOffset in
+    let e : at + snapshotOffset ≡ b + planSize = omega arith in
+    ap (fourWords l at) (ap₂ _++_ (jobs-laws .round l b)
+    (rw e (place-laws z .round l (b + planSize)))
+    ∙ sym (window-add l b planSize (placeSize z)))
+    ∙ four l at (planSize + placeSize z) ∙ ap (window l at) (omega arith)
 
 run-same : (z : Counts) (a b : Run) → FitRun z a → FitRun z b → runWords z a ≡ runWords z b → a ≡ b
 unfolding runWords

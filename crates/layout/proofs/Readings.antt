@@ -10,7 +10,7 @@ use Rattle.words.proofs.Lists.{upto-in}
 use Rattle.clock.specs.Clock.{Clock, present, clockAt}
 use Rattle.clock.proofs.Order.{present-same}
 use Rattle.sizes.specs.declared.Counts.{Counts}
-use Rattle.sizes.specs.Bounds.{maxJobs, siteSize, writerSize, runSize, masterAt, sitesAt, writersAt, runsAt, siteAt, writerAt, runAt, snapshotAt, keyAt, rowAt}
+use Rattle.sizes.specs.Bounds.{maxJobs, jobSize, siteSize, writerSize, runSize, masterAt, sitesAt, writersAt, runsAt, siteAt, writerAt, runAt, snapshotAt, keyAt, rowAt}
 use Rattle.model.specs.Version.{held}
 use Rattle.model.specs.Store.{noSite, noWriter, noJob, freeRun}
 use Rattle.layout.specs.Reading.{readWord, readClock, readPast, readVersion, readPlace, readSite, readWriter, readJob, readJobs, readRun, countsIn, storeOf}
@@ -55,7 +55,7 @@ module _ (l : List ℕ) (z : Counts) (e : z ≡ countsIn l) where
       → storeOf l .run r .snapshot ≡ readPlace z l (snapshotAt z r)
   unfolding readRun snapshotAt
   snapshot-in r h =
-      rw (run-in r h) (ap (readPlace z l) (omega arith))
+      rw (run-in r h)
 
 -- ---- single words
 
@@ -89,6 +89,6 @@ module _ (z : Counts) (l : List ℕ) where
       (λ w j. row-word at k d w h i j)
 
 -- Job i of the jobs at an index.
-pub job-at : (l : List ℕ) (at i : ℕ) → i < maxJobs → readJobs l at i ≡ readJob l (at + i * 3)
+pub job-at : (l : List ℕ) (at i : ℕ) → i < maxJobs → readJobs l at i ≡ readJob l (at + i * jobSize)
 unfolding readJobs
-job-at l at i h = upto-in maxJobs noJob (λ i. readJob l (at + i * 3)) i h
+job-at l at i h = upto-in maxJobs noJob (λ i. readJob l (at + i * jobSize)) i h

@@ -13,7 +13,7 @@ use lib.ListN.{length, drop, set, length-append}
 use lib.Seq.{sets}
 use Rattle.words.specs.Lists.{putAt}
 use Rattle.words.proofs.Stores.{sets-left, sets-behind, sets-all}
-use Rattle.sizes.specs.Bounds.{siteSize, writerSize, runSize, masterAt, sitesAt, writersAt, runsAt, totalOf, siteAt, writerAt, runAt, snapshotAt}
+use Rattle.sizes.specs.Bounds.{doneOffset, snapshotOffset, siteSize, writerSize, runSize, masterAt, sitesAt, writersAt, runsAt, totalOf, siteAt, writerAt, runAt, snapshotAt}
 use Rattle.model.specs.Algebra.{Place}
 use Rattle.model.specs.Version.{Version}
 use Rattle.model.specs.Store.{Writer, Run, Store, withLast, withMaster, withSites, withCache, withWriter, withRun, withState, withSnapshot, withJobDone}
@@ -200,21 +200,22 @@ put-snapshot s l r p h =
     let new = placeWords z p in
     let before = a .state ∷ a .jobs ∷ a .done ∷ a .read ∷ jobsWords (a .job) in
     let old = placeWords z (a .snapshot) in
-    let e : length before ≡ 28 = omega (arith, jobs-laws .long (a .job)) in
+    let e : length before ≡ snapshotOffset = omega (arith, jobs-laws .long (a .job)) in
     let same : length new ≡ length old = L .long p ∙ sym (L .long (a .snapshot)) in
-    put-run-part s l r 28 new (withSnapshot a p) h (omega (arith, L .long p))
+    put-run-part s l r snapshotOffset new (withSnapshot a p) h (omega (arith, L .long p))
     (ap (λ (i : ℕ). sets (runWords z a) i new) (sym e ∙ sym (add-zero (length before)))
     ∙ sets-behind before old new 0 (omega arith)
     ∙ ap (λ (t : List ℕ). before ++ t) (sets-all old new same))
 
 -- The done and the read mask.
 pub put-masks : (s : Store) (l : List ℕ) (r x y : ℕ) → r < s .counts .runs
-    → sets (written s l) (runAt (s .counts) r + 2) (x ∷ y ∷ [])
+    → sets (written s l) (runAt (s .counts) r + doneOffset) (x ∷ y ∷ [])
     ≡ written (withRun s r (withJobDone (s .run r) x y (s .run r .snapshot))) l
 unfolding runSize runWords withJobDone
 put-masks s l r x y h =
     let a = s .run r in
-    put-run-part s l r 2 (x ∷ y ∷ []) (withJobDone a x y (a .snapshot)) h (omega arith) refl
+    put-run-part s l r doneOffset (x ∷ y ∷ []) (withJobDone a x y (a .snapshot)) h (omega arith)
+    refl
 
 -- ---- one change after another
 

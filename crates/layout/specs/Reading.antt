@@ -6,7 +6,7 @@ use Prim.Native.Nat.{ℕ, _+_, _*_}
 use lib.ListN.{getD}
 use Rattle.words.specs.Lists.{upto}
 use Rattle.clock.specs.Clock.{Clock}
-use Rattle.sizes.specs.Bounds.{maxJobs, versionSize, siteSize, writerSize, runSize, masterAt, sitesAt, writersAt, runsAt}
+use Rattle.sizes.specs.Bounds.{maxJobs, jobSize, readsOffset, upstreamOffset, jobsOffset, doneOffset, readOffset, planOffset, snapshotOffset, versionSize, siteSize, writerSize, runSize, masterAt, sitesAt, writersAt, runsAt}
 use Rattle.sizes.specs.declared.Counts.{Counts}
 use Rattle.model.specs.Algebra.{Place}
 use Rattle.model.specs.Version.{Version, unheld}
@@ -36,21 +36,21 @@ readWriter z l at = record { count = readWord l at; past = readPast z l (at + 1)
 unfoldable pub readJob : List ℕ → ℕ → Job
 readJob l at = record {
   site = readWord l at;
-  reads = readWord l (at + 1);
-  upstream = readWord l (at + 1 + 1);
+  reads = readWord l (at + readsOffset);
+  upstream = readWord l (at + upstreamOffset);
 }
 
 unfoldable pub readJobs : List ℕ → ℕ → ℕ → Job
-readJobs l at = upto maxJobs noJob (λ i. readJob l (at + i * 3))
+readJobs l at = upto maxJobs noJob (λ i. readJob l (at + i * jobSize))
 
 unfoldable pub readRun : Counts → List ℕ → ℕ → Run
 readRun z l at = record {
   state = readWord l at;
-  jobs = readWord l (at + 1);
-  done = readWord l (at + 1 + 1);
-  read = readWord l (at + 1 + 1 + 1);
-  job = readJobs l (at + 1 + 1 + 1 + 1);
-  snapshot = readPlace z l (at + 1 + 1 + 1 + 1 + 24);
+  jobs = readWord l (at + jobsOffset);
+  done = readWord l (at + doneOffset);
+  read = readWord l (at + readOffset);
+  job = readJobs l (at + planOffset);
+  snapshot = readPlace z l (at + snapshotOffset);
 }
 
 -- The counts in the header.

@@ -7,7 +7,7 @@ use lib.Dec.{eqb, leb}
 use lib.ListN.{getD, length}
 use Rattle.words.specs.Tests.{allBelow}
 use Rattle.words.specs.Lists.{upto}
-use Rattle.sizes.specs.Bounds.{between, maxJobs}
+use Rattle.sizes.specs.Bounds.{between, maxJobs, jobSize, readsOffset, upstreamOffset}
 use Rattle.sizes.specs.declared.Counts.{Counts}
 use Rattle.model.specs.Store.{Job, Run, Store, noJob, freeRun, emptyPlace, withRun}
 use Rattle.model.specs.Form.{validJob}
@@ -18,13 +18,13 @@ use Rattle.model.specs.Outcome.{Outcome, done, refuse, unless, allowed, 
 -- Job i of the list.
 unfoldable pub listedJob : List ℕ → ℕ → Job
 listedJob l i = record {
-  site = getD l (i * 3) 0;
-  reads = getD l (i * 3 + 1) 0;
-  upstream = getD l (i * 3 + 2) 0;
+  site = getD l (i * jobSize) 0;
+  reads = getD l (i * jobSize + readsOffset) 0;
+  upstream = getD l (i * jobSize + upstreamOffset) 0;
 }
 
 unfoldable pub listedCount : List ℕ → ℕ
-listedCount l = length l / 3
+listedCount l = length l / jobSize
 
 unfoldable pub listedJobs : List ℕ → ℕ → Job
 listedJobs l = upto (listedCount l) noJob (listedJob l)
@@ -32,7 +32,7 @@ listedJobs l = upto (listedCount l) noJob (listedJob l)
 -- Not: "0 or over 8 jobs, list length not 3 per job, or a job not valid".
 unfoldable pub listValid : Counts → List ℕ → Bool
 listValid z l =
-    eqb (length l) (listedCount l * 3)
+    eqb (length l) (listedCount l * jobSize)
     && (between maxJobs (listedCount l)
     && allBelow (listedCount l) (λ i. validJob z i (listedJob l i)))
 

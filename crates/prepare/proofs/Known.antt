@@ -15,15 +15,15 @@ use Rattle.words.proofs.Tests.{any-more}
 use Rattle.masks.specs.Mask.{testBit, withBit}
 use Rattle.masks.proofs.Bits.{test-with, test-none}
 use Rattle.sizes.specs.declared.Counts.{Counts}
-use Rattle.sizes.specs.Bounds.{maxJobs, runAt, jobAt}
+use Rattle.sizes.specs.Bounds.{maxJobs, readsOffset, upstreamOffset, jobsOffset, doneOffset, planOffset, snapshotOffset, runAt, jobAt}
 use Rattle.model.specs.Store.{Job, Run, planned}
 use Rattle.model.specs.Form.{runFormed}
 use Rattle.model.specs.Prepare.{usesSite}
 use Rattle.model.proofs.Plans.{Valid, Jobs, valid-out, plan-out}
-use Rattle.layout.specs.Reading.{readJobs, storeOf}
+use Rattle.layout.specs.Reading.{readJobs, readRun, storeOf}
 use Rattle.form.specs.Parts.{RunArea, jobOf, readsOf}
 use Rattle.form.proofs.Snapshots.{test-plan}
-use Rattle.form.proofs.Runs.{job-words, wordsRun, run-words}
+use Rattle.form.proofs.Runs.{job-words}
 use Rattle.status.proofs.Known.{run-known}
 use Rattle.prepare.specs.Turns.{UsedRun}
 
@@ -31,7 +31,7 @@ use Rattle.prepare.specs.Turns.{UsedRun}
 
 pub record JobsKnown (l : List ℕ) (z : Counts) (r : ℕ) : Type 0 where
   pub area : RunArea (length l) z (runAt z r)
-  pub run : storeOf l .run r ≡ wordsRun z l (runAt z r)
+  pub run : storeOf l .run r ≡ readRun z l (runAt z r)
   pub jobs : Jobs z (storeOf l .run r .jobs) (storeOf l .run r .job)
 
 module _ (l : List ℕ) (z : Counts) (r : ℕ) (U : UsedRun l z r) where
@@ -41,40 +41,45 @@ module _ (l : List ℕ) (z : Counts) (r : ℕ) (U : UsedRun l z r) where
       let formed : So (runFormed z (storeOf l .run r)) = rw (K .run) (K .formed) in
       record {
         area = K .area;
-        run = K .run ∙ run-words z l (runAt z r);
+        run = K .run;
         jobs = plan-out z (storeOf l .run r) (U .used) formed .jobs;
       }
 
   -- at: where it begins.
-  pub run-index : (at : ℕ) → at ≡ runAt z r → at + 28 ≤ length l
+  pub run-index : (at : ℕ) → at ≡ runAt z r → at + snapshotOffset ≤ length l
   run-index at e = omega (arith, jobs-known .area .fits)
 
   -- Job j is valid.
   pub job-known : (j : ℕ) → j < storeOf l .run r .jobs → Valid z j (storeOf l .run r .job j)
   job-known j h = valid-out z j (storeOf l .run r .job j) (jobs-known .jobs .valid j h)
 
-  pub count-word : getD l (runAt z r + 1) 0 ≡ storeOf l .run r .jobs
+  pub count-word : getD l (runAt z r + jobsOffset) 0 ≡ storeOf l .run r .jobs
+  unfolding readRun
   count-word = sym (ap (λ (a : Run). a .jobs) (jobs-known .run))
 
-  pub done-word : getD l (runAt z r + 2) 0 ≡ storeOf l .run r .done
+  pub done-word : getD l (runAt z r + doneOffset) 0 ≡ storeOf l .run r .done
+  unfolding readRun
   done-word = sym (ap (λ (a : Run). a .done) (jobs-known .run))
 
-  pub jobs-words : readJobs l (runAt z r + 4) ≡ storeOf l .run r .job
+  pub jobs-words : readJobs l (runAt z r + planOffset) ≡ storeOf l .run r .job
+  unfolding readRun
   jobs-words = sym (ap (λ (a : Run). a .job) (jobs-known .run))
 
   module _ (j : ℕ) (h : j < storeOf l .run r .jobs) where
     pub job-low : j < maxJobs
     job-low = omega (arith, jobs-known .jobs .high)
 
-    job-word : let at = jobAt (runAt z r + 4) j in
-        storeOf l .run r .job j ≡ jobOf (getD l at 0) (getD l (at + 1) 0) (getD l (at + 2) 0)
+    job-word : let at = jobAt (runAt z r + planOffset) j in
+        storeOf l .run r .job j ≡ jobOf (getD l at 0) (getD l (at + readsOffset) 0)
+        (getD l (at + upstreamOffset) 0)
     job-word =
-        ap (λ (f : ℕ → Job). f j) (sym jobs-words) ∙ job-words l (runAt z r + 4) j job-low
+        ap (λ (f : ℕ → Job). f j) (sym jobs-words) ∙ job-words l (runAt z r + planOffset) j job-low
 
-    pub site-word : getD l (jobAt (runAt z r + 4) j) 0 ≡ storeOf l .run r .job j .site
+    pub site-word : getD l (jobAt (runAt z r + planOffset) j) 0 ≡ storeOf l .run r .job j .site
     site-word = sym (ap (λ (a : Job). a .site) job-word)
 
-    pub reads-word : getD l (jobAt (runAt z r + 4) j + 1) 0 ≡ storeOf l .run r .job j .reads
+    pub reads-word : getD l (jobAt (runAt z r + planOffset) j + readsOffset) 0
+        ≡ storeOf l .run r .job j .reads
     reads-word = sym (ap (λ (a : Job). a .reads) job-word)
 
 -- ---- the sites of the jobs
@@ -95,7 +100,8 @@ uses-more job n m e =
 
 -- n, at, m: the number of jobs, the index of the run, and what the code finds.
 pub plan-as : (l : List ℕ) (z : Counts) (r : ℕ) (U : UsedRun l z r) (n at m : ℕ)
-    → n ≡ storeOf l .run r .jobs → at ≡ runAt z r → m ≡ readsOf n (readJobs l (at + 4)) 255
+    → n ≡ storeOf l .run r .jobs → at ≡ runAt z r
+    → m ≡ readsOf n (readJobs l (at + planOffset)) 255
     → testBit m ≡ planned (storeOf l .run r .jobs) (storeOf l .run r .job)
 plan-as l z r U n at m p q e =
     let J = jobs-known l z r U in

@@ -4,6 +4,8 @@ use form::job::reads_of;
 use masks::with_item;
 use sizes::Counts;
 use sizes::job_at;
+use sizes::run::JobOffset;
+use sizes::run::RunOffset;
 use words::wide;
 ghost use mathlib.Core.Path.{_≡_};
 ghost use Prim.Native.Nat.{_<_};
@@ -19,7 +21,7 @@ pub fn job_count(words: &[u32], z: Counts, r: usize) -> u32
     ensures { λ n. ⌜ n ≡ storeOf (now (words .entry)) .run r .jobs ⌝ }
 {
     let at = z.run_at(r);
-    words[at + 1]
+    words[at + RunOffset::JOBS]
 }
 
 // The site of job j of run r.
@@ -29,7 +31,7 @@ pub fn job_site(words: &[u32], z: Counts, r: usize, j: usize) -> u32
     ensures { λ o. ⌜ o ≡ storeOf (now (words .entry)) .run r .job j .site ⌝ }
 {
     let at = z.run_at(r);
-    let job = job_at(at + 4, j);
+    let job = job_at(at + RunOffset::PLAN, j);
     words[job]
 }
 
@@ -40,8 +42,8 @@ pub fn job_reads(words: &[u32], z: Counts, r: usize, j: usize) -> u32
     ensures { λ m. ⌜ m ≡ storeOf (now (words .entry)) .run r .job j .reads ⌝ }
 {
     let at = z.run_at(r);
-    let job = job_at(at + 4, j);
-    words[job + 1]
+    let job = job_at(at + RunOffset::PLAN, j);
+    words[job + JobOffset::READS]
 }
 
 // The sites that a job of run r is at.
@@ -68,5 +70,5 @@ pub fn plan_keys(words: &[u32], z: Counts, r: usize) -> u32
 {
     let n = job_count(words, z, r);
     let at = z.run_at(r);
-    reads_of(words, at + 4, n, 255)
+    reads_of(words, at + RunOffset::PLAN, n, 255)
 }

@@ -10,6 +10,7 @@ use form::header::counts;
 use form::in_form;
 use merges::merge_run;
 use sizes::Counts;
+use sizes::run::RunOffset;
 use states::PREPARE_ROW;
 use status::run_cause;
 use version::held_mask;
@@ -76,7 +77,7 @@ fn prepare_cause(words: &[u32], z: Counts, r: usize) -> u32
         return cause;
     }
     let at = z.run_at(r);
-    if words[at + 2] != 0 {
+    if words[at + RunOffset::DONE] != 0 {
         return 6;
     }
     if is_unpreparable(words, z, r) {

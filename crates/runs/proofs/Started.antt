@@ -14,7 +14,7 @@ use Rattle.words.proofs.Tests.{below-or-not}
 use Rattle.words.proofs.Lists.{upto-out}
 use Rattle.words.proofs.Stores.{sets-left, sets-behind}
 use Rattle.sizes.specs.declared.Counts.{Counts}
-use Rattle.sizes.specs.Bounds.{maxJobs, runSize}
+use Rattle.sizes.specs.Bounds.{maxJobs, jobSize, readsOffset, upstreamOffset, jobsOffset, planOffset, planSize, snapshotOffset, runSize}
 use Rattle.model.specs.Store.{Run, noJob, noJobs, emptyPlace, freeRun}
 use Rattle.model.specs.Outcome.{openState}
 use Rattle.model.specs.Runs.{listedJob, listedCount, listedJobs, openedRun}
@@ -31,19 +31,17 @@ use Rattle.runs.specs.Runs.{putJobs}
 
 -- ---- the list of jobs, as words
 
-listed-in : (l : List ℕ) (i : ℕ) → listedJob l i ≡ readJob l (0 + i * 3)
+listed-in : (l : List ℕ) (i : ℕ) → listedJob l i ≡ readJob l (0 + i * jobSize)
 unfolding listedJob readJob
 listed-in l i =
-    let e : 0 + i * 3 ≡ i * 3 = omega arith in
-    let f : i * 3 + 1 + 1 ≡ i * 3 + 2 = omega arith in
-    rw (e, f)
+    let e : 0 + i * jobSize ≡ i * jobSize = omega arith in rw e
 
 listed-out : (l : List ℕ) (at : ℕ) → length l ≤ at → noJob ≡ readJob l at
 unfolding readJob
 listed-out l at h =
     let a = List·getD-eq-default l 0 h in
-    let b = List·getD-eq-default l 0 {n = at + 1} (omega arith) in
-    let c = List·getD-eq-default l 0 {n = at + 1 + 1} (omega arith) in
+    let b = List·getD-eq-default l 0 {n = at + readsOffset} (omega arith) in
+    let c = List·getD-eq-default l 0 {n = at + upstreamOffset} (omega arith) in
     rw (a, b, c)
 
 -- Its jobs are what is read from its words.
@@ -56,19 +54,20 @@ listed-read z l L = fun-ext (λ i. ⊎-elim (below i) (beyond i) (below-or-not i
         job-in l i h ∙ listed-in l i ∙ sym (job-at l 0 i (omega (arith, L .high)))
 
     last : (i : ℕ) → maxJobs ≤ i → noJob ≡ readJobs l 0 i
-    last i h = sym (upto-out maxJobs noJob (λ i. readJob l (0 + i * 3)) i h)
+    last i h = sym (upto-out maxJobs noJob (λ i. readJob l (0 + i * jobSize)) i h)
 
     beyond : (i : ℕ) → listedCount l ≤ i → listedJobs l i ≡ readJobs l 0 i
     beyond i h =
         job-out l i h
-        ∙ ⊎-elim (λ k. listed-out l (0 + i * 3) (omega (arith, L .whole)) ∙ sym (job-at l 0 i k))
+        ∙ ⊎-elim
+        (λ k. listed-out l (0 + i * jobSize) (omega (arith, L .whole)) ∙ sym (job-at l 0 i k))
         (last i) (below-or-not i maxJobs)
 
 jobs-listed : (z : Counts) (l : List ℕ) → Listed z l
     → sets (jobsWords noJobs) 0 l ≡ jobsWords (listedJobs l)
 jobs-listed z l L =
     ap (λ (t : List ℕ). sets t 0 l) no-jobs-words
-    ∙ sets-front l 24 (omega (arith, L .whole, L .high))
+    ∙ sets-front l planSize (omega (arith, L .whole, L .high))
     ∙ sym (jobs-laws .round l 0) ∙ ap jobsWords (sym (listed-read z l L))
 
 -- ---- the run
@@ -90,7 +89,7 @@ unfolding runWords
 started-words z n = refl
 
 opened-words : (z : Counts) (l : List ℕ) → Listed z l
-    → sets (runWords z (started (listedCount l))) 4 l ≡ runWords z (openedRun l)
+    → sets (runWords z (started (listedCount l))) planOffset l ≡ runWords z (openedRun l)
 unfolding runWords openedRun
 opened-words z l L =
     let status = openState ∷ listedCount l ∷ 0 ∷ 0 ∷ [] in
@@ -104,7 +103,7 @@ opened-words z l L =
 
 -- ---- in a buffer
 
-long-run : (z : Counts) → 28 ≤ runSize z
+long-run : (z : Counts) → snapshotOffset ≤ runSize z
 unfolding runSize
 long-run z = omega arith
 
@@ -118,12 +117,12 @@ jobs-stored z l at jobs L h free =
     let x = openState ∷ n ∷ [] in
     let size = long-run z in
     let again : putRun z l at freeRun ≡ l = rw (← free) (part-again R l at) in
-    let start : set (set l at openState) (at + 1) n ≡ putRun z l at (started n) =
+    let start : set (set l at openState) (at + jobsOffset) n ≡ putRun z l at (started n) =
     ap (λ (k : ℕ). set (set l at openState) k n) (add-one at)
     ∙ ap (λ (k : ℕ). sets l k x) (sym (add-zero at))
     ∙ ap (λ (t : List ℕ). sets t (at + 0) x) (sym again)
     ∙ part-twice R l at 0 x freeRun (started n) h (omega arith) (started-words z n) in
-    put-list (set (set l at openState) (at + 1) n) jobs (at + 4)
-    ∙ ap (λ (t : List ℕ). sets t (at + 4) jobs) start
-    ∙ part-twice R l at 4 jobs (started n) (openedRun jobs) h
+    put-list (set (set l at openState) (at + jobsOffset) n) jobs (at + planOffset)
+    ∙ ap (λ (t : List ℕ). sets t (at + planOffset) jobs) start
+    ∙ part-twice R l at planOffset jobs (started n) (openedRun jobs) h
     (omega (arith, L .whole, L .high)) (opened-words z jobs L)

@@ -6,6 +6,7 @@ use mathlib.Core.List.{List, [], _∷_}
 use Prim.Native.Nat.{ℕ, _+_}
 use lib.ListN.{length, getD, set}
 use Rattle.words.specs.Words.{put}
+use Rattle.sizes.specs.Bounds.{jobsOffset, planOffset}
 use Rattle.model.specs.Outcome.{openState}
 use Rattle.model.specs.Runs.{listedCount}
 use Rattle.runs.specs.declared.Opened.{Opened}
@@ -24,5 +25,5 @@ droppedWords (Dropped.Refused n) = 2 ∷ n ∷ []
 -- State, number of jobs, and the words of the list, over a free run.
 unfoldable pub putJobs : List ℕ → ℕ → List ℕ → List ℕ
 putJobs l at jobs =
-    put (set (set l at openState) (at + 1) (listedCount jobs)) (at + 4) (length jobs)
-    (λ i. getD jobs i 0)
+    put (set (set l at openState) (at + jobsOffset) (listedCount jobs)) (at + planOffset)
+    (length jobs) (λ i. getD jobs i 0)

@@ -11,7 +11,7 @@ use lib.Dec.{leb}
 use Rattle.words.proofs.Bools.{and-intro, and-left, and-right, leb-le, le-leb}
 use Rattle.words.proofs.Slots.{slot-end}
 use Rattle.sizes.specs.declared.Counts.{Counts}
-use Rattle.sizes.specs.Bounds.{maxKeys, maxWriters, maxSites, maxRuns, maxJobs, between, ranged, Ranged, pastSize, versionSize, placeSize, siteSize, writerSize, runSize, masterAt, sitesAt, writersAt, runsAt, totalOf, siteAt, writerAt, runAt, snapshotAt, jobAt, keyAt, rowAt}
+use Rattle.sizes.specs.Bounds.{maxKeys, maxWriters, maxSites, maxRuns, maxJobs, jobSize, planSize, snapshotOffset, between, ranged, Ranged, pastSize, versionSize, placeSize, siteSize, writerSize, runSize, masterAt, sitesAt, writersAt, runsAt, totalOf, siteAt, writerAt, runAt, snapshotAt, jobAt, keyAt, rowAt}
 
 -- ---- counts in range
 
@@ -142,7 +142,7 @@ run-lies z r h = part-lies (runsAt z) r (z .runs) (runSize z) h
 
 -- The snapshot is the last part of its run.
 pub snapshot-lies : (z : Counts) (r : ℕ)
-    → Lies (runAt z r + 28) (runAt z r + runSize z) (snapshotAt z r) (placeSize z)
+    → Lies (runAt z r + snapshotOffset) (runAt z r + runSize z) (snapshotAt z r) (placeSize z)
 unfolding snapshotAt runSize
 snapshot-lies z r = record { starts = omega arith; ends = omega arith }
 
@@ -161,7 +161,8 @@ row-lies z at d h =
 
 -- ---- jobs
 
--- A job lies in the 24 words of the jobs.
-pub job-lies : (at i : ℕ) → i < maxJobs → (at ≤ jobAt at i) × (jobAt at i + 3 ≤ at + 24)
+-- A job lies in the plan.
+pub job-lies : (at i : ℕ) → i < maxJobs
+    → (at ≤ jobAt at i) × (jobAt at i + jobSize ≤ at + planSize)
 unfolding jobAt
 job-lies at i h = (omega arith, omega arith)

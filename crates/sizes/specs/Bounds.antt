@@ -1,6 +1,7 @@
 -- Sizes and offsets in words (document 01, "Size and layout"), from the counts K, W, N and P.
 -- maxKeys ..: the limits. ranged, Ranged: the counts are in range. ..Size: words of a part.
--- ..At: where a part begins. totalOf: all words.
+-- ..Offset: where a part of a run or of a job stands in it. ..At: where a part begins.
+-- totalOf: all words.
 -- Assumes nothing.
 use mathlib.Core.Bool.{Bool, _&&_}
 use Prim.Native.Nat.{ℕ, _+_, _*_, _≤_}
@@ -51,6 +52,39 @@ pub record Ranged (z : Counts) : Type 0 where
   pub runs-low : 1 ≤ z .runs
   pub runs-high : z .runs ≤ maxRuns
 
+-- ---- inside a run: "A run is state (0 free, 1 open, 2 broken), number of jobs, done mask, read
+-- ---- mask, 8 jobs of 3 words (office, reads mask, upstream mask), then the card, K versions."
+
+-- Of a job, whose site stands first.
+abbrev pub readsOffset : ℕ
+readsOffset = 1
+
+abbrev pub upstreamOffset : ℕ
+upstreamOffset = 2
+
+abbrev pub jobSize : ℕ
+jobSize = 3
+
+-- Of a run, whose state stands first: the number of jobs, the masks, the jobs (the plan), the
+-- snapshot.
+abbrev pub jobsOffset : ℕ
+jobsOffset = 1
+
+abbrev pub doneOffset : ℕ
+doneOffset = 2
+
+abbrev pub readOffset : ℕ
+readOffset = 3
+
+abbrev pub planOffset : ℕ
+planOffset = 4
+
+abbrev pub planSize : ℕ
+planSize = maxJobs * jobSize
+
+abbrev pub snapshotOffset : ℕ
+snapshotOffset = planOffset + planSize
+
 -- ---- sizes: "A version takes V = 1 + K·W words"
 
 -- A past: one clock for each key.
@@ -72,9 +106,9 @@ siteSize z = placeSize z
 unfoldable pub writerSize : Counts → ℕ
 writerSize z = 1 + pastSize z
 
--- "runs P·(28 + K·V)": four words of status, 8 jobs of 3 words, the snapshot.
+-- "runs P·(28 + K·V)"
 unfoldable pub runSize : Counts → ℕ
-runSize z = 28 + placeSize z
+runSize z = snapshotOffset + placeSize z
 
 -- ---- offsets, after a header of 10 words:
 -- ---- "master K·V; shelves N·K·V; writers W·V; runs P·(28 + K·V)"
@@ -116,13 +150,13 @@ writerAt z u = writersAt z + u * writerSize z
 unfoldable pub runAt : Counts → ℕ → ℕ
 runAt z r = runsAt z + r * runSize z
 
--- The snapshot of run r, after four words of status and 8 jobs of 3 words.
+-- The snapshot of run r.
 unfoldable pub snapshotAt : Counts → ℕ → ℕ
-snapshotAt z r = runAt z r + 28
+snapshotAt z r = runAt z r + snapshotOffset
 
--- Job i of the jobs at an index: "office, reads mask, upstream mask".
+-- Job i of the jobs at an index.
 unfoldable pub jobAt : ℕ → ℕ → ℕ
-jobAt at i = at + i * 3
+jobAt at i = at + i * jobSize
 
 -- The version of key k in the place at an index.
 unfoldable pub keyAt : Counts → ℕ → ℕ → ℕ

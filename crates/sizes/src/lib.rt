@@ -1,7 +1,10 @@
 // The counts of a store, their limits, and the offsets and total that follow from them.
+pub mod run;
+
+use run::RunOffset;
 ghost use mathlib.Core.Path.{_≡_};
 ghost use Prim.Native.Nat.{_<_, _^_};
-ghost use Rattle.sizes.specs.Bounds.{between, ranged, Ranged, countsOf, sizesOf, maxKeys, maxWriters, maxSites, maxRuns, maxJobs, pastSize, versionSize, placeSize, siteSize, writerSize, runSize, siteAt, writerAt, runAt, snapshotAt, jobAt, keyAt, rowAt};
+ghost use Rattle.sizes.specs.Bounds.{between, ranged, Ranged, countsOf, sizesOf, maxKeys, maxWriters, maxSites, maxRuns, maxJobs, jobSize, pastSize, versionSize, placeSize, siteSize, writerSize, runSize, siteAt, writerAt, runAt, snapshotAt, jobAt, keyAt, rowAt};
 
 // Sheets, writers, offices and runs (document 01: K, W, N, P).
 pub struct Counts {
@@ -31,6 +34,8 @@ impl Sizes {
 
     pub const MAX_JOBS: usize = 8;
 
+    pub const JOB_SIZE: usize = 3;
+
     // Offsets and total from four counts.
     pub fn of(keys: usize, writers: usize, sites: usize, runs: usize) -> Sizes
         requires { ⌜ Ranged (countsOf keys writers sites runs) ⌝ }
@@ -41,7 +46,7 @@ impl Sizes {
         let sites_at = 10 + place;
         let writers_at = sites_at + sites * place;
         let runs_at = writers_at + writers * version;
-        let total = runs_at + runs * (28 + place);
+        let total = runs_at + runs * (RunOffset::SNAPSHOT + place);
         Sizes {
             master: 10,
             sites: sites_at,
@@ -51,13 +56,14 @@ impl Sizes {
         }
     }
 
-    // The limits above are those of the definitions.
+    // The limits above, and the words of a job, are those of the definitions.
     pub fn limits()
         ensures keys { λ _. do ⌜ (← ⟦Sizes::MAX_KEYS⟧ .entry) ≡ maxKeys ⌝ }
         ensures writers { λ _. do ⌜ (← ⟦Sizes::MAX_WRITERS⟧ .entry) ≡ maxWriters ⌝ }
         ensures sites { λ _. do ⌜ (← ⟦Sizes::MAX_SITES⟧ .entry) ≡ maxSites ⌝ }
         ensures runs { λ _. do ⌜ (← ⟦Sizes::MAX_RUNS⟧ .entry) ≡ maxRuns ⌝ }
         ensures jobs { λ _. do ⌜ (← ⟦Sizes::MAX_JOBS⟧ .entry) ≡ maxJobs ⌝ }
+        ensures job { λ _. do ⌜ (← ⟦Sizes::JOB_SIZE⟧ .entry) ≡ jobSize ⌝ }
     {}
 }
 
@@ -73,7 +79,7 @@ pub fn job_at(at: usize, i: usize) -> usize
     requires { ⌜ (at < 2 ^ 62) × (i < maxJobs) ⌝ }
     ensures { λ r. ⌜ r ≡ jobAt at i ⌝ }
 {
-    at + i * 3
+    at + i * Sizes::JOB_SIZE
 }
 
 impl Counts {
@@ -141,7 +147,7 @@ impl Counts {
         requires { ⌜ Ranged self ⌝ }
         ensures { λ r. ⌜ r ≡ runSize self ⌝ }
     {
-        28 + self.place_size()
+        RunOffset::SNAPSHOT + self.place_size()
     }
 
     // Where site o begins.
@@ -183,7 +189,7 @@ impl Counts {
         requires { ⌜ r < self .runs ⌝ }
         ensures { λ at. ⌜ at ≡ snapshotAt self r ⌝ }
     {
-        self.run_at(r) + 28
+        self.run_at(r) + RunOffset::SNAPSHOT
     }
 
     // Where the version of key k begins in the place at an index.

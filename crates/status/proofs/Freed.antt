@@ -14,7 +14,7 @@ use Rattle.words.specs.Words.{put}
 use Rattle.words.proofs.Bools.{and-left, and-right, not-elim, eqb-eq, eq-eqb}
 use Rattle.words.proofs.Tests.{below-or-not, all-at}
 use Rattle.sizes.specs.declared.Counts.{Counts}
-use Rattle.sizes.specs.Bounds.{maxJobs, runSize}
+use Rattle.sizes.specs.Bounds.{maxJobs, planSize, runSize}
 use Rattle.model.specs.Version.{Version, unheld, held}
 use Rattle.model.specs.Store.{Job, Run, noJob, noJobs, emptyPlace, freeRun}
 use Rattle.model.specs.Form.{zeroRows, zeroJob, freeFormed, runFormed}
@@ -57,7 +57,7 @@ no-run z at =
 
 -- ---- zeros
 
-pub no-jobs-words : jobsWords noJobs ≡ window [] 0 24
+pub no-jobs-words : jobsWords noJobs ≡ window [] 0 planSize
 no-jobs-words = ap jobsWords (sym (no-jobs 0)) ∙ jobs-laws .round [] 0
 
 pub zeros-free : (z : Counts) (l : List ℕ) (at : ℕ)

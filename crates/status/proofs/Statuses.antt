@@ -2,7 +2,7 @@
 -- freed-words: zeros. marked-words: two masks. spoiled-words: the state.
 -- put-on: words stored after others, as one store.
 -- Assumes nothing.
-use mathlib.Core.Path.{_≡_, refl, sym, ap, _∙_}
+use mathlib.Core.Path.{_≡_, sym, ap, _∙_}
 use mathlib.Core.List.{List}
 use mathlib.Core.Logic.{_≢_}
 use Prim.Native.Nat.{ℕ, zero, suc, _+_}
@@ -11,23 +11,27 @@ use native.Mathlib.Omega.{arith}
 use lib.ListN.{getD, set}
 use lib.Seq.{set-getD, getD-set-other}
 use Rattle.words.specs.Words.{put}
+use Rattle.sizes.specs.Bounds.{jobsOffset, doneOffset, readOffset, planOffset}
 use Rattle.model.specs.Outcome.{brokenState}
 use Rattle.status.specs.Lent.{statusAt, putStatus, freed, marked, spoiled}
 
 pub freed-words : (l : List ℕ) (at : ℕ)
-    → putStatus l at (freed (statusAt l at)) ≡ put l at 4 (λ _. 0)
+    → putStatus l at (freed (statusAt l at)) ≡ put l at planOffset (λ _. 0)
 unfolding putStatus freed put
 freed-words l at =
-    let three : List ℕ → List ℕ = λ m. set (set (set m (at + 1) 0) (at + 2) 0) (at + 3) 0 in
+    let three : List ℕ → List ℕ =
+    λ m. set (set (set m (at + jobsOffset) 0) (at + doneOffset) 0) (at + readOffset) 0 in
     ap (λ (i : ℕ). three (set l i 0)) (sym (add-zero at))
 
 pub marked-words : (l : List ℕ) (at done read : ℕ)
-    → putStatus l at (marked (statusAt l at) done read) ≡ set (set l (at + 2) done) (at + 3) read
+    → putStatus l at (marked (statusAt l at) done read)
+    ≡ set (set l (at + doneOffset) done) (at + readOffset) read
 unfolding putStatus marked statusAt
 marked-words l at done read =
-    let masks : List ℕ → List ℕ = λ m. set (set m (at + 2) done) (at + 3) read in
-    ap (λ (m : List ℕ). masks (set m (at + 1) (getD l (at + 1) 0))) (set-getD l at 0)
-    ∙ ap masks (set-getD l (at + 1) 0)
+    let masks : List ℕ → List ℕ = λ m. set (set m (at + doneOffset) done) (at + readOffset) read in
+    let jobs = at + jobsOffset in
+    ap (λ (m : List ℕ). masks (set m jobs (getD l jobs 0))) (set-getD l at 0)
+    ∙ ap masks (set-getD l jobs 0)
 
 -- A word stored again after another was changed.
 again : (l : List ℕ) (i x j : ℕ) → j ≢ i → set (set l i x) j (getD l j 0) ≡ set l i x
@@ -39,11 +43,12 @@ pub spoiled-words : (l : List ℕ) (at : ℕ)
 unfolding putStatus spoiled statusAt
 spoiled-words l at =
     let w : ℕ → ℕ = λ i. getD l i 0 in
-    ap (λ (m : List ℕ). set (set m (at + 2) (w (at + 2))) (at + 3) (w (at + 3)))
-    (again l at brokenState (at + 1) (omega arith))
-    ∙ ap (λ (m : List ℕ). set m (at + 3) (w (at + 3)))
-    (again l at brokenState (at + 2) (omega arith))
-    ∙ again l at brokenState (at + 3) (omega arith)
+    let done = at + doneOffset in
+    let read = at + readOffset in
+    ap (λ (m : List ℕ). set (set m done (w done)) read (w read))
+    (again l at brokenState (at + jobsOffset) (omega arith))
+    ∙ ap (λ (m : List ℕ). set m read (w read)) (again l at brokenState done (omega arith))
+    ∙ again l at brokenState read (omega arith)
 
 pub put-on : (l : List ℕ) (at m n : ℕ) (f : ℕ → ℕ)
     → put (put l at m f) (at + m) n (λ i. f (m + i)) ≡ put l at (m + n) f

@@ -5,6 +5,7 @@
 use mathlib.Core.List.{List}
 use Prim.Native.Nat.{ℕ, _+_}
 use lib.ListN.{getD, set}
+use Rattle.sizes.specs.Bounds.{jobsOffset, doneOffset, readOffset}
 use Rattle.model.specs.Outcome.{brokenState}
 use Rattle.status.specs.declared.lent.RunStatus.{RunStatus}
 
@@ -12,14 +13,15 @@ use Rattle.status.specs.declared.lent.RunStatus.{RunStatus}
 unfoldable pub statusAt : List ℕ → ℕ → RunStatus
 statusAt l at = record {
   state = getD l at 0;
-  jobs = getD l (at + 1) 0;
-  done = getD l (at + 2) 0;
-  read = getD l (at + 3) 0;
+  jobs = getD l (at + jobsOffset) 0;
+  done = getD l (at + doneOffset) 0;
+  read = getD l (at + readOffset) 0;
 }
 
 unfoldable pub putStatus : List ℕ → ℕ → RunStatus → List ℕ
 putStatus l at s =
-    set (set (set (set l at (s .state)) (at + 1) (s .jobs)) (at + 2) (s .done)) (at + 3) (s .read)
+    set (set (set (set l at (s .state)) (at + jobsOffset) (s .jobs)) (at + doneOffset) (s .done))
+    (at + readOffset) (s .read)
 
 -- "a freed run is all zero"
 unfoldable pub freed : RunStatus → RunStatus

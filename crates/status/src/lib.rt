@@ -7,11 +7,13 @@ use lent::freed;
 use lent::marked;
 use lent::spoiled;
 use sizes::Counts;
+use sizes::run::RunOffset;
 use states::is_allowed;
 use words::zero;
 ghost use mathlib.Core.Path.{_≡_};
 ghost use Prim.Native.Nat.{_+_, _≤_, _<_};
 ghost use lib.ListN.{length};
+ghost use Rattle.sizes.specs.Bounds.{planOffset};
 ghost use Rattle.model.specs.Store.{freeRun};
 ghost use Rattle.layout.specs.Reading.{storeOf};
 ghost use Rattle.layout.specs.Stored.{putRun};
@@ -44,12 +46,12 @@ pub fn clear_run(words: &mut [u32], z: Counts, at: usize)
 {
     let n = z.run_size();
     free_status(words, at);
-    zero(words, at + 4, n - 4);
+    zero(words, at + RunOffset::PLAN, n - RunOffset::PLAN);
 }
 
 // Frees what stands first in the run at an index.
 fn free_status(words: &mut [u32], at: usize)
-    requires { ⌜ at + 4 ≤ length (now words) ⌝ }
+    requires { ⌜ at + planOffset ≤ length (now words) ⌝ }
     ensures { λ _. ⌜ now (words .exit)
         ≡ putStatus (now (words .entry)) at (freed (statusAt (now (words .entry)) at)) ⌝ }
 {
@@ -59,7 +61,7 @@ fn free_status(words: &mut [u32], at: usize)
 
 // Marks in the run at an index which jobs are done and which keys are read.
 pub fn mark_done(words: &mut [u32], at: usize, done: u32, read: u32)
-    requires { ⌜ at + 4 ≤ length (now words) ⌝ }
+    requires { ⌜ at + planOffset ≤ length (now words) ⌝ }
     ensures { λ _. ⌜ now (words .exit)
         ≡ putStatus (now (words .entry)) at
         (marked (statusAt (now (words .entry)) at) done read) ⌝ }
@@ -70,7 +72,7 @@ pub fn mark_done(words: &mut [u32], at: usize, done: u32, read: u32)
 
 // Breaks the run at an index.
 pub fn mark_broken(words: &mut [u32], at: usize)
-    requires { ⌜ at + 4 ≤ length (now words) ⌝ }
+    requires { ⌜ at + planOffset ≤ length (now words) ⌝ }
     ensures { λ _. ⌜ now (words .exit)
         ≡ putStatus (now (words .entry)) at (spoiled (statusAt (now (words .entry)) at)) ⌝ }
 {
@@ -80,24 +82,24 @@ pub fn mark_broken(words: &mut [u32], at: usize)
 
 // What stands first in the run at an index.
 fn status_at(words: &[u32], at: usize) -> RunStatus
-    requires { ⌜ at + 4 ≤ length (now words) ⌝ }
+    requires { ⌜ at + planOffset ≤ length (now words) ⌝ }
     ensures { λ s. ⌜ s ≡ statusAt (now (words .entry)) at ⌝ }
 {
     RunStatus {
         state: words[at],
-        jobs: words[at + 1],
-        done: words[at + 2],
-        read: words[at + 3],
+        jobs: words[at + RunOffset::JOBS],
+        done: words[at + RunOffset::DONE],
+        read: words[at + RunOffset::READ],
     }
 }
 
 // Stores what stands first in the run at an index.
 fn put_status(words: &mut [u32], at: usize, s: RunStatus)
-    requires { ⌜ at + 4 ≤ length (now words) ⌝ }
+    requires { ⌜ at + planOffset ≤ length (now words) ⌝ }
     ensures { λ _. ⌜ now (words .exit) ≡ putStatus (now (words .entry)) at s ⌝ }
 {
     words[at] = s.state;
-    words[at + 1] = s.jobs;
-    words[at + 2] = s.done;
-    words[at + 3] = s.read;
+    words[at + RunOffset::JOBS] = s.jobs;
+    words[at + RunOffset::DONE] = s.done;
+    words[at + RunOffset::READ] = s.read;
 }

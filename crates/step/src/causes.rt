@@ -4,6 +4,8 @@ use masks::without;
 use sizes::Counts;
 use sizes::Sizes;
 use sizes::job_at;
+use sizes::run::JobOffset;
+use sizes::run::RunOffset;
 use states::FREE_STATE;
 use states::STEP_ROW;
 use states::is_allowed;
@@ -41,14 +43,18 @@ pub fn job_cause(words: &[u32], z: Counts, r: usize, j: usize) -> u32
     ensures { λ c. ⌜ c ≡ jobCause (storeOf (now (words .entry))) r j ⌝ }
 {
     let at = z.run_at(r);
-    if job_limit(words[at], words[at + 1]) <= j {
+    if job_limit(words[at], words[at + RunOffset::JOBS]) <= j {
         return 3;
     }
     if !is_allowed(STEP_ROW, words[at]) {
         return 4;
     }
-    let job = job_at(at + 4, j);
-    if is_unready(words[at + 2], words[job + 2], j as u32) {
+    let job = job_at(at + RunOffset::PLAN, j);
+    if is_unready(
+        words[at + RunOffset::DONE],
+        words[job + JobOffset::UPSTREAM],
+        j as u32,
+    ) {
         return 6;
     }
     0

@@ -15,6 +15,8 @@ use sets::missing::is_unfetchable;
 use sets::missing::lacking;
 use sizes::Counts;
 use sizes::job_at;
+use sizes::run::JobOffset;
+use sizes::run::RunOffset;
 use status::mark_broken;
 use status::mark_done;
 use version::copy_keys;
@@ -26,7 +28,7 @@ ghost use Prim.Native.Nat.{_+_, _^_, _≤_, _<_};
 ghost use lib.Bits.{bitAnd};
 ghost use lib.ListN.{length};
 ghost use Rattle.masks.specs.Mask.{without, maskBelow};
-ghost use Rattle.sizes.specs.Bounds.{maxJobs};
+ghost use Rattle.sizes.specs.Bounds.{maxJobs, doneOffset, readOffset, planOffset};
 ghost use Rattle.model.specs.Outcome.{answer};
 ghost use Rattle.model.specs.Step.{stepCause};
 ghost use Rattle.model.specs.Calls.{step};
@@ -137,7 +139,7 @@ fn run_visit(words: &[u32], z: Counts, r: usize, j: usize) -> Visit
 {
     let at = z.run_at(r);
     let snapshot = z.snapshot_at(r);
-    visit_of(words, z, at, snapshot, at + 3, j)
+    visit_of(words, z, at, snapshot, at + RunOffset::READ, j)
 }
 
 // What a step of job j looks at, of the run at an index. The snapshot and the read mask are the
@@ -149,16 +151,21 @@ fn visit_of(words: &[u32], z: Counts, at: usize, snapshot: usize, read: usize, j
         × (readRun z (now words) at .job j .site < z .sites) ⌝ }
     ensures { λ v. ⌜ v ≡ visitOf z (now (words .entry)) at snapshot read j ⌝ }
 {
-    let job = job_at(at + 4, j);
+    let job = job_at(at + RunOffset::PLAN, j);
     let areas = z.areas();
     let cache = z.site_at(wide(words[job]));
-    let plan = reads_of(words, at + 4, words[at + 1], EVERY_JOB);
+    let plan = reads_of(
+        words,
+        at + RunOffset::PLAN,
+        words[at + RunOffset::JOBS],
+        EVERY_JOB,
+    );
     Visit {
         master: areas.master,
         cache,
         snapshot,
         plan,
-        reads: words[job + 1],
+        reads: words[job + JobOffset::READS],
         read: words[read],
     }
 }
@@ -195,11 +202,11 @@ fn try_visit(words: &[u32], z: Counts, visit: Visit) -> Trial
 fn finish(words: &mut [u32], z: Counts, visit: Visit, trial: Trial, at: usize, job: u32)
     requires { ⌜ VisitArea (length (now words)) z visit × VisitFormed (now words) z visit ⌝ }
     requires { ⌜ trial ≡ trialOf z (now words) visit ⌝ }
-    requires { ⌜ (at + 4 ≤ length (now words)) × (job < 32) ⌝ }
+    requires { ⌜ (at + planOffset ≤ length (now words)) × (job < 32) ⌝ }
     ensures { λ _. ⌜ now (words .exit)
-        ≡ finished z (now (words .entry)) visit (at + 2) (at + 3) job ⌝ }
+        ≡ finished z (now (words .entry)) visit (at + doneOffset) (at + readOffset) job ⌝ }
 {
-    let jobs_done = with_item(words[at + 2], job);
+    let jobs_done = with_item(words[at + RunOffset::DONE], job);
     copy_keys(words, z, visit.cache, visit.master, trial.taken);
     merge_keys(words, z, visit.snapshot, visit.cache, trial.pulled);
     mark_done(words, at, jobs_done, visit.read | visit.reads);

@@ -6,6 +6,7 @@ use Prim.Native.Nat.{ℕ, _+_, _≤_}
 use borrow.Author.Needs.{needs}
 use native.Mathlib.Omega.{arith}
 use lib.ListN.{length, getD}
+use Rattle.sizes.specs.Bounds.{snapshotOffset}
 use Rattle.model.specs.Outcome.{refuse, prepareRow}
 use Rattle.model.specs.Prepare.{prepareCause}
 use Rattle.layout.specs.Reading.{storeOf}
@@ -40,7 +41,8 @@ run-at-requires c κs =
     let U = used c in (jobs-known _ _ _ U .area .ranged, U .run)
 
 here : (c : tie.After-run-at)
-    → c .run-at .result + 28 ≤ length (c .before .before .before .before .args .words .now)
+    → c .run-at .result + snapshotOffset
+    ≤ length (c .before .before .before .before .args .words .now)
 here c = run-index _ _ _ (used (c .before)) _ (c .run-at .ensures)
 
 add-if2 : tie.Need-add-if2

@@ -1,4 +1,4 @@
--- `job_at` is the offset of a job of three words.
+-- `job_at` is where a job begins.
 -- Assumes nothing.
 use mathlib.Core.Path.{refl}
 use borrow.Author.Needs.{needs}

@@ -6,7 +6,7 @@ use Prim.Native.Nat.{ℕ, _+_, _-_}
 use borrow.Author.Needs.{needs}
 use native.Mathlib.Omega.{arith}
 use Rattle.words.specs.Words.{put}
-use Rattle.sizes.specs.Bounds.{runSize}
+use Rattle.sizes.specs.Bounds.{planOffset, runSize}
 use Rattle.status.proofs.Freed.{zeros-free}
 use Rattle.status.proofs.Known.{area-ends}
 use Rattle.status.proofs.Statuses.{freed-words, put-on}
@@ -47,11 +47,12 @@ returns c =
     let a = n .before .before .args in
     let l = a .words .now in
     let size = n .run-size .result in
-    let e : 4 + (size - 4) ≡ runSize (a .z) = omega (arith, n .run-size .ensures) in
+    let rest = size - planOffset in
+    let e : planOffset + rest ≡ runSize (a .z) = omega (arith, n .run-size .ensures) in
     t .zero .ensures
-    ∙ ap (λ (m : List ℕ). put m (a .at + 4) (size - 4) (λ _. 0))
+    ∙ ap (λ (m : List ℕ). put m (a .at + planOffset) rest (λ _. 0))
     (f .free-status .ensures ∙ freed-words l (a .at))
-    ∙ put-on l (a .at) 4 (size - 4) (λ _. 0)
+    ∙ put-on l (a .at) planOffset rest (λ _. 0)
     ∙ ap (λ (k : ℕ). put l (a .at) k (λ _. 0)) e ∙ zeros-free (a .z) l (a .at)
 
 pub clear-run-spec : {M : Type 1} → statement M

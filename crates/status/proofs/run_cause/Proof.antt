@@ -5,6 +5,7 @@ use mathlib.Core.Bool.{Bool, not}
 use Prim.Native.Nat.{_+_, _≤_}
 use native.Mathlib.Omega.{arith}
 use lib.ListN.{length}
+use Rattle.sizes.specs.Bounds.{snapshotOffset}
 use Rattle.model.specs.Outcome.{refuse}
 use Rattle.layout.specs.Reading.{storeOf}
 use Rattle.status.specs.Status.{runCause}
@@ -28,7 +29,7 @@ run-at-requires : tie.Need-run-at-requires
 run-at-requires c κs = (known c .area .ranged, c .if1 .left)
 
 here : (c : tie.After-run-at)
-    → c .run-at .result + 28 ≤ length (c .before .before .before .args .words .now)
+    → c .run-at .result + snapshotOffset ≤ length (c .before .before .before .args .words .now)
 here c = rw (c .run-at .ensures) (omega (arith, known (c .before) .area .fits))
 
 mul-is-allowed : tie.Need-mul-is-allowed

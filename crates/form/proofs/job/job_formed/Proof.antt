@@ -5,6 +5,7 @@ use Prim.Native.Nat.{_+_, _≤_}
 use lib.ListN.{length}
 use borrow.Author.Tests.{lt-ltb, le-ltb}
 use borrow.Author.Needs.{needs}
+use Rattle.sizes.specs.Bounds.{jobSize}
 use Rattle.sizes.proofs.Offsets.{job-lies}
 use Rattle.form.specs.Parts.{jobFormed}
 use Rattle.form.proofs.Runs.{job-words}
@@ -13,7 +14,7 @@ use Rattle.form.proofs.job.job_formed.Tie as tie
 
 -- The three words of the job lie in the buffer.
 inside : (c : tie.After-job-at) → let a = c .before .before .args in
-    c .job-at .result + 3 ≤ length (a .words .now)
+    c .job-at .result + jobSize ≤ length (a .words .now)
 inside c =
     let s = c .before .before in
     let a = s .args in

@@ -7,7 +7,7 @@ use lib.ListN.{length}
 use borrow.Author.Needs.{needs}
 use native.Mathlib.Omega.{arith}
 use Rattle.masks.specs.Mask.{unionBelow}
-use Rattle.sizes.specs.Bounds.{maxJobs}
+use Rattle.sizes.specs.Bounds.{maxJobs, jobSize}
 use Rattle.sizes.proofs.Offsets.{job-lies}
 use Rattle.layout.specs.Reading.{readJobs}
 use Rattle.form.specs.Parts.{readsOf}
@@ -35,7 +35,7 @@ job-at-requires c κs = search needs
 -- The three words of the job lie in the buffer.
 inside : (c : tie.After-job-at Inv-loop μ-loop)
     → let l = c .before .before .before in
-    c .job-at .result + 3 ≤ length (l .before .before .args .words .now)
+    c .job-at .result + jobSize ≤ length (l .before .before .args .words .now)
 inside c =
     let w = c .before in
     let l = w .before .before in

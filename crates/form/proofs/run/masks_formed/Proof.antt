@@ -4,12 +4,12 @@ use Prim.Native.Nat.{_+_, _≤_}
 use borrow.Author.Needs.{needs}
 use native.Mathlib.Omega.{arith}
 use lib.ListN.{getD}
-use Rattle.sizes.specs.Bounds.{maxJobs}
+use Rattle.sizes.specs.Bounds.{maxJobs, jobsOffset}
 use Rattle.form.proofs.Masks.{jobs-most, masks-test}
 use Rattle.form.proofs.run.masks_formed.Statement.{statement}
 use Rattle.form.proofs.run.masks_formed.Tie as tie
 
-most : (c : tie.Start) → let a = c .args in getD (a .words .now) (a .at + 1) 0 ≤ maxJobs
+most : (c : tie.Start) → let a = c .args in getD (a .words .now) (a .at + jobsOffset) 0 ≤ maxJobs
 most c = jobs-most (c .args .z) (c .args .words .now) (c .args .at) (c .pre .1)
 
 add-n : tie.Need-add-n

@@ -4,6 +4,7 @@ use mathlib.Core.Path.{ap, _∙_}
 use Prim.Native.Nat.{ℕ, _+_, _≤_}
 use native.Mathlib.Omega.{arith}
 use lib.ListN.{length, getD}
+use Rattle.sizes.specs.Bounds.{snapshotOffset}
 use Rattle.prepare.proofs.Known.{jobs-known, run-index, count-word}
 use Rattle.prepare.proofs.jobs.job_count.Statement.{statement}
 use Rattle.prepare.proofs.jobs.job_count.Tie as tie
@@ -15,7 +16,7 @@ run-at-requires c κs =
     (jobs-known (a .words .now) (a .z) (a .r) (s .pre) .area .ranged, s .pre .run)
 
 here : (c : tie.After-run-at)
-    → c .run-at .result + 28 ≤ length (c .before .before .args .words .now)
+    → c .run-at .result + snapshotOffset ≤ length (c .before .before .args .words .now)
 here c =
     let s = c .before .before in
     run-index (s .args .words .now) (s .args .z) (s .args .r) (s .pre) _ (c .run-at .ensures)

@@ -4,7 +4,7 @@ use Prim.Native.Nat.{_+_, _≤_}
 use borrow.Author.Needs.{needs}
 use native.Mathlib.Omega.{arith}
 use lib.ListN.{length}
-use Rattle.sizes.specs.Bounds.{maxJobs}
+use Rattle.sizes.specs.Bounds.{maxJobs, snapshotOffset}
 use Rattle.prepare.proofs.Known.{jobs-known, run-index, plan-as}
 use Rattle.prepare.proofs.jobs.plan_keys.Statement.{statement}
 use Rattle.prepare.proofs.jobs.plan_keys.Tie as tie
@@ -19,7 +19,8 @@ run-at-requires c κs =
     (jobs-known (a .words .now) (a .z) (a .r) (s .pre) .area .ranged, s .pre .run)
 
 here : (c : tie.After-run-at) → let a = c .before .before .before .args in
-    (c .run-at .result + 28 ≤ length (a .words .now)) × (c .before .job-count .result ≤ maxJobs)
+    (c .run-at .result + snapshotOffset ≤ length (a .words .now))
+    × (c .before .job-count .result ≤ maxJobs)
 here c =
     let s = c .before .before .before in
     let a = s .args in (

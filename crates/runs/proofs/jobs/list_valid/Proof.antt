@@ -8,7 +8,7 @@ use borrow.Author.Tests.{not-true, not-false}
 use native.Mathlib.Omega.{arith}
 use lib.ListN.{length}
 use Rattle.words.proofs.Bools.{eq-eqb, ne-eqb}
-use Rattle.sizes.specs.Bounds.{maxJobs, between}
+use Rattle.sizes.specs.Bounds.{maxJobs, jobSize, between}
 use Rattle.sizes.proofs.Offsets.{between-out}
 use Rattle.model.specs.Runs.{listedCount, listValid}
 use Rattle.runs.proofs.jobs.list_valid.Statement.{statement}
@@ -32,7 +32,7 @@ returns-2 c =
 
 -- There are 1 to 8 jobs.
 enough : (c : tie.Else2) → let l = c .before .before .before .before .args .jobs .now in
-    between maxJobs (length l / 3) ≡ true
+    between maxJobs (length l / jobSize) ≡ true
 enough c = sym (c .before .is-between .ensures) ∙ not-false _ (c .if2 .left)
 
 each-valid-requires : tie.Need-each-valid-requires

@@ -3,7 +3,7 @@
 use mathlib.Core.Path.{refl}
 use Prim.Native.Nat.{ℕ, _+_, _*_, _≤_}
 use native.Mathlib.Omega.{arith}
-use Rattle.sizes.specs.Bounds.{Ranged, countsOf, pastSize, versionSize, placeSize, siteSize, writerSize, runSize, masterAt, sitesAt, writersAt, runsAt, totalOf, sizesOf}
+use Rattle.sizes.specs.Bounds.{Ranged, countsOf, snapshotOffset, pastSize, versionSize, placeSize, siteSize, writerSize, runSize, masterAt, sitesAt, writersAt, runsAt, totalOf, sizesOf}
 use Rattle.sizes.proofs.Offsets.{largest}
 use Rattle.sizes.proofs.Sizes.of.Statement.{statement}
 use Rattle.sizes.proofs.Sizes.of.Tie as tie
@@ -11,7 +11,7 @@ use Rattle.sizes.proofs.Sizes.of.Tie as tie
 -- The largest products of four counts.
 most : (k w n p : ℕ) → Ranged (countsOf k w n p)
     → (k * (1 + k * w) ≤ 16416) × (n * (k * (1 + k * w)) ≤ 131328) × (k * w ≤ 512)
-    × (w * (1 + k * w) ≤ 8208) × (p * (28 + k * (1 + k * w)) ≤ 131552)
+    × (w * (1 + k * w) ≤ 8208) × (p * (snapshotOffset + k * (1 + k * w)) ≤ 131552)
 unfolding pastSize versionSize placeSize siteSize writerSize runSize
 most k w n p R =
     let m = largest (countsOf k w n p) R in (m .place, m .sites, m .past, m .writers, m .runs)
