@@ -17,7 +17,7 @@ use Rattle.model.specs.Runs.{openCause, openDone, openRule, openedRun, dropCaus
 use Rattle.model.specs.Caches.{fetchCause, fetchDone, fetchRule, evictCause, evictDone, evictRule}
 use Rattle.model.specs.Prepare.{prepareCause, prepareDone, prepareRule}
 use Rattle.model.specs.Step.{stepCause, stepBroken, stepDone, stepRule, stepMoved}
-use Rattle.model.specs.Issue.{issueCause, issueSaved, issueDone, issueRule}
+use Rattle.model.specs.Issue.{issueCause, savedStore, issuedStore, issueDone, issueRule}
 use Rattle.model.specs.Look.{lookCause, lookDone, lookRule}
 use Rattle.model.specs.Calls.{StoreCall, openRun, fetch, evict, prepare, step, issue, dropRun, look, ruleOf}
 use Rattle.model.proofs.Outcomes.{no-cause, no-lack, allowed-used, free-state, unless-cases, nextStore}
@@ -183,7 +183,8 @@ module _ (s : Store) (F : Fine s) (r : ℕ) (h : r < s .counts .runs) where
       (λ _. lasts-refused (dropRun x) r (dropCause s x) (s .run r))
 
   issue-lasts : (x w S : ℕ) → Now (issue x w S) (issueRule x w S s)
-  unfolding issueRule issueDone issueSaved withRun withMaster withWriter withLast frees isOk
+  unfolding issueRule issueDone issuedStore savedStore withRun withMaster withWriter withLast
+      frees isOk
   issue-lasts x w S =
       unless-cases (Now (issue x w S)) (issueCause s x w S) (issueDone s x w S)
       (λ _. test (eqb S 0)

@@ -27,7 +27,7 @@ use Rattle.model.specs.Caches.{fetchCause, fetchDone, fetchRule, evictCause, ev
 use Rattle.model.specs.Runs.{listedJob, listedCount, listedJobs, listValid, openCause, openedRun, openDone, openRule, dropCause, dropDone, dropRule}
 use Rattle.model.specs.Prepare.{jobStart, fetchReads, preparedCaches, unpreparable, usesSite, sitesMerged, siteCaches, prepareCause, prepareCaches, prepareSnapshot, prepareDone, prepareRule}
 use Rattle.model.specs.Step.{readStart, stepSite, stepReads, stepStart, stepFetch, stepCache, stepPlan, stepPull, stepSnapshot, stepMoved, jobLimit, notReady, stepCause, stepBroken, stepDone, stepRule}
-use Rattle.model.specs.Issue.{issueCause, takenIn, newPast, newVersion, issuedMaster, issuedWriter, issueSaved, issueDone, issueRule}
+use Rattle.model.specs.Issue.{raiseCause, issueCause, takenIn, rowsSet, newPast, newVersion, issuedMaster, issuedWriter, savedStore, issuedStore, issuedNumber, issueDone, issueRule}
 use Rattle.model.specs.Look.{lookPlace, lookLimit, lookCause, rowNumbers, lookDone, lookRule}
 use Rattle.model.specs.Calls.{StoreCall, openRun, fetch, step, issue, ruleOf}
 use Rattle.model.proofs.Outcomes.{nextStore}
@@ -145,17 +145,18 @@ unfolding anyBelow allBelow only foldBelow countBelow largest when putAt upto bl
     lacking held dependency supersedes larger merge draws drawSet fetchSet fetched unfetchable
     evictSet evicted pullSet pulled fresh planned withMaster withLast withSites withCache
     withWriter withRun withState withSnapshot withJobDone validJob refuse unless allowed
-    fetchCause fetchDone fetchRule evictCause evictDone evictRule listedJob listedCount listedJobs
-    listValid openCause openedRun openDone openRule dropCause dropDone dropRule jobStart
-    fetchReads preparedCaches unpreparable usesSite sitesMerged siteCaches prepareCause
-    prepareCaches prepareSnapshot prepareDone prepareRule readStart stepSite stepReads stepStart
-    stepFetch stepCache stepPlan stepPull stepSnapshot stepMoved jobLimit notReady stepCause
-    stepBroken stepDone stepRule issueCause takenIn newPast newVersion issuedMaster issuedWriter
-    issueSaved issueDone issueRule lookPlace lookLimit lookCause rowNumbers lookDone lookRule
-    ruleOf clockWords pastWords versionWords placeWords siteWords sitesWords writerWords
-    writersWords jobWords jobsWords runWords runsWords headerWords storeWords readClock readPast
-    readVersion readPlace readSite readWriter readJob readJobs readRun countsIn storeOf isOk
-    writerOf leads inPast reaches heldCopy needsCopy meetsCopy union lastIn byWriter counted
-    freshBook withBookCaches withBookRun bookOpen bookFetch bookEvict bookPrepare bookStepJob
-    entry bookIssue bookIssued bookRule bookOk bookStep
+    fetchCause fetchDone fetchRule evictCause evictDone evictRule listedJob listedCount
+    listedJobs listValid openCause openedRun openDone openRule dropCause dropDone dropRule
+    jobStart fetchReads preparedCaches unpreparable usesSite sitesMerged siteCaches
+    prepareCause prepareCaches prepareSnapshot prepareDone prepareRule readStart stepSite
+    stepReads stepStart stepFetch stepCache stepPlan stepPull stepSnapshot stepMoved jobLimit
+    notReady stepCause stepBroken stepDone stepRule raiseCause issueCause takenIn rowsSet
+    newPast newVersion issuedMaster issuedWriter savedStore issuedStore issuedNumber issueDone
+    issueRule lookPlace lookLimit lookCause rowNumbers lookDone lookRule ruleOf clockWords
+    pastWords versionWords placeWords siteWords sitesWords writerWords writersWords jobWords
+    jobsWords runWords runsWords headerWords storeWords readClock readPast readVersion
+    readPlace readSite readWriter readJob readJobs readRun countsIn storeOf isOk writerOf leads
+    inPast reaches heldCopy needsCopy meetsCopy union lastIn byWriter counted freshBook
+    withBookCaches withBookRun bookOpen bookFetch bookEvict bookPrepare bookStepJob entry
+    bookIssue bookIssued bookRule bookOk bookStep
 scripted = record { later = refl; reading = refl; case-a = refl; longer = refl }

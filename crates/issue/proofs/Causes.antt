@@ -4,7 +4,7 @@
 -- lower rows, jobsCause. issue-ready: no cause.
 -- Assumes nothing.
 use mathlib.Core.Path.{_≡_, refl, sym, _∙_}
-use mathlib.Core.Bool.{Bool, true, false, cond, not, _&&_, _||_}
+use mathlib.Core.Bool.{Bool, true, false, cond, not, _||_}
 use mathlib.Core.Logic.{_≢_}
 use mathlib.Core.List.{List}
 use Prim.Native.Nat.{ℕ, _<_, _^_}
@@ -18,14 +18,14 @@ use Rattle.sizes.specs.declared.Counts.{Counts}
 use Rattle.sizes.specs.Bounds.{writerAt}
 use Rattle.model.specs.Store.{Store}
 use Rattle.model.specs.Outcome.{refuse, allowed, issueRow}
-use Rattle.model.specs.Issue.{maxWord, issueCause}
+use Rattle.model.specs.Issue.{maxWord, raiseCause, issueCause}
 use Rattle.model.proofs.Outcomes.{no-cause, no-lack}
 use Rattle.layout.specs.Reading.{storeOf}
 use Rattle.layout.proofs.Readings.{last-in}
 use Rattle.form.specs.Parts.{FormWith}
 use Rattle.form.proofs.Known.{form-counts}
 use Rattle.status.specs.Status.{runCause}
-use Rattle.issue.specs.Saves.{raiseCause, Savable}
+use Rattle.issue.specs.Saves.{Savable}
 use Rattle.issue.proofs.Known.{count-word}
 
 pub not-below : (a b : ℕ) → not (ltb a b) ≡ leb b a
@@ -69,14 +69,6 @@ three true b c n rest = refl
 three false true c n rest = refl
 three false false c n rest = refl
 
--- The last two rows are for a mask that isn't empty.
-saving : (e a b : Bool)
-    → refuse (not e && a) 9 (refuse (not e && b) 10 0)
-    ≡ cond e 0 (refuse a 9 (refuse b 10 0))
-unfolding refuse
-saving true a b = refl
-saving false a b = refl
-
 module _ (l : List ℕ) (z : Counts) (H : FormWith l z) (r w S : ℕ) where
   abbrev s : Store
   s = storeOf l
@@ -84,12 +76,9 @@ module _ (l : List ℕ) (z : Counts) (H : FormWith l z) (r w S : ℕ) where
   pub issue-cause : issueCause s r w S
       ≡ refuse (beyond z r w S) 3
       (refuse (not (allowed issueRow (s .run r .state))) 4 (jobsCause s r w S))
-  unfolding issueCause raiseCause
+  unfolding issueCause
   issue-cause =
-      rw (
-        form-counts l z H,
-        saving (eqb S 0) (eqb (s .last) maxWord) (eqb (s .writer w .count) maxWord),
-      )
+      rw (form-counts l z H)
       (three (leb (z .runs) r) (leb (z .writers) w) (leb (2 ^ z .keys) S) 3 _)
 
   pub in-range : beyond z r w S ≡ false

@@ -23,6 +23,7 @@ use Rattle.sizes.specs.declared.Counts.{Counts}
 use Rattle.sizes.specs.Bounds.{pastSize, writerSize, rowAt}
 use Rattle.model.specs.Version.{larger}
 use Rattle.model.specs.Store.{Writer}
+use Rattle.model.specs.Issue.{newVersion}
 use Rattle.layout.specs.Words.{clockWords, pastWords, versionWords, writerWords}
 use Rattle.layout.specs.Reading.{readWord, readClock, readPast, readVersion, readWriter}
 use Rattle.layout.specs.Stored.{putVersion, putWriter}
@@ -31,7 +32,7 @@ use Rattle.layout.proofs.Parts.{word-laws, clock-laws, past-laws, writer-laws}
 use Rattle.layout.proofs.Windows.{part-beside, part-again, part-twice}
 use Rattle.layout.proofs.Merges.{put-table}
 use Rattle.version.proofs.Versions.{table-window}
-use Rattle.issue.specs.Saves.{putPast, joinPasts, withPast, savedVersion}
+use Rattle.issue.specs.Saves.{putPast, joinPasts, withPast}
 
 -- Words that a loop stores over a part are those of the part that is read there after it.
 put-part : {A : Type 0} {v : ℕ} {words : A → List ℕ} {read : List ℕ → ℕ → A} {Fit : A → Type 0}
@@ -153,8 +154,8 @@ version-read z l at = refl
 pub version-merged : (z : Counts) (l : List ℕ) (v s n : ℕ) → v < s
     → let m = set l v (max (getD l v 0) n) in
     putPast z m (v + 1) (joinPasts (readPast z m (v + 1)) (readPast z m (s + 1)))
-    ≡ putVersion z l v (larger (readVersion z l v) (savedVersion n (readPast z l (s + 1))))
-unfolding versionWords readVersion larger
+    ≡ putVersion z l v (larger (readVersion z l v) (newVersion n (readPast z l (s + 1))))
+unfolding versionWords readVersion larger newVersion
 version-merged z l v s n h =
     let x = max (getD l v 0) n in
     let own : readPast z (set l v x) (v + 1) ≡ readPast z l (v + 1) =

@@ -23,9 +23,10 @@ use Rattle.clock.specs.Clock.{Clock}
 use Rattle.model.specs.Algebra.{Place}
 use Rattle.model.specs.Version.{Version}
 use Rattle.model.specs.Store.{Writer}
+use Rattle.model.specs.Issue.{takenIn, rowsSet}
 use Rattle.layout.proofs.Codec.{Laws}
 use Rattle.layout.proofs.Windows.{part-again, part-twice}
-use Rattle.issue.specs.Saves.{joinPasts, withPast, takes, takenPast, rowSet, rowsSet}
+use Rattle.issue.specs.Saves.{joinPasts, withPast, takes, rowSet}
 
 -- ---- one part of a buffer
 
@@ -72,11 +73,11 @@ module _ (read : ℕ) (p : Place Version) where
   taking : ℕ → (ℕ → Clock) → ℕ → Clock
   taking k q = cond (testBit read k) (joinPasts q (p k .past)) q
 
-  taken-rows : (n : ℕ) (past : ℕ → Clock) → foldBelow n taking past ≡ takenPast n read p past
-  unfolding foldBelow taking
+  taken-rows : (n : ℕ) (past : ℕ → Clock) → foldBelow n taking past ≡ takenIn n read p past
+  unfolding foldBelow taking takenIn
   taken-rows zero past = refl
   taken-rows (suc n) past =
-      ap (taking n) (taken-rows n past) ∙ one (testBit read n) (takenPast n read p past)
+      ap (taking n) (taken-rows n past) ∙ one (testBit read n) (takenIn n read p past)
     where
       one : (b : Bool) (q : ℕ → Clock)
           → cond b (joinPasts q (p n .past)) q
@@ -85,7 +86,7 @@ module _ (read : ℕ) (p : Place Version) where
       one false q = refl
 
   pub taken-fold : (n : ℕ) (x : Writer)
-      → foldBelow n (takes read p) x ≡ withPast x (takenPast n read p (x .past))
+      → foldBelow n (takes read p) x ≡ withPast x (takenIn n read p (x .past))
   unfolding taking
   taken-fold n x = past-fold n taking x ∙ ap (withPast x) (taken-rows n (x .past))
 
@@ -130,7 +131,7 @@ module _ (S w c : ℕ) where
   -- The rows below n, as the paper's sentence has them.
   pub rows-fold : (n : ℕ) (x : Writer) (d u : ℕ) → d < n
       → foldBelow n (rowSet S w c) x .past d u ≡ rowsSet S w c (x .past) d u
-  unfolding putAt setting
+  unfolding putAt setting rowsSet
   rows-fold n x d u h =
       ap (λ (y : Writer). y .past d u) (past-fold n setting x)
       ∙ ap (λ (r : Clock). r u) (rows-low n (x .past) d h) ∙ one (testBit S d)
