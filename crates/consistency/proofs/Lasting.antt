@@ -16,7 +16,7 @@ use Rattle.model.specs.Outcome.{Outcome, refused, broken, done, allowed, stepRo
 use Rattle.model.specs.Runs.{openCause, openDone, openRule, openedRun, dropCause, dropDone, dropRule}
 use Rattle.model.specs.Caches.{fetchCause, fetchDone, fetchRule, evictCause, evictDone, evictRule}
 use Rattle.model.specs.Prepare.{prepareCause, prepareDone, prepareRule}
-use Rattle.model.specs.Step.{stepCause, stepBroken, stepDone, stepRule, stepMoved}
+use Rattle.model.specs.Step.{jobCause, stepCause, stepBroken, stepDone, stepRule, stepMoved}
 use Rattle.model.specs.Issue.{issueCause, savedStore, issuedStore, issueDone, issueRule}
 use Rattle.model.specs.Look.{lookCause, lookDone, lookRule}
 use Rattle.model.specs.Calls.{StoreCall, openRun, fetch, evict, prepare, step, issue, dropRun, look, ruleOf}
@@ -107,7 +107,7 @@ module _ (s : Store) (F : Fine s) (r : ℕ) (h : r < s .counts .runs) where
 
   -- The run is open: only such a run is stepped.
   step-used : (x j : ℕ) → stepCause s x j ≡ 0 → s .run x .state ≢ freeState
-  unfolding stepCause allowed
+  unfolding stepCause jobCause allowed
   step-used x j e =
       let a = no-cause _ 3 _ (omega arith) e in
       let b = no-cause _ 3 _ (omega arith) (a .1) in

@@ -19,7 +19,7 @@ use Rattle.model.specs.Outcome.{answer, refuse, unless, allowed}
 use Rattle.model.specs.Caches.{fetchCause, fetchDone, fetchRule, evictCause, evictDone, evictRule}
 use Rattle.model.specs.Runs.{listedJob, listedCount, listedJobs, listValid, openCause, openedRun, openDone, openRule, dropCause, dropDone, dropRule}
 use Rattle.model.specs.Prepare.{jobStart, fetchReads, preparedCaches, unpreparable, usesSite, sitesMerged, siteCaches, prepareCause, prepareCaches, prepareSnapshot, prepareDone, prepareRule}
-use Rattle.model.specs.Step.{readStart, stepSite, stepReads, stepStart, stepFetch, stepCache, stepPlan, stepPull, stepSnapshot, stepMoved, jobLimit, notReady, stepCause, stepBroken, stepDone, stepRule}
+use Rattle.model.specs.Step.{readStart, stepSite, stepReads, stepStart, stepFetch, stepCache, stepPlan, stepPull, stepSnapshot, stepMoved, jobLimit, notReady, jobCause, stepCause, stepBroken, stepDone, stepRule}
 use Rattle.model.specs.Issue.{raiseCause, issueCause, takenIn, rowsSet, newPast, newVersion, issuedMaster, issuedWriter, savedStore, issuedStore, issuedNumber, issueDone, issueRule}
 use Rattle.model.specs.Look.{lookPlace, lookLimit, lookCause, rowNumbers, lookDone, lookRule}
 use Rattle.model.specs.Calls.{ruleOf}
@@ -48,10 +48,10 @@ unfolding needsMet causalCut overlappingCut concurrent doneReads zeroRows versio
     openRule dropCause dropDone dropRule jobStart fetchReads preparedCaches unpreparable
     usesSite sitesMerged siteCaches prepareCause prepareCaches prepareSnapshot prepareDone
     prepareRule readStart stepSite stepReads stepStart stepFetch stepCache stepPlan stepPull
-    stepSnapshot stepMoved jobLimit notReady stepCause stepBroken stepDone stepRule raiseCause
-    issueCause takenIn rowsSet newPast newVersion issuedMaster issuedWriter savedStore
-    issuedStore issuedNumber issueDone issueRule lookPlace lookLimit lookCause rowNumbers
-    lookDone lookRule ruleOf
+    stepSnapshot stepMoved jobLimit notReady jobCause stepCause stepBroken stepDone stepRule
+    raiseCause issueCause takenIn rowsSet newPast newVersion issuedMaster issuedWriter
+    savedStore issuedStore issuedNumber issueDone issueRule lookPlace lookLimit lookCause
+    rowNumbers lookDone lookRule ruleOf
 computed = record {
   ten = refl;
   texts = refl;
