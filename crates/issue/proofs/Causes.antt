@@ -1,5 +1,5 @@
 -- The cause of an issue as the code tests it.
--- not-below: a mask out of range. raise-word: causes 9 and 10 by their words, raise-free: none.
+-- raise-word: causes 9 and 10 by their words, raise-free: none.
 -- beyond, in-range: out of range or not. issue-cause: the chain. cause-state, cause-jobs: its
 -- lower rows, jobsCause. issue-ready: no cause.
 -- Assumes nothing.
@@ -9,10 +9,10 @@ use mathlib.Core.Logic.{_≢_}
 use mathlib.Core.List.{List}
 use Prim.Native.Nat.{ℕ, _<_, _^_}
 use native.Mathlib.Omega.{arith}
-use lib.Dec.{eqb, leb, ltb}
+use lib.Dec.{eqb, leb}
 use lib.ListN.{getD}
 use Rattle.words.specs.Tests.{allBelow}
-use Rattle.words.proofs.Bools.{test, or-none, leb-gt, gt-leb, ltb-lt, ltb-ge, le-leb, eqb-ne}
+use Rattle.words.proofs.Bools.{test, or-none, leb-gt, gt-leb, eqb-ne}
 use Rattle.masks.specs.Mask.{testBit}
 use Rattle.sizes.specs.declared.Counts.{Counts}
 use Rattle.sizes.specs.Bounds.{writerAt}
@@ -27,11 +27,6 @@ use Rattle.form.proofs.Known.{form-counts}
 use Rattle.status.specs.Status.{runCause}
 use Rattle.issue.specs.Saves.{Savable}
 use Rattle.issue.proofs.Known.{count-word}
-
-pub not-below : (a b : ℕ) → not (ltb a b) ≡ leb b a
-not-below a b =
-    test (ltb a b) (λ t. rw (t, gt-leb b a (ltb-lt a b t)))
-    (λ t. rw (t, le-leb b a (ltb-ge a b t)))
 
 -- ---- the numbers that an issue raises
 
