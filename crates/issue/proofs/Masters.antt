@@ -14,20 +14,20 @@ use Rattle.masks.specs.Mask.{testBit}
 use Rattle.sizes.specs.declared.Counts.{Counts}
 use Rattle.sizes.specs.Bounds.{keyAt}
 use Rattle.model.specs.Algebra.{Place}
-use Rattle.model.specs.Version.{Version, larger, merge}
+use Rattle.model.specs.Version.{Version, larger, merge, joinPasts}
 use Rattle.model.specs.Form.{placeFormed}
 use Rattle.model.specs.Issue.{newVersion, issuedMaster}
 use Rattle.model.proofs.Formed.{place-out}
 use Rattle.model.proofs.Merges.{held-iff, merge-larger}
 use Rattle.layout.specs.Words.{placeWords}
 use Rattle.layout.specs.Reading.{readPast, readPlace, readWriter}
-use Rattle.layout.specs.Stored.{putPlace}
+use Rattle.layout.specs.Stored.{putPlace, putPast}
 use Rattle.layout.proofs.Parts.{place-laws, writer-laws}
 use Rattle.layout.proofs.Places.{place-at, place-ext, place-run, key-back}
 use Rattle.layout.proofs.Merges.{formed-blank}
 use Rattle.layout.proofs.Windows.{part-beside}
 use Rattle.version.specs.Places.{putKey, choice}
-use Rattle.issue.specs.Saves.{putPast, joinPasts, Saves}
+use Rattle.issue.specs.Saves.{Saves}
 use Rattle.issue.proofs.Pasts.{writer-read, version-merged}
 
 abbrev pub saveStep : Counts → ℕ → ℕ → ℕ → ℕ → ℕ → List ℕ → List ℕ

@@ -16,20 +16,21 @@ use Rattle.clock.specs.Clock.{Clock, join}
 use Rattle.sizes.specs.declared.Counts.{Counts}
 use Rattle.sizes.specs.Bounds.{writerSize, keyAt, rowAt}
 use Rattle.model.specs.Algebra.{Place}
-use Rattle.model.specs.Version.{Version}
+use Rattle.model.specs.Version.{Version, joinPasts}
 use Rattle.model.specs.Store.{Writer}
 use Rattle.model.specs.Issue.{takenIn, rowsSet}
 use Rattle.layout.specs.Words.{writerWords}
 use Rattle.layout.specs.Reading.{readPast, readPlace, readWriter}
-use Rattle.layout.specs.Stored.{putWriter}
+use Rattle.layout.specs.Stored.{putWriter, putPast}
 use Rattle.layout.proofs.Parts.{FitPast, FitWriter, FitPlace, place-laws, writer-laws}
 use Rattle.layout.proofs.Fit.{fit-put, past-out, past-in, place-fit}
 use Rattle.layout.proofs.KeptIssue.{taken-fits}
 use Rattle.layout.proofs.Places.{place-at}
-use Rattle.layout.proofs.Windows.{part-back, part-beside, part-again}
-use Rattle.issue.specs.Saves.{putPast, joinPasts, withPast, takes, rowSet}
-use Rattle.issue.proofs.Pasts.{set-count, writer-past, writer-read, writer-counted, writer-ext, version-read, row-spot}
-use Rattle.issue.proofs.Turns.{part-over, part-fold, taken-fold, rows-fold, rows-count}
+use Rattle.layout.proofs.Windows.{part-back, part-beside, part-again, part-over, part-fold}
+use Rattle.layout.proofs.Pasts.{set-count, row-spot}
+use Rattle.issue.specs.Saves.{withPast, takes, rowSet}
+use Rattle.issue.proofs.Pasts.{writer-past, writer-read, writer-counted, writer-ext, version-read}
+use Rattle.issue.proofs.Turns.{taken-fold, rows-fold, rows-count}
 
 abbrev pub takeStep : Counts → ℕ → ℕ → ℕ → ℕ → List ℕ → List ℕ
 takeStep z at place read k l =

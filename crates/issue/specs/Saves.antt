@@ -1,34 +1,21 @@
 -- What an issue stores, one key at a time: a writer's past.
--- putPast: a past stored at an index. joinPasts: the larger count at each place.
 -- withPast, takes, rowSet: a writer that takes in the past of a key, or whose row of it is set.
 -- Savable: what holds where there is no cause.
 -- WriterArea, Takes, Saves: where a writer lies, and a place before or behind it.
 -- Assumes nothing.
 use mathlib.Core.Path.{_≡_}
 use mathlib.Core.Bool.{false, cond}
-use mathlib.Core.List.{List}
 use Prim.Native.Nat.{ℕ, _+_, _≤_, _<_, _^_}
 use lib.Dec.{eqb}
-use lib.Seq.{sets}
 use Rattle.words.specs.Lists.{putAt}
 use Rattle.masks.specs.Mask.{testBit}
-use Rattle.clock.specs.Clock.{Clock, join}
+use Rattle.clock.specs.Clock.{Clock}
 use Rattle.sizes.specs.declared.Counts.{Counts}
 use Rattle.sizes.specs.Bounds.{Ranged, placeSize, writerSize}
 use Rattle.model.specs.Algebra.{Place}
-use Rattle.model.specs.Version.{Version}
+use Rattle.model.specs.Version.{Version, joinPasts}
 use Rattle.model.specs.Store.{Writer, Store}
 use Rattle.model.specs.Issue.{raiseCause}
-use Rattle.layout.specs.Words.{pastWords}
-
--- ---- a past
-
-abbrev pub putPast : Counts → List ℕ → ℕ → (ℕ → Clock) → List ℕ
-putPast z l at p = sets l at (pastWords z p)
-
--- "larger count at each place"
-abbrev pub joinPasts : (ℕ → Clock) → (ℕ → Clock) → ℕ → Clock
-joinPasts p q d = join (p d) (q d)
 
 -- ---- a writer
 

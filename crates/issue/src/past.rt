@@ -12,13 +12,13 @@ ghost use Prim.Native.Nat.{_+_, _≤_, _<_};
 ghost use lib.ListN.{length};
 ghost use Rattle.masks.specs.Mask.{testBit};
 ghost use Rattle.sizes.specs.Bounds.{Ranged, pastSize};
-ghost use Rattle.model.specs.Version.{larger};
+ghost use Rattle.model.specs.Version.{larger, joinPasts};
 ghost use Rattle.model.specs.Form.{placeFormed};
 ghost use Rattle.model.specs.Issue.{takenIn, rowsSet, newVersion, issuedMaster};
 ghost use Rattle.layout.specs.Reading.{readPast, readPlace, readWriter};
-ghost use Rattle.layout.specs.Stored.{putPlace, putWriter};
+ghost use Rattle.layout.specs.Stored.{putPlace, putWriter, putPast};
 ghost use Rattle.version.specs.Places.{putKey};
-ghost use Rattle.issue.specs.Saves.{putPast, joinPasts, withPast, takes, rowSet, WriterArea, Takes, Saves};
+ghost use Rattle.issue.specs.Saves.{withPast, takes, rowSet, WriterArea, Takes, Saves};
 
 // Merges the past behind the word at src into the one behind the word at dst: each count becomes
 // the larger of the two. The words are a writer's count or a version's issue number, and stay.
