@@ -12,7 +12,7 @@ use Rattle.words.specs.Lists.{putAt}
 use Rattle.words.proofs.Bools.{test, clash, eq-eqb, ne-eqb}
 use Rattle.words.proofs.Lists.{putAt-cases}
 use Rattle.model.specs.Store.{Run, Store, freeRun, withSnapshot, withState, withJobDone, withRun, withSites, withCache, withLast, withMaster, withWriter}
-use Rattle.model.specs.Outcome.{Outcome, refused, broken, done, allowed, stepRow, freeState}
+use Rattle.model.specs.Outcome.{Outcome, refused, broken, done, allowed, stepRow, freeState, runCause}
 use Rattle.model.specs.Runs.{openCause, openDone, openRule, openedRun, dropCause, dropDone, dropRule}
 use Rattle.model.specs.Caches.{fetchCause, fetchDone, fetchRule, evictCause, evictDone, evictRule}
 use Rattle.model.specs.Prepare.{prepareCause, prepareDone, prepareRule}
@@ -144,7 +144,7 @@ module _ (s : Store) (F : Fine s) (r : ℕ) (h : r < s .counts .runs) where
 
   -- Only a free run is opened.
   open-free : (l : List ℕ) → openCause s r l ≡ 0 → s .run r .state ≡ freeState
-  unfolding openCause
+  unfolding openCause runCause
   open-free l e =
       let a = no-cause _ 3 _ (omega arith) e in
       let low = state-low (s .counts) (s .run r) (well-out s (F .formed) .run r h) in

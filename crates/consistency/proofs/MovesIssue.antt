@@ -16,6 +16,7 @@ use Rattle.words.proofs.Lists.{putAt-same, putAt-other}
 use Rattle.masks.proofs.Bits.{test-low}
 use Rattle.masks.proofs.Sets.{mask-some}
 use Rattle.model.specs.Store.{Store, freeRun, withLast, withMaster, withRun, withWriter}
+use Rattle.model.specs.Outcome.{runCause}
 use Rattle.model.specs.Issue.{issueCause, issuedWriter, savedStore, issuedStore, issueDone, issueRule}
 use Rattle.model.specs.Calls.{issue}
 use Rattle.model.proofs.Outcomes.{no-cause}
@@ -144,10 +145,10 @@ done-moves s b f r w S v hr hw hS =
 
 pub issue-moves : (r w S : ℕ) (s : Store) (b : Book) (f : ℕ → List ReadSet) → Fine s → Inv s b f
     → Moves (issue r w S) s b f (issueRule r w S s)
-unfolding issueRule issueCause
+unfolding issueRule issueCause runCause
 issue-moves r w S s b f _ v =
     unless-moves (issue r w S) s b f (issueCause s r w S) (issueDone s r w S) v (λ e.
     let x = no-cause _ 3 _ (omega arith) e in
     let y = no-cause _ 3 _ (omega arith) (x .1) in
     let z = no-cause _ 3 _ (omega arith) (y .1) in
-    done-moves s b f r w S v (leb-gt _ _ (x .0)) (leb-gt _ _ (y .0)) (leb-gt _ _ (z .0)))
+    done-moves s b f r w S v (leb-gt _ _ (z .0)) (leb-gt _ _ (x .0)) (leb-gt _ _ (y .0)))

@@ -22,7 +22,7 @@ use Rattle.model.specs.Version.{Version, held, dependency, supersedes, larger, 
 use Rattle.model.specs.Sets.{draws, drawSet, fetchSet, fetched, unfetchable, evictSet, evicted, pullSet, pulled}
 use Rattle.model.specs.Store.{Store, fresh, planned, withMaster, withLast, withSites, withCache, withWriter, withRun, withState, withSnapshot, withJobDone}
 use Rattle.model.specs.Form.{validJob}
-use Rattle.model.specs.Outcome.{refuse, unless, allowed}
+use Rattle.model.specs.Outcome.{refuse, unless, allowed, runCause}
 use Rattle.model.specs.Caches.{fetchCause, fetchDone, fetchRule, evictCause, evictDone, evictRule}
 use Rattle.model.specs.Runs.{listedJob, listedCount, listedJobs, listValid, openCause, openedRun, openDone, openRule, dropCause, dropDone, dropRule}
 use Rattle.model.specs.Prepare.{jobStart, fetchReads, preparedCaches, unpreparable, usesSite, sitesMerged, siteCaches, prepareCause, prepareCaches, prepareSnapshot, prepareDone, prepareRule}
@@ -144,7 +144,7 @@ unfolding anyBelow allBelow only foldBelow countBelow largest when putAt upto bl
     versionSize placeSize siteSize writerSize runSize masterAt sitesAt writersAt runsAt totalOf
     lacking held dependency supersedes larger merge draws drawSet fetchSet fetched unfetchable
     evictSet evicted pullSet pulled fresh planned withMaster withLast withSites withCache
-    withWriter withRun withState withSnapshot withJobDone validJob refuse unless allowed
+    withWriter withRun withState withSnapshot withJobDone validJob refuse unless allowed runCause
     fetchCause fetchDone fetchRule evictCause evictDone evictRule listedJob listedCount
     listedJobs listValid openCause openedRun openDone openRule dropCause dropDone dropRule
     jobStart fetchReads preparedCaches unpreparable usesSite sitesMerged siteCaches

@@ -17,14 +17,13 @@ use Rattle.masks.specs.Mask.{testBit}
 use Rattle.sizes.specs.declared.Counts.{Counts}
 use Rattle.sizes.specs.Bounds.{writerAt}
 use Rattle.model.specs.Store.{Store}
-use Rattle.model.specs.Outcome.{refuse, allowed, issueRow}
+use Rattle.model.specs.Outcome.{refuse, allowed, issueRow, runCause}
 use Rattle.model.specs.Issue.{maxWord, raiseCause, issueCause}
 use Rattle.model.proofs.Outcomes.{no-cause, no-lack}
 use Rattle.layout.specs.Reading.{storeOf}
 use Rattle.layout.proofs.Readings.{last-in}
 use Rattle.form.specs.Parts.{FormWith}
 use Rattle.form.proofs.Known.{form-counts}
-use Rattle.status.specs.Status.{runCause}
 use Rattle.issue.specs.Saves.{Savable}
 use Rattle.issue.proofs.Known.{count-word}
 
@@ -58,11 +57,14 @@ jobsCause s r w S =
     (cond (eqb S 0) 0 (raiseCause s w))
 
 three : (a b c : Bool) (n rest : ℕ)
-    → refuse a n (refuse b n (refuse c n rest)) ≡ refuse (a || (b || c)) n rest
+    → refuse b n (refuse c n (refuse a n rest)) ≡ refuse (a || (b || c)) n rest
 unfolding refuse
-three true b c n rest = refl
+three true true c n rest = refl
+three true false true n rest = refl
+three true false false n rest = refl
 three false true c n rest = refl
-three false false c n rest = refl
+three false false true n rest = refl
+three false false false n rest = refl
 
 module _ (l : List ℕ) (z : Counts) (H : FormWith l z) (r w S : ℕ) where
   abbrev s : Store
@@ -71,7 +73,7 @@ module _ (l : List ℕ) (z : Counts) (H : FormWith l z) (r w S : ℕ) where
   pub issue-cause : issueCause s r w S
       ≡ refuse (beyond z r w S) 3
       (refuse (not (allowed issueRow (s .run r .state))) 4 (jobsCause s r w S))
-  unfolding issueCause
+  unfolding issueCause runCause
   issue-cause =
       rw (form-counts l z H)
       (three (leb (z .runs) r) (leb (z .writers) w) (leb (2 ^ z .keys) S) 3 _)
@@ -85,11 +87,11 @@ module _ (l : List ℕ) (z : Counts) (H : FormWith l z) (r w S : ℕ) where
 
   -- The run's cause, in range.
   state-cause : beyond z r w S ≡ false
-      → runCause s issueRow r ≡ refuse (not (allowed issueRow (s .run r .state))) 4 0
+      → runCause s issueRow r 0 ≡ refuse (not (allowed issueRow (s .run r .state))) 4 0
   unfolding runCause refuse
   state-cause e = rw (form-counts l z H, gt-leb _ _ (in-range e .0))
 
-  pub cause-state : (n : ℕ) → beyond z r w S ≡ false → n ≡ runCause s issueRow r → n ≢ 0
+  pub cause-state : (n : ℕ) → beyond z r w S ≡ false → n ≡ runCause s issueRow r 0 → n ≢ 0
       → n ≡ issueCause s r w S
   unfolding refuse
   cause-state n e c h =
@@ -97,7 +99,7 @@ module _ (l : List ℕ) (z : Counts) (H : FormWith l z) (r w S : ℕ) where
       (λ t. absurd (h (c ∙ state-cause e ∙ rw t)))
       (λ t. c ∙ state-cause e ∙ rw (issue-cause, e, t))
 
-  pub cause-jobs : (n : ℕ) → beyond z r w S ≡ false → n ≡ runCause s issueRow r → n ≡ 0
+  pub cause-jobs : (n : ℕ) → beyond z r w S ≡ false → n ≡ runCause s issueRow r 0 → n ≡ 0
       → issueCause s r w S ≡ jobsCause s r w S
   unfolding refuse
   cause-jobs n e c h =

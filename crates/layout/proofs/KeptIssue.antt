@@ -20,7 +20,7 @@ use Rattle.model.specs.Algebra.{Place}
 use Rattle.model.specs.Version.{Version, held}
 use Rattle.model.specs.Store.{Writer, Store, freeRun, withLast, withMaster, withWriter, withRun}
 use Rattle.model.specs.Issue.{issueCause, takenIn, rowsSet, newPast, newVersion, issuedMaster, issuedWriter, savedStore, issuedStore, issueDone, issueRule}
-use Rattle.model.specs.Outcome.{done}
+use Rattle.model.specs.Outcome.{done, runCause}
 use Rattle.model.proofs.Outcomes.{no-cause}
 use Rattle.layout.proofs.Parts.{FitPast, FitVersion, FitPlace}
 use Rattle.layout.proofs.Whole.{FitStore}
@@ -141,10 +141,10 @@ module _ (s : Store) (r w S : ℕ) (F : Fine s) (hr : r < s .counts .runs)
       (λ t. rw t (saved-kept _))
 
 pub issue-kept : (r w S : ℕ) (s : Store) → Fine s → Kept s (issueRule r w S s)
-unfolding issueRule issueCause
+unfolding issueRule issueCause runCause
 issue-kept r w S s F =
     kept-unless s (issueCause s r w S) (issueDone s r w S) F (λ e.
     let a = no-cause _ 3 _ (omega arith) e in
     let b = no-cause _ 3 _ (omega arith) (a .1) in
     let c = no-cause _ 3 _ (omega arith) (b .1) in
-    freed-kept s r w S F (leb-gt _ _ (a .0)) (leb-gt _ _ (b .0)) (leb-gt _ _ (c .0)))
+    freed-kept s r w S F (leb-gt _ _ (c .0)) (leb-gt _ _ (a .0)) (leb-gt _ _ (b .0)))

@@ -15,7 +15,7 @@ use Rattle.model.specs.Version.{held, dependency, supersedes, larger, me
 use Rattle.model.specs.Sets.{draws, drawSet, fetchSet, fetched, unfetchable, evictSet, evicted, pullSet, pulled}
 use Rattle.model.specs.Store.{fresh, planned, doneReads, withMaster, withLast, withSites, withCache, withWriter, withRun, withState, withSnapshot, withJobDone}
 use Rattle.model.specs.Form.{zeroRows, versionFormed, placeFormed, validJob, zeroJob, freeFormed, jobsFormed, masksFormed, snapshotFormed, runFormed, wellFormed}
-use Rattle.model.specs.Outcome.{answer, refuse, unless, allowed}
+use Rattle.model.specs.Outcome.{answer, refuse, unless, allowed, runCause}
 use Rattle.model.specs.Caches.{fetchCause, fetchDone, fetchRule, evictCause, evictDone, evictRule}
 use Rattle.model.specs.Runs.{listedJob, listedCount, listedJobs, listValid, openCause, openedRun, openDone, openRule, dropCause, dropDone, dropRule}
 use Rattle.model.specs.Prepare.{jobStart, fetchReads, preparedCaches, unpreparable, usesSite, sitesMerged, siteCaches, prepareCause, prepareCaches, prepareSnapshot, prepareDone, prepareRule}
@@ -43,13 +43,13 @@ unfolding needsMet causalCut overlappingCut concurrent doneReads zeroRows versio
     rounds round dominates present join between lacking held dependency supersedes larger merge
     draws drawSet fetchSet fetched unfetchable evictSet evicted pullSet pulled fresh planned
     withMaster withLast withSites withCache withWriter withRun withState withSnapshot
-    withJobDone validJob answer refuse unless allowed fetchCause fetchDone fetchRule evictCause
-    evictDone evictRule listedJob listedCount listedJobs listValid openCause openedRun openDone
-    openRule dropCause dropDone dropRule jobStart fetchReads preparedCaches unpreparable
-    usesSite sitesMerged siteCaches prepareCause prepareCaches prepareSnapshot prepareDone
-    prepareRule readStart stepSite stepReads stepStart stepFetch stepCache stepPlan stepPull
-    stepSnapshot stepMoved jobLimit notReady jobCause stepCause stepBroken stepDone stepRule
-    raiseCause issueCause takenIn rowsSet newPast newVersion issuedMaster issuedWriter
+    withJobDone validJob answer refuse unless allowed runCause fetchCause fetchDone fetchRule
+    evictCause evictDone evictRule listedJob listedCount listedJobs listValid openCause
+    openedRun openDone openRule dropCause dropDone dropRule jobStart fetchReads preparedCaches
+    unpreparable usesSite sitesMerged siteCaches prepareCause prepareCaches prepareSnapshot
+    prepareDone prepareRule readStart stepSite stepReads stepStart stepFetch stepCache stepPlan
+    stepPull stepSnapshot stepMoved jobLimit notReady jobCause stepCause stepBroken stepDone
+    stepRule raiseCause issueCause takenIn rowsSet newPast newVersion issuedMaster issuedWriter
     savedStore issuedStore issuedNumber issueDone issueRule lookPlace lookLimit lookCause
     rowNumbers lookDone lookRule ruleOf
 computed = record {

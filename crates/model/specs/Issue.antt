@@ -14,7 +14,7 @@ use Rattle.clock.specs.Clock.{Clock, join}
 use Rattle.model.specs.Algebra.{Place}
 use Rattle.model.specs.Version.{Version, merge}
 use Rattle.model.specs.Store.{Store, Writer, freeRun, withLast, withMaster, withRun, withWriter}
-use Rattle.model.specs.Outcome.{Outcome, done, refuse, unless, allowed, issueRow}
+use Rattle.model.specs.Outcome.{Outcome, done, refuse, unless, issueRow, runCause}
 
 -- The largest word.
 abbrev pub maxWord : ℕ
@@ -32,12 +32,11 @@ unfoldable pub issueCause : Store → ℕ → ℕ → ℕ → ℕ
 issueCause s r w S =
     let z = s .counts in
     let a = s .run r in
-    refuse (leb (z .runs) r) 3
-    (refuse (leb (z .writers) w) 3
+    refuse (leb (z .writers) w) 3
     (refuse (leb (2 ^ z .keys) S) 3
-    (refuse (not (allowed issueRow (a .state))) 4
+    (runCause s issueRow r
     (refuse (not (allBelow (a .jobs) (testBit (a .done)))) 6
-    (cond (eqb S 0) 0 (raiseCause s w))))))
+    (cond (eqb S 0) 0 (raiseCause s w)))))
 
 -- "the writer's past takes in (larger count at each place) the pasts of the versions that the run
 -- read", by a read mask and a card.
