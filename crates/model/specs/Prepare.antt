@@ -9,11 +9,10 @@ use Rattle.words.specs.Tests.{Items, anyBelow}
 use Rattle.words.specs.Numbers.{foldBelow}
 use Rattle.words.specs.Lists.{putAt}
 use Rattle.masks.specs.Mask.{testBit, maskBelow}
-use Rattle.sizes.specs.declared.Counts.{Counts}
-use Rattle.model.specs.Algebra.{Algebra, Place, empty, lacking}
+use Rattle.model.specs.Algebra.{Algebra, Place, lacking}
 use Rattle.model.specs.Version.{Version, held, versions}
 use Rattle.model.specs.Sets.{fetched, unfetchable}
-use Rattle.model.specs.Store.{Job, Run, Store, Site, planned, withRun, withSites, withSnapshot}
+use Rattle.model.specs.Store.{Job, Store, planned, withRun, withSites, withSnapshot}
 use Rattle.model.specs.Outcome.{Outcome, done, refuse, unless, prepareRow, runCause}
 
 module _ {A : Type 0} (alg : Algebra A) (K : ℕ) (master : Place A) (job : ℕ → Job) where
