@@ -10,7 +10,7 @@ use lib.Seq.{sets, sets-eq, take-append-seam}
 use Rattle.words.specs.Words.{put}
 use Rattle.words.specs.Lists.{window}
 use Rattle.words.proofs.Lists.{length-window}
-use Rattle.status.proofs.Copies.{put-window}
+use Rattle.layout.proofs.Merges.{put-window}
 
 pub front-two : (l : List ℕ) (a b : ℕ) → 24 ≤ length l → take 2 (set (set l 0 a) 1 b) ≡ a ∷ b ∷ []
 front-two [] a b h = absurd (omega arith)

@@ -6,7 +6,7 @@ use mathlib.Core.Path.{_≡_, sym, _∙_, fun-ext}
 use mathlib.Core.Bool.{cond, _&&_, _||_, So}
 use mathlib.Core.Logic.{inl, inr}
 use mathlib.Core.List.{_∷_}
-use Prim.Native.Nat.{ℕ, _<_}
+use Prim.Native.Nat.{ℕ, _+_, _<_}
 use native.Mathlib.Omega.{arith}
 use native.Mathlib.Numerals.{add-one}
 use lib.ListN.{length}
@@ -19,7 +19,7 @@ use Rattle.clock.specs.Clock.{Clock, join}
 use Rattle.model.specs.Algebra.{Place}
 use Rattle.model.specs.Version.{Version, merge}
 use Rattle.model.specs.Store.{Run, Store}
-use Rattle.model.specs.Issue.{takenIn, newPast, newVersion, issuedMaster}
+use Rattle.model.specs.Issue.{takenIn, rowsSet, newPast, newVersion, issuedMaster}
 use Rattle.model.proofs.Merges.{version-path}
 use Rattle.history.specs.History.{Issue, History, saved, inPast}
 use Rattle.history.specs.Copies.{Copy, counted}
@@ -108,7 +108,7 @@ module _ (K : ℕ) (e : Issue) (h : History) where
 
 -- What a run read, taken into a past: the copies that the book's run read, counted.
 pub taken-counted : (K : ℕ) (h : History) (past : ℕ → Clock) (a : Run) (c : BookRun)
-    → RunFollows K h a c → (d : ℕ) → takenIn K past a d
+    → RunFollows K h a c → (d : ℕ) → takenIn K (a .read) (a .snapshot) past d
     ≡ join (past d) (counted K h (λ i. anyBelow K (λ k. c .read k && c .snapshot k i)) .past d)
 unfolding takenIn
 taken-counted K h past a c F d =
@@ -121,7 +121,7 @@ module _ (s : Store) (b : Book) (F : Follows s b) (r w S : ℕ) (hr : r < s .cou
     (hw : w < s .counts .writers) where
   pub newPast-entered : newPast s r w S
       ≡ enteredPast (s .counts .keys) (entry r w S b) (b .history)
-  unfolding newPast enteredPast entry readAny join
+  unfolding newPast rowsSet enteredPast entry readAny join
   newPast-entered =
       fun-ext (λ d. fun-ext (λ u.
       let v = F .writer w hw in
@@ -133,14 +133,14 @@ module _ (s : Store) (b : Book) (F : Follows s b) (r w S : ℕ) (hr : r < s .cou
         add-one,
       )))
 
-  pub newVersion-entered : newVersion s r w S
+  pub newVersion-entered : newVersion (s .last + 1) (newPast s r w S)
       ≡ entered (s .counts .keys) (entry r w S b) (b .history)
   unfolding newVersion entered
   newVersion-entered = version-path (rw (F .last, add-one)) newPast-entered
 
   -- The master's versions are those of the new history.
   pub issuedMaster-counted : Counted (s .counts .keys) (entry r w S b ∷ b .history)
-      (issuedMaster s r w S)
+      (issuedMaster S (newVersion (s .last + 1) (newPast s r w S)) (s .master))
       (issuedCopies (s .counts .keys) (entry r w S b) (b .history) (b .master))
   unfolding issuedMaster entry
   issuedMaster-counted =

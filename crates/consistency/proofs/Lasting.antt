@@ -12,12 +12,12 @@ use Rattle.words.specs.Lists.{putAt}
 use Rattle.words.proofs.Bools.{test, clash, eq-eqb, ne-eqb}
 use Rattle.words.proofs.Lists.{putAt-cases}
 use Rattle.model.specs.Store.{Run, Store, freeRun, withSnapshot, withState, withJobDone, withRun, withSites, withCache, withLast, withMaster, withWriter}
-use Rattle.model.specs.Outcome.{Outcome, refused, broken, done, allowed, stepRow, freeState}
+use Rattle.model.specs.Outcome.{Outcome, refused, broken, done, allowed, stepRow, freeState, runCause}
 use Rattle.model.specs.Runs.{openCause, openDone, openRule, openedRun, dropCause, dropDone, dropRule}
 use Rattle.model.specs.Caches.{fetchCause, fetchDone, fetchRule, evictCause, evictDone, evictRule}
 use Rattle.model.specs.Prepare.{prepareCause, prepareDone, prepareRule}
-use Rattle.model.specs.Step.{stepCause, stepBroken, stepDone, stepRule, stepMoved}
-use Rattle.model.specs.Issue.{issueCause, issueSaved, issueDone, issueRule}
+use Rattle.model.specs.Step.{jobCause, stepCause, stepBroken, stepDone, stepRule, stepMoved}
+use Rattle.model.specs.Issue.{issueCause, savedStore, issuedStore, issueDone, issueRule}
 use Rattle.model.specs.Look.{lookCause, lookDone, lookRule}
 use Rattle.model.specs.Calls.{StoreCall, openRun, fetch, evict, prepare, step, issue, dropRun, look, ruleOf}
 use Rattle.model.proofs.Outcomes.{no-cause, no-lack, allowed-used, free-state, unless-cases, nextStore}
@@ -107,7 +107,7 @@ module _ (s : Store) (F : Fine s) (r : ℕ) (h : r < s .counts .runs) where
 
   -- The run is open: only such a run is stepped.
   step-used : (x j : ℕ) → stepCause s x j ≡ 0 → s .run x .state ≢ freeState
-  unfolding stepCause allowed
+  unfolding stepCause jobCause allowed
   step-used x j e =
       let a = no-cause _ 3 _ (omega arith) e in
       let b = no-cause _ 3 _ (omega arith) (a .1) in
@@ -144,7 +144,7 @@ module _ (s : Store) (F : Fine s) (r : ℕ) (h : r < s .counts .runs) where
 
   -- Only a free run is opened.
   open-free : (l : List ℕ) → openCause s r l ≡ 0 → s .run r .state ≡ freeState
-  unfolding openCause
+  unfolding openCause runCause
   open-free l e =
       let a = no-cause _ 3 _ (omega arith) e in
       let low = state-low (s .counts) (s .run r) (well-out s (F .formed) .run r h) in
@@ -183,7 +183,8 @@ module _ (s : Store) (F : Fine s) (r : ℕ) (h : r < s .counts .runs) where
       (λ _. lasts-refused (dropRun x) r (dropCause s x) (s .run r))
 
   issue-lasts : (x w S : ℕ) → Now (issue x w S) (issueRule x w S s)
-  unfolding issueRule issueDone issueSaved withRun withMaster withWriter withLast frees isOk
+  unfolding issueRule issueDone issuedStore savedStore withRun withMaster withWriter withLast
+      frees isOk
   issue-lasts x w S =
       unless-cases (Now (issue x w S)) (issueCause s x w S) (issueDone s x w S)
       (λ _. test (eqb S 0)

@@ -1,12 +1,12 @@
 -- Issue keeps the invariant: the book's history has one more issue, and the run is freed.
--- issuedStore, issuedBook, issued-..: store and book with the new issue. writer-..: the writers.
+-- issuedBook, issued-..: store and book with the new issue. writer-..: the writers.
 -- issue-moves: the call.
 -- Assumes nothing.
 use mathlib.Core.Path.{_≡_, refl, sym, _∙_}
 use mathlib.Core.Bool.{false}
 use mathlib.Core.Logic.{_≢_}
 use mathlib.Core.List.{List, [], _∷_}
-use Prim.Native.Nat.{ℕ, _+_, _<_, _^_}
+use Prim.Native.Nat.{ℕ, _<_, _^_}
 use native.Mathlib.Omega.{arith}
 use native.Mathlib.Decide.{ℕ-discrete}
 use lib.Dec.{eqb}
@@ -16,7 +16,8 @@ use Rattle.words.proofs.Lists.{putAt-same, putAt-other}
 use Rattle.masks.proofs.Bits.{test-low}
 use Rattle.masks.proofs.Sets.{mask-some}
 use Rattle.model.specs.Store.{Store, freeRun, withLast, withMaster, withRun, withWriter}
-use Rattle.model.specs.Issue.{issueCause, issuedMaster, issuedWriter, issueSaved, issueDone, issueRule}
+use Rattle.model.specs.Outcome.{runCause}
+use Rattle.model.specs.Issue.{issueCause, issuedWriter, savedStore, issuedStore, issueDone, issueRule}
 use Rattle.model.specs.Calls.{issue}
 use Rattle.model.proofs.Outcomes.{no-cause}
 use Rattle.layout.proofs.Follow.{Fine}
@@ -33,12 +34,7 @@ use Rattle.consistency.proofs.Following.{free-follows, follows-run}
 use Rattle.consistency.proofs.Changing.{unless-moves, nothing-read, inv-next, inv-anew}
 use Rattle.consistency.proofs.Issuing.{place-grow, run-grow, issuedCopies, issued-every, issued-writes, newPast-entered, issuedMaster-counted}
 
--- ---- store and book with the new issue, the run not yet freed
-
-unfoldable issuedStore : Store → ℕ → ℕ → ℕ → Store
-issuedStore s r w S =
-    withMaster (withWriter (withLast s (s .last + 1)) w (issuedWriter s r w S))
-    (issuedMaster s r w S)
+-- ---- the book with the new issue, the run not yet freed
 
 unfoldable issuedBook : ℕ → ℕ → ℕ → Book → Book
 issuedBook r w S b = record {
@@ -50,10 +46,10 @@ issuedBook r w S b = record {
 }
 
 -- With the run cleared this is the book after the call.
-book-issued : (r w S : ℕ) (b : Book) → eqb S 0 ≡ false
-    → bookRule (issue r w S) b ≡ withBookRun (issuedBook r w S b) r noRun
-unfolding bookRule bookIssued bookIssue issuedBook issuedCopies entry withBookRun
-book-issued r w S b n = rw n
+book-issued : (r w S : ℕ) (b : Book)
+    → bookIssue r w S b ≡ withBookRun (issuedBook r w S b) r noRun
+unfolding bookIssue issuedBook issuedCopies entry withBookRun
+book-issued r w S b = refl
 
 -- An issue of the keys S by writer w, from run r.
 module _ (s : Store) (b : Book) (F : Follows s b) (r w S : ℕ) (hr : r < s .counts .runs)
@@ -73,8 +69,8 @@ module _ (s : Store) (b : Book) (F : Follows s b) (r w S : ℕ) (hr : r < s .cou
 
   -- The writer has one issue more, whose past is its own now,
   writer-next : (v : ℕ) → v ≡ w
-      → WriterFollows (s .counts .keys) (entry r w S b ∷ b .history) (issuedStore s r w S) v
-  unfolding issuedStore withLast withWriter withMaster issuedWriter entry
+      → WriterFollows (s .counts .keys) (entry r w S b ∷ b .history) (savedStore s r w S) v
+  unfolding savedStore withLast withWriter withMaster issuedWriter entry
   writer-next v q =
       let K = s .counts .keys in
       let e = entry r w S b in
@@ -89,8 +85,8 @@ module _ (s : Store) (b : Book) (F : Follows s b) (r w S : ℕ) (hr : r < s .cou
 
   -- and the others are as they were.
   writer-same : (v : ℕ) → v < s .counts .writers → v ≢ w
-      → WriterFollows (s .counts .keys) (entry r w S b ∷ b .history) (issuedStore s r w S) v
-  unfolding issuedStore withLast withWriter withMaster entry
+      → WriterFollows (s .counts .keys) (entry r w S b ∷ b .history) (savedStore s r w S) v
+  unfolding savedStore withLast withWriter withMaster entry
   writer-same v l q =
       let K = s .counts .keys in
       let e = entry r w S b in
@@ -103,8 +99,8 @@ module _ (s : Store) (b : Book) (F : Follows s b) (r w S : ℕ) (hr : r < s .cou
         past = rw put (old .past ∙ sym (other-past K e h (past-laws K h) v ne));
       }
 
-  issued-follows : Follows (issuedStore s r w S) (issuedBook r w S b)
-  unfolding issuedStore issuedBook withLast withWriter withMaster entry
+  issued-follows : Follows (savedStore s r w S) (issuedBook r w S b)
+  unfolding savedStore issuedBook withLast withWriter withMaster entry
   issued-follows =
       let K = s .counts .keys in
       let e = entry r w S b in
@@ -124,21 +120,16 @@ module _ (s : Store) (b : Book) (F : Follows s b) (r w S : ℕ) (hr : r < s .cou
       }
 
   issued-inv : (f : ℕ → List ReadSet) → Inv s b f
-      → Inv (withRun (issuedStore s r w S) r freeRun) (withBookRun (issuedBook r w S b) r noRun)
+      → Inv (withRun (savedStore s r w S) r freeRun) (withBookRun (issuedBook r w S b) r noRun)
       (putAt f r [])
-  unfolding issuedStore issuedBook withLast withWriter withMaster withRun withBookRun
+  unfolding savedStore issuedBook withLast withWriter withMaster withRun withBookRun
   issued-inv f v =
-      let t = issuedStore s r w S in
+      let t = savedStore s r w S in
       let c = issuedBook r w S b in
       let K = s .counts .keys in
       inv-next (withRun t r freeRun) (withBookRun c r noRun) (putAt f r []) r freeRun noRun v
       (follows-run issued-follows r freeRun noRun (free-follows K (c .history)))
       refl refl refl hr (putAt-other f r []) (nothing-read K freeRun noRun f r)
-
-  saved-moves : (f : ℕ → List ReadSet) → Inv s b f
-      → Moves (issue r w S) s b f (issueSaved s r w S)
-  unfolding issueSaved issuedStore finish
-  saved-moves f v = rw (book-issued r w S b some) (issued-inv f v)
 
 -- ---- the call
 
@@ -146,19 +137,18 @@ module _ (s : Store) (b : Book) (F : Follows s b) (r w S : ℕ) (hr : r < s .cou
 done-moves : (s : Store) (b : Book) (f : ℕ → List ReadSet) (r w S : ℕ) → Inv s b f
     → r < s .counts .runs → w < s .counts .writers → S < 2 ^ s .counts .keys
     → Moves (issue r w S) s b f (issueDone s r w S)
-unfolding issueDone bookRule bookIssued finish
+unfolding issueDone issuedStore bookRule bookIssued finish
 done-moves s b f r w S v hr hw hS =
     test (eqb S 0)
-    (λ y. rw y
-    (rw y (inv-anew v r freeRun noRun (free-follows (s .counts .keys) (b .history)) hr)))
-    (λ n. rw n (saved-moves s b (v .follows) r w S hr hw hS n f v))
+    (λ y. rw y (inv-anew v r freeRun noRun (free-follows (s .counts .keys) (b .history)) hr))
+    (λ n. rw (n, book-issued r w S b) (issued-inv s b (v .follows) r w S hr hw hS n f v))
 
 pub issue-moves : (r w S : ℕ) (s : Store) (b : Book) (f : ℕ → List ReadSet) → Fine s → Inv s b f
     → Moves (issue r w S) s b f (issueRule r w S s)
-unfolding issueRule issueCause
+unfolding issueRule issueCause runCause
 issue-moves r w S s b f _ v =
     unless-moves (issue r w S) s b f (issueCause s r w S) (issueDone s r w S) v (λ e.
     let x = no-cause _ 3 _ (omega arith) e in
     let y = no-cause _ 3 _ (omega arith) (x .1) in
     let z = no-cause _ 3 _ (omega arith) (y .1) in
-    done-moves s b f r w S v (leb-gt _ _ (x .0)) (leb-gt _ _ (y .0)) (leb-gt _ _ (z .0)))
+    done-moves s b f r w S v (leb-gt _ _ (z .0)) (leb-gt _ _ (x .0)) (leb-gt _ _ (y .0)))

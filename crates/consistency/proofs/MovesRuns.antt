@@ -5,7 +5,7 @@ use Prim.Native.Nat.{ℕ}
 use native.Mathlib.Omega.{arith}
 use Rattle.words.proofs.Bools.{leb-gt}
 use Rattle.model.specs.Store.{Store, freeRun}
-use Rattle.model.specs.Outcome.{openState}
+use Rattle.model.specs.Outcome.{openState, runCause}
 use Rattle.model.specs.Calls.{openRun, dropRun, look}
 use Rattle.model.specs.Runs.{listedCount, listedJobs, openCause, openedRun, openDone, openRule, dropCause, dropDone, dropRule}
 use Rattle.model.specs.Look.{lookCause, lookDone, lookRule}
@@ -19,7 +19,7 @@ use Rattle.consistency.proofs.Changing.{unless-moves, inv-anew}
 
 pub open-moves : (r : ℕ) (l : List ℕ) (s : Store) (b : Book) (f : ℕ → List ReadSet) → Fine s
     → Inv s b f → Moves (openRun r l) s b f (openRule r l s)
-unfolding openRule openDone openCause openedRun bookRule bookOpen finish
+unfolding openRule openDone openCause runCause openedRun bookRule bookOpen finish
 open-moves r l s b f _ v =
     unless-moves (openRun r l) s b f (openCause s r l) (openDone s r l) v (λ e.
     inv-anew v r _ _ (empty-follows (s .counts .keys) (b .history) openState (listedCount l) 0
@@ -28,7 +28,7 @@ open-moves r l s b f _ v =
 
 pub drop-moves : (r : ℕ) (s : Store) (b : Book) (f : ℕ → List ReadSet) → Fine s → Inv s b f
     → Moves (dropRun r) s b f (dropRule r s)
-unfolding dropRule dropDone dropCause bookRule finish
+unfolding dropRule dropDone dropCause runCause bookRule finish
 drop-moves r s b f _ v =
     unless-moves (dropRun r) s b f (dropCause s r) (dropDone s r) v (λ e.
     inv-anew v r freeRun noRun (free-follows (s .counts .keys) (b .history))

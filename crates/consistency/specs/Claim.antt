@@ -5,10 +5,8 @@
 use mathlib.Core.Path.{_≡_}
 use mathlib.Core.Bool.{Bool, true, false, cond, So}
 use mathlib.Core.Logic.{_↔_}
-use mathlib.Core.List.{List, [], _∷_, _++_}
+use mathlib.Core.List.{List, _∷_, _++_}
 use Prim.Native.Nat.{ℕ, _<_}
-use lib.ListN.{length}
-use Rattle.words.specs.Tests.{Items}
 use Rattle.masks.specs.Mask.{testBit}
 use Rattle.sizes.specs.declared.Counts.{Counts}
 use Rattle.model.specs.Algebra.{Place, needsMet, causalCut, overlappingCut}

@@ -3,12 +3,12 @@
 -- opens, frees: a call on run r. GoesOn: a run after a call. Lasts: one call. Lasting: every call.
 -- Assumes nothing.
 use mathlib.Core.Path.{_≡_}
-use mathlib.Core.Bool.{Bool, true, false, So, _&&_}
+use mathlib.Core.Bool.{Bool, false, So, _&&_}
 use mathlib.Core.Logic.{_≢_}
 use mathlib.Core.List.{List}
 use Prim.Native.Nat.{ℕ, _<_}
 use lib.Dec.{eqb}
-use Rattle.model.specs.Store.{Job, Run, freeRun}
+use Rattle.model.specs.Store.{Run, freeRun}
 use Rattle.model.specs.Outcome.{Outcome, freeState}
 use Rattle.model.specs.Calls.{StoreCall, openRun, fetch, evict, prepare, step, issue, dropRun, look}
 use Rattle.layout.specs.Reading.{countsIn, storeOf}

@@ -3,7 +3,7 @@
 -- follows: the test. followed: the test after each call of a list.
 -- Assumes nothing.
 use mathlib.Core.Path.{_≡_, refl}
-use mathlib.Core.Bool.{Bool, true, false, cond, _&&_}
+use mathlib.Core.Bool.{Bool, true, false, _&&_}
 use mathlib.Core.List.{List, [], _∷_, _++_, map}
 use Prim.Native.Nat.{ℕ, zero, suc, _<_}
 use native.Mathlib.Nat.{not-suc-le-zero, le-of-suc-le-suc}
@@ -22,12 +22,12 @@ use Rattle.model.specs.Version.{Version, held, dependency, supersedes, larger, 
 use Rattle.model.specs.Sets.{draws, drawSet, fetchSet, fetched, unfetchable, evictSet, evicted, pullSet, pulled}
 use Rattle.model.specs.Store.{Store, fresh, planned, withMaster, withLast, withSites, withCache, withWriter, withRun, withState, withSnapshot, withJobDone}
 use Rattle.model.specs.Form.{validJob}
-use Rattle.model.specs.Outcome.{refuse, unless, allowed}
+use Rattle.model.specs.Outcome.{refuse, unless, allowed, runCause}
 use Rattle.model.specs.Caches.{fetchCause, fetchDone, fetchRule, evictCause, evictDone, evictRule}
 use Rattle.model.specs.Runs.{listedJob, listedCount, listedJobs, listValid, openCause, openedRun, openDone, openRule, dropCause, dropDone, dropRule}
 use Rattle.model.specs.Prepare.{jobStart, fetchReads, preparedCaches, unpreparable, usesSite, sitesMerged, siteCaches, prepareCause, prepareCaches, prepareSnapshot, prepareDone, prepareRule}
-use Rattle.model.specs.Step.{readStart, stepSite, stepReads, stepStart, stepFetch, stepCache, stepPlan, stepPull, stepSnapshot, stepMoved, jobLimit, notReady, stepCause, stepBroken, stepDone, stepRule}
-use Rattle.model.specs.Issue.{issueCause, takenIn, newPast, newVersion, issuedMaster, issuedWriter, issueSaved, issueDone, issueRule}
+use Rattle.model.specs.Step.{readStart, stepSite, stepReads, stepStart, stepFetch, stepCache, stepPlan, stepPull, stepSnapshot, stepMoved, jobLimit, notReady, jobCause, stepCause, stepBroken, stepDone, stepRule}
+use Rattle.model.specs.Issue.{raiseCause, issueCause, takenIn, rowsSet, newPast, newVersion, issuedMaster, issuedWriter, savedStore, issuedStore, issuedNumber, issueDone, issueRule}
 use Rattle.model.specs.Look.{lookPlace, lookLimit, lookCause, rowNumbers, lookDone, lookRule}
 use Rattle.model.specs.Calls.{StoreCall, openRun, fetch, step, issue, ruleOf}
 use Rattle.model.proofs.Outcomes.{nextStore}
@@ -144,18 +144,19 @@ unfolding anyBelow allBelow only foldBelow countBelow largest when putAt upto bl
     versionSize placeSize siteSize writerSize runSize masterAt sitesAt writersAt runsAt totalOf
     lacking held dependency supersedes larger merge draws drawSet fetchSet fetched unfetchable
     evictSet evicted pullSet pulled fresh planned withMaster withLast withSites withCache
-    withWriter withRun withState withSnapshot withJobDone validJob refuse unless allowed
-    fetchCause fetchDone fetchRule evictCause evictDone evictRule listedJob listedCount listedJobs
-    listValid openCause openedRun openDone openRule dropCause dropDone dropRule jobStart
-    fetchReads preparedCaches unpreparable usesSite sitesMerged siteCaches prepareCause
-    prepareCaches prepareSnapshot prepareDone prepareRule readStart stepSite stepReads stepStart
-    stepFetch stepCache stepPlan stepPull stepSnapshot stepMoved jobLimit notReady stepCause
-    stepBroken stepDone stepRule issueCause takenIn newPast newVersion issuedMaster issuedWriter
-    issueSaved issueDone issueRule lookPlace lookLimit lookCause rowNumbers lookDone lookRule
-    ruleOf clockWords pastWords versionWords placeWords siteWords sitesWords writerWords
-    writersWords jobWords jobsWords runWords runsWords headerWords storeWords readClock readPast
-    readVersion readPlace readSite readWriter readJob readJobs readRun countsIn storeOf isOk
-    writerOf leads inPast reaches heldCopy needsCopy meetsCopy union lastIn byWriter counted
-    freshBook withBookCaches withBookRun bookOpen bookFetch bookEvict bookPrepare bookStepJob
-    entry bookIssue bookIssued bookRule bookOk bookStep
+    withWriter withRun withState withSnapshot withJobDone validJob refuse unless allowed runCause
+    fetchCause fetchDone fetchRule evictCause evictDone evictRule listedJob listedCount
+    listedJobs listValid openCause openedRun openDone openRule dropCause dropDone dropRule
+    jobStart fetchReads preparedCaches unpreparable usesSite sitesMerged siteCaches
+    prepareCause prepareCaches prepareSnapshot prepareDone prepareRule readStart stepSite
+    stepReads stepStart stepFetch stepCache stepPlan stepPull stepSnapshot stepMoved jobLimit
+    notReady jobCause stepCause stepBroken stepDone stepRule raiseCause issueCause takenIn rowsSet
+    newPast newVersion issuedMaster issuedWriter savedStore issuedStore issuedNumber issueDone
+    issueRule lookPlace lookLimit lookCause rowNumbers lookDone lookRule ruleOf clockWords
+    pastWords versionWords placeWords siteWords sitesWords writerWords writersWords jobWords
+    jobsWords runWords runsWords headerWords storeWords readClock readPast readVersion
+    readPlace readSite readWriter readJob readJobs readRun countsIn storeOf isOk writerOf leads
+    inPast reaches heldCopy needsCopy meetsCopy union lastIn byWriter counted freshBook
+    withBookCaches withBookRun bookOpen bookFetch bookEvict bookPrepare bookStepJob entry
+    bookIssue bookIssued bookRule bookOk bookStep
 scripted = record { later = refl; reading = refl; case-a = refl; longer = refl }

@@ -5,7 +5,7 @@
 -- number i + 1 is at i.
 -- Assumes nothing.
 use mathlib.Core.Path.{_≡_}
-use mathlib.Core.Bool.{Bool, false, cond, _&&_, _||_, So}
+use mathlib.Core.Bool.{false, cond, _&&_, _||_, So}
 use mathlib.Core.Logic.{_≢_}
 use mathlib.Core.List.{List, [], _∷_}
 use Prim.Native.Nat.{ℕ, _<_}

@@ -1,37 +1,31 @@
 -- The cause of an issue as the code tests it.
--- not-below: a mask out of range. raise-word: causes 9 and 10 by their words, raise-free: none.
+-- raise-word: causes 9 and 10 by their words, raise-free: none.
 -- beyond, in-range: out of range or not. issue-cause: the chain. cause-state, cause-jobs: its
 -- lower rows, jobsCause. issue-ready: no cause.
 -- Assumes nothing.
 use mathlib.Core.Path.{_≡_, refl, sym, _∙_}
-use mathlib.Core.Bool.{Bool, true, false, cond, not, _&&_, _||_}
+use mathlib.Core.Bool.{Bool, true, false, cond, not, _||_}
 use mathlib.Core.Logic.{_≢_}
 use mathlib.Core.List.{List}
 use Prim.Native.Nat.{ℕ, _<_, _^_}
 use native.Mathlib.Omega.{arith}
-use lib.Dec.{eqb, leb, ltb}
+use lib.Dec.{eqb, leb}
 use lib.ListN.{getD}
 use Rattle.words.specs.Tests.{allBelow}
-use Rattle.words.proofs.Bools.{test, or-none, leb-gt, gt-leb, ltb-lt, ltb-ge, le-leb, eqb-ne}
+use Rattle.words.proofs.Bools.{test, or-none, leb-gt, gt-leb, eqb-ne}
 use Rattle.masks.specs.Mask.{testBit}
 use Rattle.sizes.specs.declared.Counts.{Counts}
 use Rattle.sizes.specs.Bounds.{writerAt}
 use Rattle.model.specs.Store.{Store}
-use Rattle.model.specs.Outcome.{refuse, allowed, issueRow}
-use Rattle.model.specs.Issue.{maxWord, issueCause}
+use Rattle.model.specs.Outcome.{refuse, allowed, issueRow, runCause}
+use Rattle.model.specs.Issue.{maxWord, raiseCause, issueCause}
 use Rattle.model.proofs.Outcomes.{no-cause, no-lack}
 use Rattle.layout.specs.Reading.{storeOf}
 use Rattle.layout.proofs.Readings.{last-in}
 use Rattle.form.specs.Parts.{FormWith}
 use Rattle.form.proofs.Known.{form-counts}
-use Rattle.status.specs.Status.{runCause}
-use Rattle.issue.specs.Saves.{raiseCause, Savable}
+use Rattle.issue.specs.Saves.{Savable}
 use Rattle.issue.proofs.Known.{count-word}
-
-pub not-below : (a b : ℕ) → not (ltb a b) ≡ leb b a
-not-below a b =
-    test (ltb a b) (λ t. rw (t, gt-leb b a (ltb-lt a b t)))
-    (λ t. rw (t, le-leb b a (ltb-ge a b t)))
 
 -- ---- the numbers that an issue raises
 
@@ -63,19 +57,14 @@ jobsCause s r w S =
     (cond (eqb S 0) 0 (raiseCause s w))
 
 three : (a b c : Bool) (n rest : ℕ)
-    → refuse a n (refuse b n (refuse c n rest)) ≡ refuse (a || (b || c)) n rest
+    → refuse b n (refuse c n (refuse a n rest)) ≡ refuse (a || (b || c)) n rest
 unfolding refuse
-three true b c n rest = refl
+three true true c n rest = refl
+three true false true n rest = refl
+three true false false n rest = refl
 three false true c n rest = refl
-three false false c n rest = refl
-
--- The last two rows are for a mask that isn't empty.
-saving : (e a b : Bool)
-    → refuse (not e && a) 9 (refuse (not e && b) 10 0)
-    ≡ cond e 0 (refuse a 9 (refuse b 10 0))
-unfolding refuse
-saving true a b = refl
-saving false a b = refl
+three false false true n rest = refl
+three false false false n rest = refl
 
 module _ (l : List ℕ) (z : Counts) (H : FormWith l z) (r w S : ℕ) where
   abbrev s : Store
@@ -84,12 +73,9 @@ module _ (l : List ℕ) (z : Counts) (H : FormWith l z) (r w S : ℕ) where
   pub issue-cause : issueCause s r w S
       ≡ refuse (beyond z r w S) 3
       (refuse (not (allowed issueRow (s .run r .state))) 4 (jobsCause s r w S))
-  unfolding issueCause raiseCause
+  unfolding issueCause runCause
   issue-cause =
-      rw (
-        form-counts l z H,
-        saving (eqb S 0) (eqb (s .last) maxWord) (eqb (s .writer w .count) maxWord),
-      )
+      rw (form-counts l z H)
       (three (leb (z .runs) r) (leb (z .writers) w) (leb (2 ^ z .keys) S) 3 _)
 
   pub in-range : beyond z r w S ≡ false
@@ -101,11 +87,11 @@ module _ (l : List ℕ) (z : Counts) (H : FormWith l z) (r w S : ℕ) where
 
   -- The run's cause, in range.
   state-cause : beyond z r w S ≡ false
-      → runCause s issueRow r ≡ refuse (not (allowed issueRow (s .run r .state))) 4 0
+      → runCause s issueRow r 0 ≡ refuse (not (allowed issueRow (s .run r .state))) 4 0
   unfolding runCause refuse
   state-cause e = rw (form-counts l z H, gt-leb _ _ (in-range e .0))
 
-  pub cause-state : (n : ℕ) → beyond z r w S ≡ false → n ≡ runCause s issueRow r → n ≢ 0
+  pub cause-state : (n : ℕ) → beyond z r w S ≡ false → n ≡ runCause s issueRow r 0 → n ≢ 0
       → n ≡ issueCause s r w S
   unfolding refuse
   cause-state n e c h =
@@ -113,7 +99,7 @@ module _ (l : List ℕ) (z : Counts) (H : FormWith l z) (r w S : ℕ) where
       (λ t. absurd (h (c ∙ state-cause e ∙ rw t)))
       (λ t. c ∙ state-cause e ∙ rw (issue-cause, e, t))
 
-  pub cause-jobs : (n : ℕ) → beyond z r w S ≡ false → n ≡ runCause s issueRow r → n ≡ 0
+  pub cause-jobs : (n : ℕ) → beyond z r w S ≡ false → n ≡ runCause s issueRow r 0 → n ≡ 0
       → issueCause s r w S ≡ jobsCause s r w S
   unfolding refuse
   cause-jobs n e c h =

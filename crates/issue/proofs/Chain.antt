@@ -3,7 +3,7 @@
 -- saved-number, savable-in: where a key is saved. countedStore: number and writer are stored.
 -- writer-done, kept-formed, master-done: from the words that the phases leave to the store.
 -- Assumes nothing.
-use mathlib.Core.Path.{_≡_, refl, sym, ap, _∙_}
+use mathlib.Core.Path.{_≡_, sym, ap, _∙_}
 use mathlib.Core.Bool.{So}
 use mathlib.Core.List.{List}
 use Prim.Native.Nat.{ℕ, _+_, _<_, _^_}
@@ -17,18 +17,18 @@ use Rattle.model.specs.Algebra.{Place}
 use Rattle.model.specs.Version.{Version}
 use Rattle.model.specs.Store.{Writer, Run, Store, withLast, withMaster, withWriter, withRun}
 use Rattle.model.specs.Form.{placeFormed}
-use Rattle.model.specs.Issue.{takenIn, newPast, newVersion, issuedMaster, issuedWriter}
+use Rattle.model.specs.Issue.{takenIn, rowsSet, newPast, newVersion, issuedMaster, issuedWriter, savedStore, issuedStore, issuedNumber}
 use Rattle.layout.specs.Reading.{readPlace, readWriter, countsIn, storeOf}
 use Rattle.layout.specs.Stored.{putPlace, putWriter, putRun}
 use Rattle.layout.specs.Buffer.{written}
 use Rattle.layout.proofs.Whole.{FitStore, store-fits, counts-back, store-back}
 use Rattle.layout.proofs.Fit.{fit-last, fit-writer}
+use Rattle.layout.proofs.KeptIssue.{taken-fits, rows-fit}
 use Rattle.layout.proofs.Updates.{put-last, put-master, put-writer, put-run}
 use Rattle.layout.proofs.Readings.{master-in, writer-in, snapshot-in}
 use Rattle.form.specs.Parts.{FormWith}
 use Rattle.form.proofs.Known.{form-counts, form-again, master-formed}
-use Rattle.issue.specs.Saves.{savedWriter, savedVersion, savedPlace, savedNumber, savedStore, Savable}
-use Rattle.issue.proofs.Writers.{saved-fits}
+use Rattle.issue.specs.Saves.{Savable}
 
 -- ---- a store that was just written: its parts, and another one of them
 
@@ -65,25 +65,10 @@ module _ (s : Store) (l : List ℕ) (z : Counts) (e : s .counts ≡ z) where
       → putRun z (written s l) (runAt z r) a ≡ written (withRun s r a) l
   run-put r a h = rw (← e) (put-run s l r a (rw e h))
 
--- ---- the writer and the master as the model has them
-
-writer-as : (s : Store) (r w S : ℕ)
-    → issuedWriter s r w S
-    ≡ savedWriter (s .counts .keys) (s .run r .read) (s .run r .snapshot) w S
-    (s .writer w .count + 1) (s .writer w)
-unfolding issuedWriter newPast takenIn
-writer-as s r w S = refl
-
-master-as : (s : Store) (r w S : ℕ)
-    → issuedMaster s r w S
-    ≡ savedPlace S (savedVersion (s .last + 1) (issuedWriter s r w S .past)) (s .master)
-unfolding issuedMaster newVersion issuedWriter
-master-as s r w S = refl
-
 -- ---- a mask that isn't empty
 
-pub saved-number : (s : Store) (S : ℕ) → 0 < S → savedNumber s S ≡ s .last + 1
-unfolding savedNumber
+pub saved-number : (s : Store) (S : ℕ) → 0 < S → issuedNumber s S ≡ s .last + 1
+unfolding issuedNumber
 saved-number s S h = rw (ne-eqb S 0 (omega arith))
 
 -- Number and writer are stored, the master isn't yet.
@@ -91,8 +76,10 @@ abbrev pub countedStore : Store → ℕ → ℕ → ℕ → Store
 countedStore s r w S = withWriter (withLast s (s .last + 1)) w (issuedWriter s r w S)
 
 saved-store : (s : Store) (r w S : ℕ) → 0 < S
-    → savedStore s r w S ≡ withMaster (countedStore s r w S) (issuedMaster s r w S)
-unfolding savedStore
+    → issuedStore s r w S
+    ≡ withMaster (countedStore s r w S)
+    (issuedMaster S (newVersion (s .last + 1) (newPast s r w S)) (s .master))
+unfolding issuedStore savedStore
 saved-store s r w S h = rw (ne-eqb S 0 (omega arith))
 
 pub savable-in : (l : List ℕ) (z : Counts) (r w S : ℕ) → FormWith l z → Savable (storeOf l) r w S
@@ -114,6 +101,10 @@ module _ (l : List ℕ) (z : Counts) (H : FormWith l z) (r w S : ℕ) (hr : r < 
   abbrev s₂ : Store
   s₂ = countedStore s r w S
 
+  -- The master after it.
+  abbrev new : Place Version
+  new = issuedMaster S (newVersion (s .last + 1) (newPast s r w S)) (s .master)
+
   fits₁ : FitStore s₁
   fits₁ = fit-last s (store-fits l) (s .last + 1)
 
@@ -128,22 +119,26 @@ module _ (l : List ℕ) (z : Counts) (H : FormWith l z) (r w S : ℕ) (hr : r < 
 
   saved : Writer
   saved =
-      savedWriter (z .keys) (s .run r .read) (s .run r .snapshot) w S (s .writer w .count + 1)
-      (s .writer w)
+      let n = s .writer w .count + 1 in
+      record {
+        count = n;
+        past = rowsSet S w n
+            (takenIn (z .keys) (s .run r .read) (s .run r .snapshot) (s .writer w .past));
+      }
 
   saved-as : issuedWriter s r w S ≡ saved
-  unfolding saved
-  saved-as = rw (← form-counts l z H) (writer-as s r w S)
+  unfolding saved issuedWriter newPast
+  saved-as = rw (← form-counts l z H)
 
   fits₂ : FitStore s₂
-  unfolding saved withLast
+  unfolding withLast issuedWriter newPast
   fits₂ =
       let same = form-counts l z H in
       let F = store-fits l in
-      let fit = saved-fits (s .counts) (s .run r .read) (s .run r .snapshot)
-      (F .run .each r (rw same hr) .snapshot) (s .writer w) (F .writer .each w (rw same hw)) w S
-      (s .writer w .count + 1) (rw same hw) (rw same hS) in
-      fit-writer s₁ fits₁ w (issuedWriter s r w S) (rw same hw) (rw (writer-as s r w S) fit)
+      let taken = taken-fits (s .counts) (s .run r .read) (s .run r .snapshot) (s .writer w .past)
+      (F .run .each r (rw same hr) .snapshot) (F .writer .each w (rw same hw) .past) in
+      fit-writer s₁ fits₁ w (issuedWriter s r w S) (rw same hw)
+      (record { past = rows-fit (s .counts) S w _ _ (rw same hS) (rw same hw) taken })
 
   same₂ : s₂ .counts ≡ z
   unfolding withWriter
@@ -152,8 +147,12 @@ module _ (l : List ℕ) (z : Counts) (H : FormWith l z) (r w S : ℕ) (hr : r < 
   writer-stored : (m₁ m₂ : List ℕ) (read n : ℕ) → read ≡ s .run r .read
       → n ≡ s .writer w .count + 1 → m₁ ≡ written s₁ l
       → m₂ ≡ putWriter z m₁ (writerAt z w)
-      (savedWriter (z .keys) read (readPlace z m₁ (snapshotAt z r)) w S n
-      (readWriter z m₁ (writerAt z w)))
+      (record {
+        count = n;
+        past = rowsSet S w n
+            (takenIn (z .keys) read (readPlace z m₁ (snapshotAt z r))
+            (readWriter z m₁ (writerAt z w) .past));
+      })
       → m₂ ≡ written s₂ l
   unfolding saved withLast
   writer-stored m₁ m₂ read n a b e₁ e₂ =
@@ -172,24 +171,26 @@ module _ (l : List ℕ) (z : Counts) (H : FormWith l z) (r w S : ℕ) (hr : r < 
 
   master-stored : (m₂ m₃ : List ℕ) (i : ℕ) → i ≡ s .last + 1 → m₂ ≡ written s₂ l
       → m₃ ≡ putPlace z m₂ (masterAt z)
-      (savedPlace S (savedVersion i (readWriter z m₂ (writerAt z w) .past))
+      (issuedMaster S (newVersion i (readWriter z m₂ (writerAt z w) .past))
       (readPlace z m₂ (masterAt z)))
-      → m₃ ≡ written (withMaster s₂ (issuedMaster s r w S)) l
-  unfolding withWriter withLast
+      → m₃ ≡ written (withMaster s₂ new) l
+  unfolding withWriter withLast issuedWriter
   master-stored m₂ m₃ i a e₂ e₃ =
       let writer : readWriter z (written s₂ l) (writerAt z w) ≡ issuedWriter s r w S =
       writer-back s₂ l z fits₂ same₂ w hw ∙ putAt-same (s .writer) w (issuedWriter s r w S) in
       e₃
-      ∙ rw (a, e₂, writer, master-back s₂ l z fits₂ same₂)
-      (ap (putPlace z (written s₂ l) (masterAt z)) (sym (master-as s r w S))
-      ∙ master-put s₂ l z same₂ (issuedMaster s r w S))
+      ∙ rw (a, e₂, writer, master-back s₂ l z fits₂ same₂) (master-put s₂ l z same₂ new)
 
   -- From what the code reads and stores, by its own indices and numbers: number and writer,
   pub writer-done : (at place read i n : ℕ) (m₁ m₂ : List ℕ) → at ≡ writerAt z w
       → place ≡ snapshotAt z r → read ≡ s .run r .read → i ≡ s .last + 1
       → n ≡ s .writer w .count + 1 → m₁ ≡ set l 4 i
       → m₂ ≡ putWriter z m₁ at
-      (savedWriter (z .keys) read (readPlace z m₁ place) w S n (readWriter z m₁ at))
+      (record {
+        count = n;
+        past = rowsSet S w n
+            (takenIn (z .keys) read (readPlace z m₁ place) (readWriter z m₁ at .past));
+      })
       → m₂ ≡ written s₂ l
   writer-done at place read i n m₁ m₂ p q a b c e₁ e₂ =
       writer-stored m₁ m₂ read n a c (e₁ ∙ rw b number-stored) (rw (p, q) at e₂)
@@ -203,7 +204,7 @@ module _ (l : List ℕ) (z : Counts) (H : FormWith l z) (r w S : ℕ) (hr : r < 
   pub master-done : (master at i : ℕ) (m₂ m₃ : List ℕ) → 0 < S → master ≡ masterAt z
       → at ≡ writerAt z w → i ≡ s .last + 1 → m₂ ≡ written s₂ l
       → m₃ ≡ putPlace z m₂ master
-      (savedPlace S (savedVersion i (readWriter z m₂ at .past)) (readPlace z m₂ master))
-      → m₃ ≡ written (savedStore s r w S) l
+      (issuedMaster S (newVersion i (readWriter z m₂ at .past)) (readPlace z m₂ master))
+      → m₃ ≡ written (issuedStore s r w S) l
   master-done master at i m₂ m₃ h d p b e₂ e₃ =
       rw (saved-store s r w S h) (master-stored m₂ m₃ i b e₂ (rw (p, d) at e₃))

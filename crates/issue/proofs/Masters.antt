@@ -14,25 +14,26 @@ use Rattle.masks.specs.Mask.{testBit}
 use Rattle.sizes.specs.declared.Counts.{Counts}
 use Rattle.sizes.specs.Bounds.{keyAt}
 use Rattle.model.specs.Algebra.{Place}
-use Rattle.model.specs.Version.{Version, larger, merge}
+use Rattle.model.specs.Version.{Version, larger, merge, joinPasts}
 use Rattle.model.specs.Form.{placeFormed}
+use Rattle.model.specs.Issue.{newVersion, issuedMaster}
 use Rattle.model.proofs.Formed.{place-out}
 use Rattle.model.proofs.Merges.{held-iff, merge-larger}
 use Rattle.layout.specs.Words.{placeWords}
 use Rattle.layout.specs.Reading.{readPast, readPlace, readWriter}
-use Rattle.layout.specs.Stored.{putPlace}
+use Rattle.layout.specs.Stored.{putPlace, putPast}
 use Rattle.layout.proofs.Parts.{place-laws, writer-laws}
 use Rattle.layout.proofs.Places.{place-at, place-ext, place-run, key-back}
 use Rattle.layout.proofs.Merges.{formed-blank}
 use Rattle.layout.proofs.Windows.{part-beside}
 use Rattle.version.specs.Places.{putKey, choice}
-use Rattle.issue.specs.Saves.{putPast, joinPasts, savedVersion, savedPlace, Saves}
+use Rattle.issue.specs.Saves.{Saves}
 use Rattle.issue.proofs.Pasts.{writer-read, version-merged}
 
 abbrev pub saveStep : Counts → ℕ → ℕ → ℕ → ℕ → ℕ → List ℕ → List ℕ
 saveStep z place at S n k l =
     putKey z l place (testBit S) k
-    (larger (readPlace z l place k) (savedVersion n (readWriter z l at .past)))
+    (larger (readPlace z l place k) (newVersion n (readWriter z l at .past)))
 
 -- What the code stores for a key of the mask.
 pub save-yes : (z : Counts) (l : List ℕ) (place at S n k v : ℕ) → k < z .keys
@@ -48,7 +49,7 @@ module _ (z : Counts) (l : List ℕ) (place at S n : ℕ) (A : Saves (length l) 
   p = readPlace z l place
 
   abbrev new : Version
-  new = savedVersion n (readWriter z l at .past)
+  new = newVersion n (readWriter z l at .past)
 
   larger-keys : foldBelow (z .keys) (saveStep z place at S n) l
       ≡ putPlace z l place (choice (testBit S) (λ k. larger (p k) new) p)
@@ -58,7 +59,7 @@ module _ (z : Counts) (l : List ℕ) (place at S n : ℕ) (A : Saves (length l) 
       λ q. part-beside (writer-laws z) l (placeWords z q) place at
       (inr (omega (arith, place-laws z .long q, A .apart))) in
       place-run z l place (testBit S)
-      (λ k m. larger (readPlace z m place k) (savedVersion n (readWriter z m at .past)))
+      (λ k m. larger (readPlace z m place k) (newVersion n (readWriter z m at .past)))
       (λ k. larger (p k) new) (omega (arith, A .apart, A .fits))
       (λ k q h F e. rw (beside q) (ap (λ (v : Version). larger v new)
       (place-at z (putPlace z l place q) place k h
@@ -66,12 +67,13 @@ module _ (z : Counts) (l : List ℕ) (place at S n : ℕ) (A : Saves (length l) 
 
   -- In a place that is well formed the larger version is the merge.
   pub save-keys : So (placeFormed z p) → 1 ≤ n
-      → foldBelow (z .keys) (saveStep z place at S n) l ≡ putPlace z l place (savedPlace S new p)
+      → foldBelow (z .keys) (saveStep z place at S n) l ≡ putPlace z l place (issuedMaster S new p)
+  unfolding newVersion issuedMaster
   save-keys f h =
       let same : (k : ℕ) → k < z .keys → merge (p k) new ≡ larger (p k) new =
       λ k i. merge-larger (p k) new
       (formed-blank z k (p k) (place-laws z .fits l place .each k i) (place-out z p f k i))
       (λ no. clash (held-iff new .1 h) no) in
       larger-keys
-      ∙ place-ext z l place (choice (testBit S) (λ k. larger (p k) new) p) (savedPlace S new p)
+      ∙ place-ext z l place (choice (testBit S) (λ k. larger (p k) new) p) (issuedMaster S new p)
       (λ k i. rw (same k i))

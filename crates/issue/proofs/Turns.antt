@@ -1,62 +1,24 @@
--- Loops over the keys that change one part of a buffer, and what is left for a writer.
--- part-fold: the turns on a part of the buffer are turns on what it stands for.
--- part-over: a part stored twice. taken-fold: a writer after all turns of `takes`.
+-- Loops over the keys that change a writer.
+-- taken-fold: a writer after all turns of `takes`.
 -- rows-fold, rows-count: past and count after all turns of `rowSet`.
 -- Assumes nothing.
-use mathlib.Core.Path.{_≡_, refl, sym, ap, _∙_}
+use mathlib.Core.Path.{_≡_, refl, ap, _∙_}
 use mathlib.Core.Bool.{Bool, true, false, cond, _&&_}
-use mathlib.Core.List.{List}
-use Prim.Native.Nat.{ℕ, zero, suc, _+_, _≤_, _<_}
-use native.Mathlib.Nat.{add-zero, not-suc-le-zero}
+use Prim.Native.Nat.{ℕ, zero, suc, _≤_, _<_}
+use native.Mathlib.Nat.{not-suc-le-zero}
 use native.Mathlib.Omega.{arith}
 use lib.Dec.{eqb}
-use lib.ListN.{length}
-use lib.Seq.{sets}
 use Rattle.words.specs.Numbers.{foldBelow}
 use Rattle.words.specs.Lists.{putAt}
-use Rattle.words.proofs.Numbers.{fold-keeps}
 use Rattle.words.proofs.Tests.{below-cases}
 use Rattle.words.proofs.Lists.{putAt-same, putAt-other}
-use Rattle.words.proofs.Stores.{sets-all}
 use Rattle.masks.specs.Mask.{testBit}
 use Rattle.clock.specs.Clock.{Clock}
 use Rattle.model.specs.Algebra.{Place}
-use Rattle.model.specs.Version.{Version}
+use Rattle.model.specs.Version.{Version, joinPasts}
 use Rattle.model.specs.Store.{Writer}
-use Rattle.layout.proofs.Codec.{Laws}
-use Rattle.layout.proofs.Windows.{part-again, part-twice}
-use Rattle.issue.specs.Saves.{joinPasts, withPast, takes, takenPast, rowSet, rowsSet}
-
--- ---- one part of a buffer
-
--- Turn k stores G k of the buffer over the part, and that is g k of the part.
-module _ {A : Type 0} {v : ℕ} {words : A → List ℕ} {read : List ℕ → ℕ → A} {Fit : A → Type 0}
-    (L : Laws v words read Fit) (l : List ℕ) (at : ℕ) (h : at + v ≤ length l) where
-  pub part-over : (a b : A) → sets (sets l at (words a)) at (words b) ≡ sets l at (words b)
-  part-over a b =
-      let long = L .long b in
-      let same : length (words b) ≡ length (words a) = long ∙ sym (L .long a) in
-      ap (λ (j : ℕ). sets (sets l at (words a)) j (words b)) (sym (add-zero at))
-      ∙ part-twice L l at 0 (words b) a b h (omega arith) (sets-all (words a) (words b) same)
-
-  module _ (N : ℕ) (G : ℕ → List ℕ → A) (g : ℕ → A → A)
-      (f : (k : ℕ) (a : A) → k < N → Fit a → G k (sets l at (words a)) ≡ g k a)
-      (keep : (k : ℕ) (a : A) → k < N → Fit a → Fit (g k a)) where
-    turn-fits : (n : ℕ) → n ≤ N → Fit (foldBelow n g (read l at))
-    turn-fits n i =
-        fold-keeps Fit n g (λ k a j F. keep k a (omega arith) F) (read l at) (L .fits l at)
-
-    pub part-fold : (n : ℕ) → n ≤ N
-        → foldBelow n (λ k m. sets m at (words (G k m))) l
-        ≡ sets l at (words (foldBelow n g (read l at)))
-    unfolding foldBelow
-    part-fold zero i = sym (part-again L l at)
-    part-fold (suc n) i =
-        let a = foldBelow n g (read l at) in
-        ap (λ (m : List ℕ). sets m at (words (G n m))) (part-fold n (omega arith))
-        ∙ ap (λ (b : A). sets (sets l at (words a)) at (words b))
-        (f n a i (turn-fits n (omega arith)))
-        ∙ part-over a (g n a)
+use Rattle.model.specs.Issue.{takenIn, rowsSet}
+use Rattle.issue.specs.Saves.{withPast, takes, rowSet}
 
 -- ---- a writer
 
@@ -72,11 +34,11 @@ module _ (read : ℕ) (p : Place Version) where
   taking : ℕ → (ℕ → Clock) → ℕ → Clock
   taking k q = cond (testBit read k) (joinPasts q (p k .past)) q
 
-  taken-rows : (n : ℕ) (past : ℕ → Clock) → foldBelow n taking past ≡ takenPast n read p past
-  unfolding foldBelow taking
+  taken-rows : (n : ℕ) (past : ℕ → Clock) → foldBelow n taking past ≡ takenIn n read p past
+  unfolding foldBelow taking takenIn
   taken-rows zero past = refl
   taken-rows (suc n) past =
-      ap (taking n) (taken-rows n past) ∙ one (testBit read n) (takenPast n read p past)
+      ap (taking n) (taken-rows n past) ∙ one (testBit read n) (takenIn n read p past)
     where
       one : (b : Bool) (q : ℕ → Clock)
           → cond b (joinPasts q (p n .past)) q
@@ -85,7 +47,7 @@ module _ (read : ℕ) (p : Place Version) where
       one false q = refl
 
   pub taken-fold : (n : ℕ) (x : Writer)
-      → foldBelow n (takes read p) x ≡ withPast x (takenPast n read p (x .past))
+      → foldBelow n (takes read p) x ≡ withPast x (takenIn n read p (x .past))
   unfolding taking
   taken-fold n x = past-fold n taking x ∙ ap (withPast x) (taken-rows n (x .past))
 
@@ -130,7 +92,7 @@ module _ (S w c : ℕ) where
   -- The rows below n, as the paper's sentence has them.
   pub rows-fold : (n : ℕ) (x : Writer) (d u : ℕ) → d < n
       → foldBelow n (rowSet S w c) x .past d u ≡ rowsSet S w c (x .past) d u
-  unfolding putAt setting
+  unfolding putAt setting rowsSet
   rows-fold n x d u h =
       ap (λ (y : Writer). y .past d u) (past-fold n setting x)
       ∙ ap (λ (r : Clock). r u) (rows-low n (x .past) d h) ∙ one (testBit S d)

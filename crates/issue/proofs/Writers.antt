@@ -1,37 +1,36 @@
 -- A writer in the words of a buffer: what the loops over the keys leave.
 -- takeStep, rowStep: the turn for one key, ..-yes, ..-no. take-keys, row-keys: all of them.
--- saved-fits, writer-saved: the two, and the new count.
+-- writer-saved: the two, and the new count.
 -- Assumes nothing.
 use mathlib.Core.Path.{_≡_, sym, ap, _∙_}
-use mathlib.Core.Bool.{Bool, true, false, cond, So, _&&_}
-use mathlib.Core.Logic.{_⊎_, inl, inr}
+use mathlib.Core.Bool.{Bool, true, false, cond, So}
+use mathlib.Core.Logic.{inr}
 use mathlib.Core.List.{List}
-use Prim.Native.Nat.{ℕ, _+_, _≤_, _<_, _^_}
+use Prim.Native.Nat.{ℕ, _+_, _≤_, _<_}
 use native.Mathlib.Omega.{arith}
-use lib.Dec.{eqb}
 use lib.ListN.{length, set}
 use Rattle.words.specs.Numbers.{foldBelow}
 use Rattle.words.specs.Lists.{putAt}
-use Rattle.words.proofs.Bools.{and-false-right, ne-eqb}
-use Rattle.words.proofs.Numbers.{fold-keeps}
 use Rattle.masks.specs.Mask.{testBit}
-use Rattle.masks.proofs.Bits.{test-high}
 use Rattle.clock.specs.Clock.{Clock, join}
 use Rattle.sizes.specs.declared.Counts.{Counts}
 use Rattle.sizes.specs.Bounds.{writerSize, keyAt, rowAt}
 use Rattle.model.specs.Algebra.{Place}
-use Rattle.model.specs.Version.{Version}
+use Rattle.model.specs.Version.{Version, joinPasts}
 use Rattle.model.specs.Store.{Writer}
+use Rattle.model.specs.Issue.{takenIn, rowsSet}
 use Rattle.layout.specs.Words.{writerWords}
 use Rattle.layout.specs.Reading.{readPast, readPlace, readWriter}
-use Rattle.layout.specs.Stored.{putWriter}
+use Rattle.layout.specs.Stored.{putWriter, putPast}
 use Rattle.layout.proofs.Parts.{FitPast, FitWriter, FitPlace, place-laws, writer-laws}
 use Rattle.layout.proofs.Fit.{fit-put, past-out, past-in, place-fit}
+use Rattle.layout.proofs.KeptIssue.{taken-fits}
 use Rattle.layout.proofs.Places.{place-at}
-use Rattle.layout.proofs.Windows.{part-back, part-beside, part-again}
-use Rattle.issue.specs.Saves.{putPast, joinPasts, withPast, takes, takenPast, rowSet, rowsSet, savedWriter}
-use Rattle.issue.proofs.Pasts.{set-count, writer-past, writer-read, writer-counted, writer-ext, version-read, row-spot}
-use Rattle.issue.proofs.Turns.{part-over, part-fold, taken-fold, rows-fold, rows-count}
+use Rattle.layout.proofs.Windows.{part-back, part-beside, part-again, part-over, part-fold}
+use Rattle.layout.proofs.Pasts.{set-count, row-spot}
+use Rattle.issue.specs.Saves.{withPast, takes, rowSet}
+use Rattle.issue.proofs.Pasts.{writer-past, writer-read, writer-counted, writer-ext, version-read}
+use Rattle.issue.proofs.Turns.{taken-fold, rows-fold, rows-count}
 
 abbrev pub takeStep : Counts → ℕ → ℕ → ℕ → ℕ → List ℕ → List ℕ
 takeStep z at place read k l =
@@ -103,7 +102,7 @@ module _ (z : Counts) (l : List ℕ) (at : ℕ) (h : at + writerSize z ≤ lengt
   pub take-keys : (place read : ℕ) → at + writerSize z ≤ place
       → foldBelow (z .keys) (takeStep z at place read) l
       ≡ putWriter z l at
-      (withPast x (takenPast (z .keys) read (readPlace z l place) (x .past)))
+      (withPast x (takenIn (z .keys) read (readPlace z l place) (x .past)))
   take-keys place read d =
       let p = readPlace z l place in
       let L = writer-laws z in
@@ -129,44 +128,23 @@ module _ (z : Counts) (l : List ℕ) (at : ℕ) (h : at + writerSize z ≤ lengt
       (withPast x (rowsSet S w n (x .past))) (rows-count S w n (z .keys) x)
       (λ d u j _. rows-fold S w n (z .keys) x d u j)
 
--- ---- a writer with the new count, and what it took in
+-- ---- the loops one after the other, then the count
 
-module _ (z : Counts) (read : ℕ) (p : Place Version) (P : FitPlace z p) (x : Writer)
-    (F : FitWriter z x) where
-  taken-fits : FitPast z (takenPast (z .keys) read p (x .past))
-  taken-fits =
-      let fold = fold-keeps (FitWriter z) (z .keys) (takes read p)
-      (λ k y _ G. takes-fits z read p P k y G) x F in
-      (rw (taken-fold read p (z .keys) x) at fold) .past
-
-  -- No row of S stands outside of the counts.
-  pub saved-fits : (w S n : ℕ) → w < z .writers → S < 2 ^ z .keys
-      → FitWriter z (savedWriter (z .keys) read p w S n x)
-  saved-fits w S n h i =
-      let t = takenPast (z .keys) read p (x .past) in
-      record {
-        past = past-in z (rowsSet S w n t)
-            (λ d u o. rw (outside d u o) (past-out z t taken-fits d u o));
-      }
-    where
-      outside : (d u : ℕ) → (z .keys ≤ d) ⊎ (z .writers ≤ u) → testBit S d && eqb u w ≡ false
-      outside d u (inl j) = rw (test-high S (z .keys) d i j)
-      outside d u (inr j) = rw (ne-eqb u w (omega arith)) (and-false-right (testBit S d))
-
--- The loops one after the other, then the count.
 pub writer-saved : (z : Counts) (l m₁ m₂ m₃ : List ℕ) (at place read w S n : ℕ)
     → at + writerSize z ≤ length l → let x = readWriter z l at in let p = readPlace z l place in
-    m₁ ≡ putWriter z l at (withPast x (takenPast (z .keys) read p (x .past)))
+    m₁ ≡ putWriter z l at (withPast x (takenIn (z .keys) read p (x .past)))
     → m₂ ≡ putWriter z m₁ at
     (withPast (readWriter z m₁ at) (rowsSet S w n (readWriter z m₁ at .past)))
-    → m₃ ≡ set m₂ at n → m₃ ≡ putWriter z l at (savedWriter (z .keys) read p w S n x)
+    → m₃ ≡ set m₂ at n
+    → m₃ ≡ putWriter z l at
+    (record { count = n; past = rowsSet S w n (takenIn (z .keys) read p (x .past)) })
 writer-saved z l m₁ m₂ m₃ at place read w S n h e₁ e₂ e₃ =
     let x = readWriter z l at in
     let p = readPlace z l place in
     let L = writer-laws z in
-    let y : Writer = withPast x (takenPast (z .keys) read p (x .past)) in
+    let y : Writer = withPast x (takenIn (z .keys) read p (x .past)) in
     let fits : FitWriter z y = record {
-      past = taken-fits z read p (place-laws z .fits l place) x (L .fits l at);
+      past = taken-fits z read p (x .past) (place-laws z .fits l place) (L .fits l at .past);
     } in
     let back : readWriter z m₁ at ≡ y = rw e₁ (part-back L l at y fits h) in
     let set₂ : m₂ ≡ putWriter z l at (withPast y (rowsSet S w n (y .past))) =

@@ -24,14 +24,14 @@ ghost use Rattle.words.specs.Tests.{allBelow};
 ghost use Rattle.masks.specs.Mask.{testBit};
 ghost use Rattle.sizes.specs.Bounds.{Ranged};
 ghost use Rattle.model.specs.Outcome.{answer};
-ghost use Rattle.model.specs.Issue.{issueCause};
+ghost use Rattle.model.specs.Issue.{raiseCause, issueCause, issuedNumber, issuedStore};
 ghost use Rattle.model.specs.Calls.{issue};
 ghost use Rattle.layout.specs.Reading.{storeOf};
 ghost use Rattle.layout.specs.Buffer.{written, inForm};
 ghost use Rattle.layout.specs.Calls.{on, callOn, leaves};
 ghost use Rattle.form.specs.Parts.{FormWith};
 ghost use Rattle.issue.specs.Answers.{issuedWords};
-ghost use Rattle.issue.specs.Saves.{savedNumber, savedStore, raiseCause, Savable};
+ghost use Rattle.issue.specs.Saves.{Savable};
 
 // The issue number, 0 where no key is saved, or the cause's number.
 pub enum Issued {
@@ -156,9 +156,9 @@ fn raise_cause(words: &[u32], z: Counts, w: usize) -> u32
 fn save(words: &mut [u32], z: Counts, r: usize, w: usize, mask: u32) -> IssueNumber
     requires { ⌜ FormWith (now words) z ⌝ }
     requires { ⌜ Savable (storeOf (now words)) r w mask ⌝ }
-    ensures answers { λ n. ⌜ n .0 ≡ savedNumber (storeOf (now (words .entry))) mask ⌝ }
+    ensures answers { λ n. ⌜ n .0 ≡ issuedNumber (storeOf (now (words .entry))) mask ⌝ }
     ensures leaves { λ _. ⌜ now (words .exit)
-        ≡ written (savedStore (storeOf (now (words .entry))) r w mask) (now (words .entry)) ⌝ }
+        ≡ written (issuedStore (storeOf (now (words .entry))) r w mask) (now (words .entry)) ⌝ }
 {
     if 0 < mask {
         return save_keys(words, z, r, w, mask);
@@ -192,9 +192,9 @@ fn next_numbers(words: &[u32], z: Counts, w: usize) -> Tally
 fn save_keys(words: &mut [u32], z: Counts, r: usize, w: usize, mask: u32) -> IssueNumber
     requires { ⌜ FormWith (now words) z ⌝ }
     requires { ⌜ Savable (storeOf (now words)) r w mask × (0 < mask) ⌝ }
-    ensures answers { λ n. ⌜ n .0 ≡ savedNumber (storeOf (now (words .entry))) mask ⌝ }
+    ensures answers { λ n. ⌜ n .0 ≡ issuedNumber (storeOf (now (words .entry))) mask ⌝ }
     ensures leaves { λ _. ⌜ now (words .exit)
-        ≡ written (savedStore (storeOf (now (words .entry))) r w mask) (now (words .entry)) ⌝ }
+        ≡ written (issuedStore (storeOf (now (words .entry))) r w mask) (now (words .entry)) ⌝ }
 {
     let areas = z.areas();
     let at = z.writer_at(w);

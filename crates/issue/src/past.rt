@@ -12,12 +12,13 @@ ghost use Prim.Native.Nat.{_+_, _≤_, _<_};
 ghost use lib.ListN.{length};
 ghost use Rattle.masks.specs.Mask.{testBit};
 ghost use Rattle.sizes.specs.Bounds.{Ranged, pastSize};
-ghost use Rattle.model.specs.Version.{larger};
+ghost use Rattle.model.specs.Version.{larger, joinPasts};
 ghost use Rattle.model.specs.Form.{placeFormed};
+ghost use Rattle.model.specs.Issue.{takenIn, rowsSet, newVersion, issuedMaster};
 ghost use Rattle.layout.specs.Reading.{readPast, readPlace, readWriter};
-ghost use Rattle.layout.specs.Stored.{putPlace, putWriter};
+ghost use Rattle.layout.specs.Stored.{putPlace, putWriter, putPast};
 ghost use Rattle.version.specs.Places.{putKey};
-ghost use Rattle.issue.specs.Saves.{putPast, joinPasts, withPast, takes, takenPast, rowSet, rowsSet, savedWriter, savedVersion, savedPlace, WriterArea, Takes, Saves};
+ghost use Rattle.issue.specs.Saves.{withPast, takes, rowSet, WriterArea, Takes, Saves};
 
 // Merges the past behind the word at src into the one behind the word at dst: each count becomes
 // the larger of the two. The words are a writer's count or a version's issue number, and stay.
@@ -53,7 +54,7 @@ fn take_in(words: &mut [u32], z: Counts, at: usize, place: usize, read: u32)
     requires { ⌜ Takes (length (now words)) z at place ⌝ }
     ensures { λ _. ⌜ now (words .exit) ≡ putWriter z (now (words .entry)) at
         (withPast (readWriter z (now (words .entry)) at)
-        (takenPast (z .keys) read (readPlace z (now (words .entry)) place)
+        (takenIn (z .keys) read (readPlace z (now (words .entry)) place)
         (readWriter z (now (words .entry)) at .past))) ⌝ }
 {
     let n = z.keys;
@@ -108,8 +109,12 @@ pub fn save_writer(
     requires { ⌜ Takes (length (now words)) z at place ⌝ }
     requires { ⌜ w < z .writers ⌝ }
     ensures { λ _. ⌜ now (words .exit) ≡ putWriter z (now (words .entry)) at
-        (savedWriter (z .keys) read (readPlace z (now (words .entry)) place) w mask (new .0)
-        (readWriter z (now (words .entry)) at)) ⌝ }
+        (record {
+          count = new .0;
+          past = rowsSet mask w (new .0)
+              (takenIn (z .keys) read (readPlace z (now (words .entry)) place)
+              (readWriter z (now (words .entry)) at .past));
+        }) ⌝ }
 {
     take_in(words, z, at, place, read);
     set_rows(words, z, at, w, mask, new);
@@ -131,7 +136,7 @@ fn merge_if(
     requires { ⌜ k < z .keys ⌝ }
     ensures { λ _. ⌜ now (words .exit) ≡ putKey z (now (words .entry)) place (testBit mask) k
         (larger (readPlace z (now (words .entry)) place k)
-        (savedVersion (number .0) (readWriter z (now (words .entry)) at .past))) ⌝ }
+        (newVersion (number .0) (readWriter z (now (words .entry)) at .past))) ⌝ }
 {
     if has(mask, k as u32) {
         let version = z.key_at(place, k);
@@ -152,7 +157,7 @@ pub fn merge_saved(
     requires { ⌜ Saves (length (now words)) z place at ⌝ }
     requires { ⌜ So (placeFormed z (readPlace z (now words) place)) × (1 ≤ number .0) ⌝ }
     ensures { λ _. ⌜ now (words .exit) ≡ putPlace z (now (words .entry)) place
-        (savedPlace mask (savedVersion (number .0) (readWriter z (now (words .entry)) at .past))
+        (issuedMaster mask (newVersion (number .0) (readWriter z (now (words .entry)) at .past))
         (readPlace z (now (words .entry)) place)) ⌝ }
 {
     let n = z.keys;

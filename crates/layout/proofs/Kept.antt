@@ -14,7 +14,7 @@ use Rattle.model.specs.Algebra.{Place}
 use Rattle.model.specs.Version.{Version, versions}
 use Rattle.model.specs.Sets.{fetchSet, fetched, evictSet, evicted}
 use Rattle.model.specs.Store.{Store, emptyPlace, freeRun, fresh, withSites, withCache, withRun}
-use Rattle.model.specs.Outcome.{Outcome, refused, broken, done, unless}
+use Rattle.model.specs.Outcome.{Outcome, refused, broken, done, unless, runCause}
 use Rattle.model.specs.Caches.{fetchCause, fetchDone, fetchRule, evictCause, evictDone, evictRule}
 use Rattle.model.specs.Runs.{dropCause, dropDone, dropRule}
 use Rattle.model.specs.Look.{lookCause, lookDone, lookRule}
@@ -74,7 +74,7 @@ look-kept p i k s F =
     (λ _. kept-done s s _ F (F .fits) (well-out s (F .formed)) refl)
 
 pub drop-kept : (r : ℕ) (s : Store) → Fine s → Kept s (dropRule r s)
-unfolding dropRule dropDone dropCause withRun
+unfolding dropRule dropDone dropCause runCause withRun
 drop-kept r s F =
     kept-unless s (dropCause s r) (dropDone s r) F (λ e.
     let z = s .counts in

@@ -20,6 +20,7 @@ use Rattle.sizes.proofs.Offsets.{between-out}
 use Rattle.model.specs.Version.{held}
 use Rattle.model.specs.Store.{Store, noJob, withRun}
 use Rattle.model.specs.Form.{validJob, runFormed}
+use Rattle.model.specs.Outcome.{runCause}
 use Rattle.model.specs.Runs.{listedJob, listedCount, listedJobs, listValid, openCause, openedRun, openDone, openRule}
 use Rattle.model.proofs.Outcomes.{no-cause, no-lack}
 use Rattle.model.proofs.DoneReads.{doneReads-none}
@@ -92,7 +93,7 @@ opened-formed z l L = plan-in z (openedRun l) (omega arith) (record {
 })
 
 pub open-kept : (r : ℕ) (l : List ℕ) (s : Store) → Fine s → Kept s (openRule r l s)
-unfolding openRule openDone openCause withRun
+unfolding openRule openDone openCause runCause withRun
 open-kept r l s F =
     kept-unless s (openCause s r l) (openDone s r l) F (λ e.
     let z = s .counts in

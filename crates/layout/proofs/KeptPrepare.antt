@@ -18,7 +18,7 @@ use Rattle.model.specs.Version.{Version, unheld, held, merge, versions}
 use Rattle.model.specs.Sets.{fetched}
 use Rattle.model.specs.Store.{Job, Run, Site, Store, emptyPlace, planned, withSites, withRun, withSnapshot}
 use Rattle.model.specs.Form.{runFormed}
-use Rattle.model.specs.Outcome.{allowed, prepareRow}
+use Rattle.model.specs.Outcome.{allowed, prepareRow, runCause}
 use Rattle.model.specs.Prepare.{jobStart, fetchReads, preparedCaches, usesSite, sitesMerged, siteCaches, prepareCause, prepareCaches, prepareSnapshot, prepareDone, prepareRule}
 use Rattle.model.proofs.Merges.{merge-idem}
 use Rattle.model.proofs.Outcomes.{no-cause, no-lack, allowed-used}
@@ -127,7 +127,7 @@ pub record Accepted (s : Store) (r : ℕ) : Type 0 where
   pub done : s .run r .done ≡ 0
 
 pub accepted : (s : Store) (r : ℕ) → prepareCause s r ≡ 0 → Accepted s r
-unfolding prepareCause allowed
+unfolding prepareCause runCause allowed
 accepted s r e =
     let a = no-cause _ 3 _ (omega arith) e in
     let b = no-lack _ 4 _ (omega arith) (a .1) in

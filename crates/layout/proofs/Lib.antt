@@ -7,6 +7,7 @@ pub mod Updates
 pub mod Windows
 pub mod Places
 pub mod Merges
+pub mod Pasts
 pub mod Readings
 pub mod Follow
 pub mod Kept

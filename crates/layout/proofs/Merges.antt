@@ -1,6 +1,6 @@
 -- The merge of two versions, word by word.
--- put-table: the stores of a loop as one store. unheld-is, formed-blank, merge-larger: where merge
--- is `larger`.
+-- put-table, put-window, put-part: the stores of a loop as one store.
+-- unheld-is, formed-blank, merge-larger: where merge is `larger`.
 -- larger-version: the larger words are the larger version.
 -- Assumes nothing.
 use mathlib.Core.Path.{_≡_, refl, sym, ap, ap₂, _∙_, fun-ext}
@@ -20,6 +20,7 @@ use Rattle.words.specs.Lists.{blocks, window}
 use Rattle.words.proofs.Bools.{not-elim}
 use Rattle.words.proofs.Tests.{below-or-not, all-at}
 use Rattle.words.proofs.Lists.{blocks-ext, window-add, length-window}
+use Rattle.words.proofs.Words.{put-in, put-same}
 use Rattle.clock.specs.Clock.{Clock, join, present}
 use Rattle.clock.proofs.Order.{absent}
 use Rattle.sizes.specs.declared.Counts.{Counts}
@@ -29,6 +30,7 @@ use Rattle.model.specs.Form.{zeroRows, versionFormed}
 use Rattle.model.proofs.Merges.{version-path, unheld-issue, Blank, merge-larger as blank-larger}
 use Rattle.layout.specs.Words.{clockWords, pastWords, versionWords}
 use Rattle.layout.specs.Reading.{readVersion, readPlace}
+use Rattle.layout.proofs.Codec.{Laws}
 use Rattle.layout.proofs.Parts.{FitVersion, clock-laws, version-laws}
 use Rattle.layout.proofs.Fit.{past-out}
 use Rattle.model.proofs.Formed.{VersionFormed}
@@ -60,6 +62,28 @@ put-table l at (suc n) f =
     ap (λ (m : List ℕ). set m (at + n) (f n)) (put-table l at n f)
     ∙ ap (λ (k : ℕ). sets (sets l at (table n f)) (at + k) (f n ∷ [])) (sym (length-table n f))
     ∙ sym (sets-append (table n f) (f n ∷ []) l at)
+
+table-window : (l : List ℕ) (at n : ℕ) → table n (λ i. getD l (at + i) 0) ≡ window l at n
+unfolding table window
+table-window l at zero = refl
+table-window l at (suc n) =
+    ap (λ (t : List ℕ). t ++ (getD l (at + n) 0 ∷ [])) (table-window l at n)
+    ∙ sym (window-add l at n 1) ∙ ap (window l at) (add-one n)
+
+-- Words of another list.
+pub put-window : (l m : List ℕ) (at b n : ℕ)
+    → put l at n (λ i. getD m (b + i) 0) ≡ sets l at (window m b n)
+put-window l m at b n =
+    put-table l at n (λ i. getD m (b + i) 0) ∙ ap (sets l at) (table-window m b n)
+
+-- Words that a loop stores over a part are those of the part that is read there after it.
+pub put-part : {A : Type 0} {v : ℕ} {words : A → List ℕ} {read : List ℕ → ℕ → A} {Fit : A → Type 0}
+    (L : Laws v words read Fit) (l : List ℕ) (at : ℕ) (f : ℕ → ℕ) → at + v ≤ length l
+    → put l at v f ≡ sets l at (words (read (put l at v f) at))
+put-part {A} {v} {words} {read} {Fit} L l at f h =
+    let m = put l at v f in
+    put-same l at v f (λ i. getD m (at + i) 0) (λ i k. sym (put-in l at v f i k h))
+    ∙ put-window l m at at v ∙ ap (sets l at) (sym (L .round m at))
 
 -- ---- the larger word at each place of two lists of one length
 

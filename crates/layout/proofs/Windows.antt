@@ -1,5 +1,6 @@
 -- A part written at any index of a buffer: read back there, and unchanged beside.
--- window-..: words after a store. part-..: any kind of part with laws.
+-- window-..: words after a store. part-..: any kind of part with laws. part-over: stored twice.
+-- part-fold: the turns of a loop on a part are turns on what it stands for.
 -- Assumes nothing.
 use mathlib.Core.Path.{_≡_, refl, sym, ap, ap₂, _∙_}
 use mathlib.Core.Logic.{_⊎_, inl, inr, ⊎-elim}
@@ -10,9 +11,11 @@ use native.Mathlib.Numerals.{add-one}
 use native.Mathlib.Omega.{arith}
 use lib.ListN.{length, getD, take, drop, set, length-append}
 use lib.Seq.{sets, sets-eq, getD-set-other, getD-append-add, set-getD, length-take-le}
+use Rattle.words.specs.Numbers.{foldBelow}
 use Rattle.words.specs.Lists.{window}
+use Rattle.words.proofs.Numbers.{fold-keeps}
 use Rattle.words.proofs.Lists.{window-front}
-use Rattle.words.proofs.Stores.{sets-left, sets-behind}
+use Rattle.words.proofs.Stores.{sets-left, sets-behind, sets-all}
 use Rattle.layout.proofs.Codec.{Laws}
 
 -- ---- windows of a buffer that was stored to
@@ -98,3 +101,34 @@ module _ {A : Type 0} {v : ℕ} {words : A → List ℕ} {read : List ℕ → �
       (ap (λ (m : ℕ). sets (front ++ words a ++ rest) (m + i) x) (sym k)
       ∙ sets-left x (front ++ words a) rest (length front + i) (rw length-append (omega arith))
       ∙ ap (λ (m : List ℕ). m ++ rest) (sets-behind front (words a) x i (omega arith)))
+
+-- ---- loops that change one part
+
+-- Turn k stores G k of the buffer over the part, and that is g k of the part.
+module _ {A : Type 0} {v : ℕ} {words : A → List ℕ} {read : List ℕ → ℕ → A} {Fit : A → Type 0}
+    (L : Laws v words read Fit) (l : List ℕ) (at : ℕ) (h : at + v ≤ length l) where
+  pub part-over : (a b : A) → sets (sets l at (words a)) at (words b) ≡ sets l at (words b)
+  part-over a b =
+      let long = L .long b in
+      let same : length (words b) ≡ length (words a) = long ∙ sym (L .long a) in
+      ap (λ (j : ℕ). sets (sets l at (words a)) j (words b)) (sym (add-zero at))
+      ∙ part-twice L l at 0 (words b) a b h (omega arith) (sets-all (words a) (words b) same)
+
+  module _ (N : ℕ) (G : ℕ → List ℕ → A) (g : ℕ → A → A)
+      (f : (k : ℕ) (a : A) → k < N → Fit a → G k (sets l at (words a)) ≡ g k a)
+      (keep : (k : ℕ) (a : A) → k < N → Fit a → Fit (g k a)) where
+    turn-fits : (n : ℕ) → n ≤ N → Fit (foldBelow n g (read l at))
+    turn-fits n i =
+        fold-keeps Fit n g (λ k a j F. keep k a (omega arith) F) (read l at) (L .fits l at)
+
+    pub part-fold : (n : ℕ) → n ≤ N
+        → foldBelow n (λ k m. sets m at (words (G k m))) l
+        ≡ sets l at (words (foldBelow n g (read l at)))
+    unfolding foldBelow
+    part-fold zero i = sym (part-again L l at)
+    part-fold (suc n) i =
+        let a = foldBelow n g (read l at) in
+        ap (λ (m : List ℕ). sets m at (words (G n m))) (part-fold n (omega arith))
+        ∙ ap (λ (b : A). sets (sets l at (words a)) at (words b))
+        (f n a i (turn-fits n (omega arith)))
+        ∙ part-over a (g n a)

@@ -62,6 +62,17 @@ mask-ext-below n a b ha hb f =
     mask-ext a b (λ j. ⊎-elim (λ l. f j l)
     (λ g. test-high a n j ha g ∙ sym (test-high b n j hb g)) (below-or-not j n))
 
+-- A mask of items below n is the mask of a set with the same items.
+pub mask-is : (n m : ℕ) (p : Items) → m < 2 ^ n → ((j : ℕ) → j < n → testBit m j ≡ p j)
+    → m ≡ maskBelow n p
+mask-is n m p h f =
+    mask-ext-below n m (maskBelow n p) h (mask-lt n p n (omega arith))
+    (λ j l. f j l ∙ sym (test-mask n p j l))
+
+-- An item of a mask that is known by its set.
+pub item-of : (n m : ℕ) (p : Items) → m ≡ maskBelow n p → (j : ℕ) → j < n → testBit m j ≡ p j
+item-of n m p e j l = ap (λ (a : ℕ). testBit a j) e ∙ test-mask n p j l
+
 -- A mask is the mask of its items.
 pub mask-of : (n m : ℕ) → m < 2 ^ n → maskBelow n (testBit m) ≡ m
 mask-of n m h =

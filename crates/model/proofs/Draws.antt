@@ -1,5 +1,6 @@
 -- Laws of the sets T, E and C and of the places that they leave, for every algebra.
 -- lacking-iff, draws-iff: the parts of these tests. drawSet-..: what is in T and C, and why.
+-- drawn-same: their masks.
 -- fetchSet-.., evictSet-.., pullSet-..: T, E and C. fetched-, evicted-, pulled- with in: at a
 -- member of the set; with out: at another key; with cases: at either.
 -- Assumes nothing.
@@ -10,8 +11,10 @@ use Prim.Native.Nat.{ℕ, _<_}
 use Rattle.words.specs.Tests.{Items, Within}
 use Rattle.words.proofs.Bools.{test, clash, and-intro, and-left, and-right, not-intro, not-elim}
 use Rattle.words.proofs.Tests.{any-none}
+use Rattle.masks.specs.Mask.{maskBelow}
+use Rattle.masks.proofs.Sets.{mask-same}
 use Rattle.reach.specs.Closure.{Reach}
-use Rattle.reach.proofs.Closures.{closure-start, closure-closed, closure-reached, closure-least}
+use Rattle.reach.proofs.Closures.{closure-start, closure-closed, closure-reached, closure-least, closure-same}
 use Rattle.model.specs.Algebra.{Algebra, Place, everything, lacking}
 use Rattle.model.specs.Sets.{draws, drawSet, fetchSet, fetched, unfetchable, evictSet, evicted, pullSet, pulled}
 
@@ -82,6 +85,16 @@ module _ {A : Type 0} (alg : Algebra A) (K : ℕ) where
       drawSet-held f =
           closure-least K (draws alg K scope target source) start (λ d. alg .held (source d)) f
           (λ t d _ _ _ e. draws-iff t d .0 e .3)
+
+  -- The mask of one by what is below K.
+  pub drawn-same : (scope : Items) (target p q : Place A) (a b : Items)
+      → ((k : ℕ) → k < K → p k ≡ q k) → ((k : ℕ) → k < K → a k ≡ b k)
+      → maskBelow K (drawSet alg K scope target p a) ≡ maskBelow K (drawSet alg K scope target q b)
+  unfolding drawSet draws
+  drawn-same scope target p q a b f g =
+      mask-same K (drawSet alg K scope target p a) (drawSet alg K scope target q b)
+      (closure-same K (draws alg K scope target p) (draws alg K scope target q) a b
+      (λ t d i j. rw (f t i, f d j)) g)
 
   -- ---- T
 

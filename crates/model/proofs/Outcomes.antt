@@ -1,16 +1,17 @@
 -- Laws of outcomes: the rows of the refusal table, the table of states, and a call refused or not.
--- no-cause, no-lack: a row that is passed. allowed-used: the run isn't free. free-state: it is.
+-- no-cause, no-lack: a row that is passed. run-rest: the rows of a call on a run.
+-- allowed-used: the run isn't free. free-state: it is.
 -- unless-..: refused for a cause, or what the call does. nextStore: the store after a call.
 -- Assumes nothing.
 use mathlib.Core.Path.{_≡_, refl}
-use mathlib.Core.Bool.{Bool, true, false, not, So, false≢true}
+use mathlib.Core.Bool.{Bool, true, false, not, So, false≢true, cond}
 use mathlib.Core.Logic.{_≢_}
 use Prim.Native.Nat.{ℕ, zero, suc, _≤_, _<_}
 use native.Mathlib.Omega.{arith}
-use lib.Dec.{eqb}
+use lib.Dec.{eqb, leb}
 use Rattle.words.proofs.Bools.{test, clash, eqb-eq, eqb-ne, ne-eqb}
 use Rattle.model.specs.Store.{Store}
-use Rattle.model.specs.Outcome.{Outcome, refused, broken, done, refuse, unless, allowed, openRow, freeState}
+use Rattle.model.specs.Outcome.{Outcome, refused, broken, done, refuse, unless, allowed, openRow, freeState, runCause}
 
 -- A row of the refusal table that is passed: its cause doesn't hold, and the rows below are left.
 pub no-cause : (b : Bool) (n rest : ℕ) → 0 < n → refuse b n rest ≡ 0 → (b ≡ false) × (rest ≡ 0)
@@ -36,6 +37,19 @@ free-state zero h p = refl
 free-state (suc zero) h p = absurd (false≢true p)
 free-state (suc (suc zero)) h p = absurd (false≢true p)
 free-state (suc (suc (suc n))) h p = absurd (omega arith)
+
+-- The rows that the calls on a run share: the first of them that holds, or where neither does the
+-- rows that are left.
+pub run-rest : (s : Store) (call r rest : ℕ) → let n = runCause s call r 0 in
+    runCause s call r rest ≡ cond (eqb n 0) rest n
+unfolding runCause refuse
+run-rest s call r rest = rows (leb (s .counts .runs) r) (not (allowed call (s .run r .state)))
+  where
+    rows : (a b : Bool) → let n = refuse a 3 (refuse b 4 0) in
+        refuse a 3 (refuse b 4 rest) ≡ cond (eqb n 0) rest n
+    rows true b = refl
+    rows false true = refl
+    rows false false = refl
 
 -- ---- a call that may be refused
 

@@ -1,25 +1,26 @@
--- A step that is not refused.
--- Accepted: what it has passed. accepted-used: its run isn't free.
+-- A step that is not refused, and the cause of one that is.
+-- Accepted: what it has passed. accepted-used: its run isn't free. job-limit: its jobs.
+-- step-high, step-below, step-free: the cause by the run's range and jobCause.
 -- step-planned, step-cached: where the reads of such a step are. stepSnapshot-..: the snapshot
 -- after it. steppedRun: its run.
 -- Assumes nothing.
-use mathlib.Core.Path.{_≡_, refl}
-use mathlib.Core.Bool.{false, So}
+use mathlib.Core.Path.{_≡_, refl, sym, _∙_}
+use mathlib.Core.Bool.{Bool, true, false, cond, not, So}
 use mathlib.Core.Logic.{inl, inr}
 use Prim.Native.Nat.{ℕ, _≤_, _<_}
 use native.Mathlib.Omega.{arith}
 use lib.Bits.{bitOr}
-use lib.Dec.{leb}
+use lib.Dec.{eqb, leb}
 use Rattle.words.specs.Tests.{Within}
-use Rattle.words.proofs.Bools.{test, leb-gt, ne-eqb}
+use Rattle.words.proofs.Bools.{test, le-leb, gt-leb, leb-gt, eqb-eq, ne-eqb}
 use Rattle.words.proofs.Tests.{any-intro}
 use Rattle.masks.specs.Mask.{withBit}
 use Rattle.model.specs.Algebra.{causalCut, overlappingCut, lacking}
 use Rattle.model.specs.Version.{held, versions}
 use Rattle.model.specs.Sets.{unfetchable}
 use Rattle.model.specs.Store.{Run, Store, planned, withJobDone}
-use Rattle.model.specs.Outcome.{allowed, stepRow, freeState}
-use Rattle.model.specs.Step.{readStart, stepSite, stepReads, stepStart, stepCache, stepPlan, stepPull, stepSnapshot, jobLimit, notReady, stepCause}
+use Rattle.model.specs.Outcome.{refuse, allowed, stepRow, freeState}
+use Rattle.model.specs.Step.{readStart, stepSite, stepReads, stepStart, stepCache, stepPlan, stepPull, stepSnapshot, jobLimit, notReady, jobCause, stepCause}
 use Rattle.model.proofs.Outcomes.{no-cause, no-lack, allowed-used}
 use Rattle.model.proofs.Draws.{lacking-iff, fetched-held, pulled-out}
 use Rattle.model.proofs.Pulls.{pulled-held, pulled-keeps, pulled-planned, pulled-overlap}
@@ -29,11 +30,11 @@ pub record Accepted (s : Store) (r j : ℕ) : Type 0 where
   pub run-in : r < s .counts .runs
   pub open-run : So (allowed stepRow (s .run r .state))
   pub job-in : j < s .run r .jobs
-  pub ready : notReady s r j ≡ false
+  pub ready : notReady (s .run r .done) (s .run r .job j .upstream) j ≡ false
   pub fetchable : unfetchable (versions (s .counts .writers)) (s .counts .keys) (s .master)
       (stepStart s r j) ≡ false
 
-step-used : (n : ℕ) → So (allowed stepRow n) → 1 ≤ n
+pub step-used : (n : ℕ) → So (allowed stepRow n) → 1 ≤ n
 unfolding allowed
 step-used n p = allowed-used stepRow n refl p
 
@@ -41,28 +42,71 @@ pub accepted-used : {s : Store} {r j : ℕ} → Accepted s r j → 1 ≤ s .run 
 accepted-used {s} {r} a = step-used (s .run r .state) (a .open-run)
 
 -- In a run that isn't free its jobs are the limit.
-job-limit : (s : Store) (r j : ℕ) → So (allowed stepRow (s .run r .state))
-    → jobLimit s r j ≡ s .run r .jobs
+pub job-limit : (state jobs : ℕ) → So (allowed stepRow state) → jobLimit state jobs ≡ jobs
 unfolding jobLimit
-job-limit s r j p =
-    let l = step-used (s .run r .state) p in
-    rw (ne-eqb (s .run r .state) freeState (λ e. absurd (omega arith)))
+job-limit state jobs p =
+    let l = step-used state p in rw (ne-eqb state freeState (λ e. absurd (omega arith)))
 
 pub accepted : (s : Store) (r j : ℕ) → stepCause s r j ≡ 0 → Accepted s r j
-unfolding stepCause
+unfolding stepCause jobCause
 accepted s r j e =
+    let x = s .run r in
+    let limit = jobLimit (x .state) (x .jobs) in
     let a = no-cause (leb (s .counts .runs) r) 3 _ (omega arith) e in
-    let b = no-cause (leb (jobLimit s r j) j) 3 _ (omega arith) (a .1) in
+    let b = no-cause (leb limit j) 3 _ (omega arith) (a .1) in
     let c = no-lack (allowed stepRow (s .run r .state)) 4 _ (omega arith) (b .1) in
-    let d = no-cause (notReady s r j) 6 _ (omega arith) (c .1) in
+    let d = no-cause (notReady (x .done) (x .job j .upstream) j) 6 _ (omega arith) (c .1) in
     let f = no-cause _ 7 0 (omega arith) (d .1) in
     record {
       run-in = leb-gt (s .counts .runs) r (a .0);
       open-run = c .0;
-      job-in = rw (job-limit s r j (c .0)) at (leb-gt (jobLimit s r j) j (b .0));
+      job-in = rw (job-limit (x .state) (x .jobs) (c .0)) at (leb-gt limit j (b .0));
       ready = d .0;
       fetchable = f .0;
     }
+
+-- ---- the cause row by row
+
+-- The rows above others: the first of them that holds, or where none does the others.
+rows : (a b c : Bool) (rest : ℕ) → let n = refuse a 3 (refuse b 4 (refuse c 6 0)) in
+    refuse a 3 (refuse b 4 (refuse c 6 rest)) ≡ cond (eqb n 0) rest n
+unfolding refuse
+rows true b c rest = refl
+rows false true c rest = refl
+rows false false true rest = refl
+rows false false false rest = refl
+
+module _ (s : Store) (r j : ℕ) where
+  pub step-high : s .counts .runs ≤ r → stepCause s r j ≡ 3
+  unfolding stepCause refuse
+  step-high h = rw (le-leb _ _ h)
+
+  pub step-below : r < s .counts .runs → let n = jobCause (s .run r) j 0 in
+      stepCause s r j
+      ≡ cond (eqb n 0) (refuse (unfetchable (versions (s .counts .writers)) (s .counts .keys)
+      (s .master) (stepStart s r j)) 7 0) n
+  unfolding stepCause jobCause refuse
+  step-below h =
+      let a = s .run r in
+      rw (gt-leb (s .counts .runs) r h)
+      (rows (leb (jobLimit (a .state) (a .jobs)) j) (not (allowed stepRow (a .state)))
+      (notReady (a .done) (a .job j .upstream) j) _)
+
+  -- Where there is no cause at all.
+  pub step-free : stepCause s r j ≡ 0
+      → (r < s .counts .runs) × (jobCause (s .run r) j 0 ≡ 0)
+  unfolding stepCause
+  step-free e =
+      let out = no-cause (leb (s .counts .runs) r) 3 _ (omega arith) e .0 in
+      let h = leb-gt (s .counts .runs) r out in
+      (h, none (jobCause (s .run r) j 0) _ (sym (step-below h) ∙ e))
+    where
+      none : (n m : ℕ) → cond (eqb n 0) m n ≡ 0 → n ≡ 0
+      none n m f =
+          test (eqb n 0) (λ y. eqb-eq n 0 y) (λ y.
+          let g : n ≡ 0 = rw y at f in g)
+
+-- ---- what the job reads
 
 -- What a job reads is in the plan,
 pub step-planned : (s : Store) (r j k : ℕ) → j < s .run r .jobs → So (stepReads s r j k)

@@ -3,7 +3,7 @@
 -- taken for both.
 -- Algebra, Place; needsMet, causalCut, overlappingCut ("keyset-overlapping cut").
 -- Assumes nothing.
-use mathlib.Core.Bool.{Bool, true, false, not, _&&_, _||_}
+use mathlib.Core.Bool.{Bool, true, not, _&&_, _||_}
 use Prim.Native.Nat.{ℕ}
 use Rattle.words.specs.Tests.{Items, allBelow}
 

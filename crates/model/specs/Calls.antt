@@ -1,7 +1,7 @@
 -- The calls of document 01 with their arguments, and the rule of each on a store.
 -- New alone needs no store: crate layout has it, and the calls on a buffer.
 -- Assumes nothing.
-use mathlib.Core.List.{List, [], _∷_}
+use mathlib.Core.List.{List}
 use Prim.Native.Nat.{ℕ}
 use Rattle.model.specs.Store.{Store}
 use Rattle.model.specs.Outcome.{Outcome}

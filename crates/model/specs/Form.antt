@@ -2,7 +2,7 @@
 -- versionFormed, placeFormed, validJob, runFormed, wellFormed.
 -- Header, offsets and length are the buffer's: crate layout, `inForm`.
 -- Assumes nothing.
-use mathlib.Core.Bool.{Bool, cond, not, _&&_, _||_}
+use mathlib.Core.Bool.{Bool, cond, not, _&&_}
 use Prim.Native.Nat.{ℕ, _^_}
 use lib.Dec.{eqb, leb, ltb}
 use Rattle.words.specs.Tests.{allBelow}

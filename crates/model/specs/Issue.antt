@@ -1,7 +1,9 @@
 -- Issue: a finished run's keys are saved by a writer.
--- takenIn (the writer's past with the reads' pasts), newPast (all rows of S set), newVersion.
+-- raiseCause: causes 9 and 10. takenIn (a past with the reads' pasts), rowsSet (all rows of S
+-- set), newPast (both), newVersion. issuedMaster, issuedWriter, savedStore, issuedStore,
+-- issuedNumber: what it leaves, and answers.
 -- Assumes nothing.
-use mathlib.Core.Bool.{Bool, cond, not, _&&_}
+use mathlib.Core.Bool.{cond, not, _&&_}
 use mathlib.Core.List.{[], _∷_}
 use Prim.Native.Nat.{ℕ, _+_, _^_}
 use lib.Dec.{eqb, leb}
@@ -11,60 +13,77 @@ use Rattle.masks.specs.Mask.{testBit}
 use Rattle.clock.specs.Clock.{Clock, join}
 use Rattle.model.specs.Algebra.{Place}
 use Rattle.model.specs.Version.{Version, merge}
-use Rattle.model.specs.Store.{Run, Store, Writer, freeRun, withLast, withMaster, withRun, withWriter}
-use Rattle.model.specs.Outcome.{Outcome, done, refuse, unless, allowed, issueRow}
+use Rattle.model.specs.Store.{Store, Writer, freeRun, withLast, withMaster, withRun, withWriter}
+use Rattle.model.specs.Outcome.{Outcome, done, refuse, unless, issueRow, runCause}
 
 -- The largest word.
 abbrev pub maxWord : ℕ
 maxWord = 4294967295
 
+-- "when the last issue number is 4,294,967,295" 9, "when the writer's count is" 10.
+unfoldable pub raiseCause : Store → ℕ → ℕ
+raiseCause s w =
+    refuse (eqb (s .last) maxWord) 9
+    (refuse (eqb (s .writer w .count) maxWord) 10
+    0)
+
+-- 9 and 10: "Issue with S not empty".
 unfoldable pub issueCause : Store → ℕ → ℕ → ℕ → ℕ
 issueCause s r w S =
     let z = s .counts in
     let a = s .run r in
-    refuse (leb (z .runs) r) 3
-    (refuse (leb (z .writers) w) 3
+    refuse (leb (z .writers) w) 3
     (refuse (leb (2 ^ z .keys) S) 3
-    (refuse (not (allowed issueRow (a .state))) 4
+    (runCause s issueRow r
     (refuse (not (allBelow (a .jobs) (testBit (a .done)))) 6
-    (refuse (not (eqb S 0) && eqb (s .last) maxWord) 9
-    (refuse (not (eqb S 0) && eqb (s .writer w .count) maxWord) 10
-    0))))))
+    (cond (eqb S 0) 0 (raiseCause s w)))))
 
 -- "the writer's past takes in (larger count at each place) the pasts of the versions that the run
--- read"
-unfoldable pub takenIn : ℕ → (ℕ → Clock) → Run → ℕ → Clock
-takenIn K past a d =
-    foldBelow K (λ k c. cond (testBit (a .read) k) (join c (a .snapshot k .past d)) c) (past d)
+-- read", by a read mask and a card.
+unfoldable pub takenIn : ℕ → ℕ → Place Version → (ℕ → Clock) → ℕ → Clock
+takenIn K read snapshot past d =
+    foldBelow K (λ k c. cond (testBit read k) (join c (snapshot k .past d)) c) (past d)
 
--- "for each k in S its row k gets the new count at this writer"
+-- "for each k in S its row k gets the new count at this writer": the count n, at writer w.
+unfoldable pub rowsSet : ℕ → ℕ → ℕ → (ℕ → Clock) → ℕ → Clock
+rowsSet S w n past d u = cond (testBit S d && eqb u w) n (past d u)
+
+-- The writer's past after both.
 unfoldable pub newPast : Store → ℕ → ℕ → ℕ → ℕ → Clock
-newPast s r w S d u =
-    cond (testBit S d && eqb u w) (s .writer w .count + 1)
-    (takenIn (s .counts .keys) (s .writer w .past) (s .run r) d u)
+newPast s r w S =
+    let a = s .run r in
+    let x = s .writer w in
+    rowsSet S w (x .count + 1) (takenIn (s .counts .keys) (a .read) (a .snapshot) (x .past))
 
--- "When all these rows are set": "the version of that past and issue number".
-unfoldable pub newVersion : Store → ℕ → ℕ → ℕ → Version
-newVersion s r w S = record { issue = s .last + 1; past = newPast s r w S }
+-- "the version of that past and issue number"
+unfoldable pub newVersion : ℕ → (ℕ → Clock) → Version
+newVersion n past = record { issue = n; past = past }
 
 -- "the master's k, for each k in S, is merged with the version"
-unfoldable pub issuedMaster : Store → ℕ → ℕ → ℕ → Place Version
-issuedMaster s r w S k =
-    cond (testBit S k) (merge (s .master k) (newVersion s r w S)) (s .master k)
+unfoldable pub issuedMaster : ℕ → Version → Place Version → Place Version
+issuedMaster S new master k = cond (testBit S k) (merge (master k) new) (master k)
 
 -- The writer after it.
 unfoldable pub issuedWriter : Store → ℕ → ℕ → ℕ → Writer
 issuedWriter s r w S = record { count = s .writer w .count + 1; past = newPast s r w S }
 
--- "The run is freed. Answers the issue number."
-unfoldable pub issueSaved : Store → ℕ → ℕ → ℕ → Outcome
-issueSaved s r w S =
-    let saved = withWriter (withLast s (s .last + 1)) w (issuedWriter s r w S) in
-    done ((s .last + 1) ∷ []) (withRun (withMaster saved (issuedMaster s r w S)) r freeRun)
+-- "the issue number and the writer's count rise by 1"; "When all these rows are set", the master.
+unfoldable pub savedStore : Store → ℕ → ℕ → ℕ → Store
+savedStore s r w S =
+    let n = s .last + 1 in
+    withMaster (withWriter (withLast s n) w (issuedWriter s r w S))
+    (issuedMaster S (newVersion n (newPast s r w S)) (s .master))
 
 -- "with S empty only the run is freed, and 0 answered"
+unfoldable pub issuedStore : Store → ℕ → ℕ → ℕ → Store
+issuedStore s r w S = cond (eqb S 0) s (savedStore s r w S)
+
+unfoldable pub issuedNumber : Store → ℕ → ℕ
+issuedNumber s S = cond (eqb S 0) 0 (s .last + 1)
+
+-- "The run is freed. Answers the issue number."
 unfoldable pub issueDone : Store → ℕ → ℕ → ℕ → Outcome
-issueDone s r w S = cond (eqb S 0) (done (0 ∷ []) (withRun s r freeRun)) (issueSaved s r w S)
+issueDone s r w S = done (issuedNumber s S ∷ []) (withRun (issuedStore s r w S) r freeRun)
 
 unfoldable pub issueRule : ℕ → ℕ → ℕ → Store → Outcome
 issueRule r w S s = unless (issueCause s r w S) (issueDone s r w S)

@@ -1,10 +1,10 @@
 -- What a call comes to, the refusal table as a chain of causes, and the table of states.
--- Outcome, answer; refuse, unless; allowed: "Which state a call needs".
+-- Outcome, answer; refuse, unless; allowed: "Which state a call needs"; runCause: by both.
 -- Assumes nothing.
-use mathlib.Core.Bool.{Bool, true, false, cond}
+use mathlib.Core.Bool.{Bool, true, false, cond, not}
 use mathlib.Core.List.{List, [], _∷_}
 use Prim.Native.Nat.{ℕ, _+_, _*_}
-use lib.Dec.{eqb}
+use lib.Dec.{eqb, leb}
 use lib.ListN.{getD}
 use Rattle.model.specs.Store.{Store}
 
@@ -68,3 +68,11 @@ stateTable =
 
 unfoldable pub allowed : ℕ → ℕ → Bool
 allowed call state = eqb (getD stateTable (call * 3 + state) 0) 1
+
+-- The rows of the refusal table that the calls on a run share, above the rows that are left:
+-- "run .. out of range", "Run not in the state needed".
+unfoldable pub runCause : Store → ℕ → ℕ → ℕ → ℕ
+runCause s call r rest =
+    refuse (leb (s .counts .runs) r) 3
+    (refuse (not (allowed call (s .run r .state))) 4
+    rest)

@@ -4,17 +4,16 @@
 use mathlib.Core.Bool.{Bool, cond, not, _&&_}
 use mathlib.Core.List.{[], _∷_}
 use Prim.Native.Nat.{ℕ}
-use lib.Dec.{eqb, leb}
+use lib.Dec.{eqb}
 use Rattle.words.specs.Tests.{Items, anyBelow}
 use Rattle.words.specs.Numbers.{foldBelow}
 use Rattle.words.specs.Lists.{putAt}
 use Rattle.masks.specs.Mask.{testBit, maskBelow}
-use Rattle.sizes.specs.declared.Counts.{Counts}
-use Rattle.model.specs.Algebra.{Algebra, Place, empty, lacking}
+use Rattle.model.specs.Algebra.{Algebra, Place, lacking}
 use Rattle.model.specs.Version.{Version, held, versions}
 use Rattle.model.specs.Sets.{fetched, unfetchable}
-use Rattle.model.specs.Store.{Job, Run, Store, Site, planned, withRun, withSites, withSnapshot}
-use Rattle.model.specs.Outcome.{Outcome, done, refuse, unless, allowed, prepareRow}
+use Rattle.model.specs.Store.{Job, Store, planned, withRun, withSites, withSnapshot}
+use Rattle.model.specs.Outcome.{Outcome, done, refuse, unless, prepareRow, runCause}
 
 module _ {A : Type 0} (alg : Algebra A) (K : ℕ) (master : Place A) (job : ℕ → Job) where
   -- What job j has to fetch: "its reads that its shelf lacks".
@@ -53,11 +52,10 @@ prepareCause s r =
     let z = s .counts in
     let a = s .run r in
     let alg = versions (z .writers) in
-    refuse (leb (z .runs) r) 3
-    (refuse (not (allowed prepareRow (a .state))) 4
+    runCause s prepareRow r
     (refuse (not (eqb (a .done) 0)) 6
     (refuse (unpreparable alg (z .keys) (s .master) (a .job) (a .jobs) (siteCaches s)) 7
-    0)))
+    0))
 
 -- The caches after the fetches of run r's jobs.
 unfoldable pub prepareCaches : Store → ℕ → ℕ → Place Version

@@ -3,7 +3,7 @@
 use mathlib.Core.Bool.{Bool, not, _&&_}
 use mathlib.Core.List.{List, [], _∷_}
 use Prim.Native.Nat.{ℕ, _+_, _*_, _/_}
-use lib.Dec.{eqb, leb}
+use lib.Dec.{eqb}
 use lib.ListN.{getD, length}
 use Rattle.words.specs.Tests.{allBelow}
 use Rattle.words.specs.Lists.{upto}
@@ -11,7 +11,7 @@ use Rattle.sizes.specs.Bounds.{between, maxJobs, jobSize, readsOffset, upstream
 use Rattle.sizes.specs.declared.Counts.{Counts}
 use Rattle.model.specs.Store.{Job, Run, Store, noJob, freeRun, emptyPlace, withRun}
 use Rattle.model.specs.Form.{validJob}
-use Rattle.model.specs.Outcome.{Outcome, done, refuse, unless, allowed, openRow, dropRow, openState}
+use Rattle.model.specs.Outcome.{Outcome, done, refuse, unless, openRow, dropRow, openState, runCause}
 
 -- ---- open: "a list of jobs, three words each"
 
@@ -38,10 +38,9 @@ listValid z l =
 
 unfoldable pub openCause : Store → ℕ → List ℕ → ℕ
 openCause s r l =
-    refuse (leb (s .counts .runs) r) 3
-    (refuse (not (allowed openRow (s .run r .state))) 4
+    runCause s openRow r
     (refuse (not (listValid (s .counts) l)) 5
-    0))
+    0)
 
 unfoldable pub openedRun : List ℕ → Run
 openedRun l = record {
@@ -63,10 +62,7 @@ openRule r l s = unless (openCause s r l) (openDone s r l)
 -- ---- drop: "frees it. Answers 0. .. a freed run is all zero"
 
 unfoldable pub dropCause : Store → ℕ → ℕ
-dropCause s r =
-    refuse (leb (s .counts .runs) r) 3
-    (refuse (not (allowed dropRow (s .run r .state))) 4
-    0)
+dropCause s r = runCause s dropRow r 0
 
 unfoldable pub dropDone : Store → ℕ → Outcome
 dropDone s r = done (0 ∷ []) (withRun s r freeRun)

@@ -3,7 +3,7 @@
 -- Assumes nothing.
 use mathlib.Core.Bool.{Bool, cond, not, _&&_}
 use Prim.Native.Nat.{ℕ}
-use Rattle.words.specs.Tests.{Items, only, anyBelow}
+use Rattle.words.specs.Tests.{Items, anyBelow}
 use Rattle.reach.specs.Closure.{closure}
 use Rattle.model.specs.Algebra.{Algebra, Place, everything, lacking}
 

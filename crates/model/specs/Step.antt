@@ -1,6 +1,6 @@
 -- Step: a job reads its keys, from the snapshot ("card"), its site's cache or the master.
 -- stepReads (R), stepStart (what is fetched), stepCache (the cache after the fetch), stepPull
--- (C), stepMoved.
+-- (C), stepMoved. jobLimit, notReady, jobCause: the causes that the run decides alone.
 -- Assumes nothing.
 use mathlib.Core.Bool.{Bool, cond, not, _&&_, _||_}
 use mathlib.Core.List.{[], _∷_}
@@ -19,6 +19,23 @@ use Rattle.model.specs.Outcome.{Outcome, broken, done, refuse, unless, a
 -- "reads R that the card lacks and the shelf lacks are fetched together"
 unfoldable pub readStart : {A : Type 0} → Algebra A → ℕ → Place A → Place A → Items → Items
 readStart alg K snapshot cache reads = lacking alg K cache (lacking alg K snapshot reads)
+
+-- "a job not below its run's number of jobs (below 8 if the run is free)"
+unfoldable pub jobLimit : ℕ → ℕ → ℕ
+jobLimit state jobs = cond (eqb state freeState) maxJobs jobs
+
+-- "job done, or an upstream job not done", by a done mask and the job's upstream mask.
+unfoldable pub notReady : ℕ → ℕ → ℕ → Bool
+notReady finished upstream j =
+    testBit finished j || anyBelow maxJobs (λ i. testBit upstream i && not (testBit finished i))
+
+-- The rows of the refusal table that the run decides alone, above the rows that are left.
+unfoldable pub jobCause : Run → ℕ → ℕ → ℕ
+jobCause a j rest =
+    refuse (leb (jobLimit (a .state) (a .jobs)) j) 3
+    (refuse (not (allowed stepRow (a .state))) 4
+    (refuse (notReady (a .done) (a .job j .upstream) j) 6
+    rest))
 
 module _ (s : Store) (r j : ℕ) where
   unfoldable pub stepSite : ℕ
@@ -63,26 +80,13 @@ module _ (s : Store) (r j : ℕ) where
   unfoldable pub stepMoved : Items
   stepMoved k = stepPull k && testBit (s .run r .read) k
 
-  -- "a job not below its run's number of jobs (below 8 if the run is free)"
-  unfoldable pub jobLimit : ℕ
-  jobLimit = cond (eqb (s .run r .state) freeState) maxJobs (s .run r .jobs)
-
-  -- "job done, or an upstream job not done"
-  unfoldable pub notReady : Bool
-  notReady =
-      testBit (s .run r .done) j
-      || anyBelow maxJobs (λ i.
-      testBit (s .run r .job j .upstream) i && not (testBit (s .run r .done) i))
-
   unfoldable pub stepCause : ℕ
   stepCause =
       let alg = versions (s .counts .writers) in
       refuse (leb (s .counts .runs) r) 3
-      (refuse (leb jobLimit j) 3
-      (refuse (not (allowed stepRow (s .run r .state))) 4
-      (refuse notReady 6
+      (jobCause (s .run r) j
       (refuse (unfetchable alg (s .counts .keys) (s .master) stepStart) 7
-      0))))
+      0))
 
   -- "its state becomes 2, nothing else changes (the shelf too is as before the fetch)"
   unfoldable pub stepBroken : Outcome

@@ -2,7 +2,7 @@
 -- Writer, Job, Run, Site (an office and its shelf), Store; planned ("plan's sheets"), doneReads;
 -- with..: one part changed.
 -- Assumes nothing.
-use mathlib.Core.Bool.{Bool, _&&_}
+use mathlib.Core.Bool.{_&&_}
 use Prim.Native.Nat.{ℕ}
 use Rattle.words.specs.Tests.{Items, anyBelow}
 use Rattle.words.specs.Lists.{putAt}

@@ -1,6 +1,6 @@
 -- Versions (document 01, "Clocks, versions, cuts").
--- Version, held, dependency ("need"), supersedes ("meets"), merge; versions: what the rules ask,
--- of versions.
+-- Version, held, dependency ("need"), supersedes ("meets"), joinPasts, merge; versions: what the
+-- rules ask, of versions.
 -- Assumes nothing.
 use mathlib.Core.Bool.{Bool, cond, not, _&&_}
 use Prim.Native.Nat.{ℕ, max}
@@ -32,9 +32,13 @@ dependency W k v d = not (eqb d k) && present W (v .past d)
 unfoldable pub supersedes : ℕ → ℕ → Version → Clock → Bool
 supersedes W d v need = held v && dominates W (v .past d) need
 
+-- "the larger count at each place of the past"
+abbrev pub joinPasts : (ℕ → Clock) → (ℕ → Clock) → ℕ → Clock
+joinPasts p q d = join (p d) (q d)
+
 -- "The larger count at each place of the past, the larger issue number."
 unfoldable pub larger : Version → Version → Version
-larger a b = record { issue = max (a .issue) (b .issue); past = λ d. join (a .past d) (b .past d) }
+larger a b = record { issue = max (a .issue) (b .issue); past = joinPasts (a .past) (b .past) }
 
 -- "Merge of two versions of one sheet: .. With one side not held, the other."
 unfoldable pub merge : Version → Version → Version

@@ -13,14 +13,13 @@ use Rattle.words.proofs.Bools.{ne-eqb}
 use Rattle.sizes.specs.declared.Counts.{Counts}
 use Rattle.model.specs.Version.{versions}
 use Rattle.model.specs.Store.{Store}
-use Rattle.model.specs.Outcome.{refuse, allowed, prepareRow}
+use Rattle.model.specs.Outcome.{refuse, allowed, prepareRow, runCause}
 use Rattle.model.specs.Prepare.{unpreparable, siteCaches, prepareCause}
-use Rattle.model.proofs.Outcomes.{no-cause, no-lack, allowed-used}
+use Rattle.model.proofs.Outcomes.{no-cause, no-lack, allowed-used, run-rest}
 use Rattle.layout.specs.Reading.{storeOf}
 use Rattle.form.specs.Parts.{FormWith}
 use Rattle.form.proofs.Known.{form-counts}
-use Rattle.status.specs.Status.{runCause}
-use Rattle.status.proofs.Known.{cause-below, first-two}
+use Rattle.status.proofs.Known.{cause-below}
 use Rattle.prepare.specs.Turns.{UsedRun}
 
 -- What is asked of the run's jobs.
@@ -35,16 +34,16 @@ jobsCause s r =
 
 prepare-cause : (s : Store) (r : ℕ)
     → prepareCause s r
-    ≡ cond (eqb (runCause s prepareRow r) 0) (jobsCause s r) (runCause s prepareRow r)
-unfolding prepareCause runCause jobsCause
-prepare-cause s r = first-two _ _ (jobsCause s r)
+    ≡ cond (eqb (runCause s prepareRow r 0) 0) (jobsCause s r) (runCause s prepareRow r 0)
+unfolding prepareCause jobsCause
+prepare-cause s r = run-rest s prepareRow r _
 
 -- n: what the code finds of the run.
-pub cause-run : (s : Store) (r n : ℕ) → n ≡ runCause s prepareRow r → n ≢ 0
+pub cause-run : (s : Store) (r n : ℕ) → n ≡ runCause s prepareRow r 0 → n ≢ 0
     → n ≡ prepareCause s r
 cause-run s r n e h = rw (prepare-cause s r, ← e, ne-eqb n 0 h)
 
-pub cause-done : (s : Store) (r : ℕ) → runCause s prepareRow r ≡ 0 → s .run r .done ≢ 0
+pub cause-done : (s : Store) (r : ℕ) → runCause s prepareRow r 0 ≡ 0 → s .run r .done ≢ 0
     → 6 ≡ prepareCause s r
 unfolding jobsCause refuse
 cause-done s r e h = rw (prepare-cause s r, e, ne-eqb (s .run r .done) 0 h)
@@ -52,7 +51,7 @@ cause-done s r e h = rw (prepare-cause s r, e, ne-eqb (s .run r .done) 0 h)
 -- b: what it finds of the keys to be fetched.
 pub cause-lacks : (l : List ℕ) (z : Counts) (r : ℕ) (b : Bool) → FormWith l z
     → let s = storeOf l in
-    runCause s prepareRow r ≡ 0 → s .run r .done ≡ 0
+    runCause s prepareRow r 0 ≡ 0 → s .run r .done ≡ 0
     → b ≡ unpreparable (versions (z .writers)) (z .keys) (s .master) (s .run r .job)
     (s .run r .jobs) (siteCaches s)
     → refuse b 7 0 ≡ prepareCause s r
@@ -64,7 +63,7 @@ cause-lacks l z r b H e d f =
     rw (prepare-cause s r, e, d, ← g)
 
 pub used-run : (l : List ℕ) (z : Counts) (r : ℕ) → FormWith l z
-    → runCause (storeOf l) prepareRow r ≡ 0 → UsedRun l z r
+    → runCause (storeOf l) prepareRow r 0 ≡ 0 → UsedRun l z r
 unfolding runCause allowed
 used-run l z r H e =
     let a = no-cause (leb (storeOf l .counts .runs) r) 3 _ (omega arith) e in
@@ -76,7 +75,7 @@ used-run l z r H e =
     }
 
 -- No cause at all.
-pub no-run-cause : (s : Store) (r : ℕ) → prepareCause s r ≡ 0 → runCause s prepareRow r ≡ 0
+pub no-run-cause : (s : Store) (r : ℕ) → prepareCause s r ≡ 0 → runCause s prepareRow r 0 ≡ 0
 unfolding prepareCause runCause refuse
 no-run-cause s r e =
     let a = no-cause (leb (s .counts .runs) r) 3 _ (omega arith) e in

@@ -13,20 +13,19 @@ use Rattle.words.proofs.Bools.{leb-gt, ne-eqb}
 use Rattle.sizes.specs.declared.Counts.{Counts}
 use Rattle.sizes.specs.Bounds.{runAt}
 use Rattle.model.specs.Store.{Store, freeRun}
-use Rattle.model.specs.Outcome.{openRow, answer, refuse, unless, allowed}
+use Rattle.model.specs.Outcome.{openRow, answer, refuse, unless, allowed, runCause}
 use Rattle.model.specs.Runs.{listedCount, listValid, openCause, openDone, openRule, openedRun}
 use Rattle.model.specs.Calls.{openRun, ruleOf}
 use Rattle.layout.specs.Reading.{storeOf, readRun}
 use Rattle.layout.specs.Buffer.{inForm}
 use Rattle.layout.specs.Calls.{leaves}
 use Rattle.layout.proofs.Parts.{run-laws}
-use Rattle.model.proofs.Outcomes.{no-cause, no-lack, free-state}
+use Rattle.model.proofs.Outcomes.{no-cause, no-lack, free-state, run-rest}
 use Rattle.layout.proofs.KeptOpen.{Listed, list-out}
 use Rattle.form.specs.Parts.{FormWith}
 use Rattle.form.proofs.Known.{form-counts, Ends, ends-refused, ends-done}
-use Rattle.status.specs.Status.{runCause}
 use Rattle.status.proofs.Freed.{free-is}
-use Rattle.status.proofs.Known.{area-ends, run-known, run-stored, first-two}
+use Rattle.status.proofs.Known.{area-ends, run-known, run-stored}
 use Rattle.runs.specs.Runs.{putJobs}
 use Rattle.runs.proofs.Started.{jobs-stored}
 
@@ -34,18 +33,18 @@ use Rattle.runs.proofs.Started.{jobs-stored}
 
 open-cause : (s : Store) (r : ℕ) (jobs : List ℕ)
     → openCause s r jobs
-    ≡ cond (eqb (runCause s openRow r) 0) (refuse (not (listValid (s .counts) jobs)) 5 0)
-    (runCause s openRow r)
-unfolding openCause runCause
-open-cause s r jobs = first-two _ _ (refuse (not (listValid (s .counts) jobs)) 5 0)
+    ≡ cond (eqb (runCause s openRow r 0) 0) (refuse (not (listValid (s .counts) jobs)) 5 0)
+    (runCause s openRow r 0)
+unfolding openCause
+open-cause s r jobs = run-rest s openRow r _
 
 -- n, b: what the code finds.
-pub cause-run : (s : Store) (r : ℕ) (jobs : List ℕ) (n : ℕ) → n ≡ runCause s openRow r → n ≢ 0
+pub cause-run : (s : Store) (r : ℕ) (jobs : List ℕ) (n : ℕ) → n ≡ runCause s openRow r 0 → n ≢ 0
     → n ≡ openCause s r jobs
 cause-run s r jobs n e h = rw (open-cause s r jobs, ← e, ne-eqb n 0 h)
 
 pub cause-list : (l : List ℕ) (z : Counts) (r : ℕ) (jobs : List ℕ) (b : Bool) → FormWith l z
-    → runCause (storeOf l) openRow r ≡ 0 → b ≡ listValid z jobs
+    → runCause (storeOf l) openRow r 0 ≡ 0 → b ≡ listValid z jobs
     → refuse (not b) 5 0 ≡ openCause (storeOf l) r jobs
 cause-list l z r jobs b H e f =
     rw (open-cause (storeOf l) r jobs, e, form-counts l z H, ← f)
@@ -57,7 +56,7 @@ pub record OpenReady (l : List ℕ) (z : Counts) (r : ℕ) (jobs : List ℕ) : T
 
 pub open-ready : (l : List ℕ) (z : Counts) (r : ℕ) (jobs : List ℕ) → FormWith l z
     → openCause (storeOf l) r jobs ≡ 0 → OpenReady l z r jobs
-unfolding openCause readRun
+unfolding openCause runCause readRun
 open-ready l z r jobs H e =
     let s = storeOf l in
     let c = form-counts l z H in

@@ -1,5 +1,5 @@
 -- Words that a loop stores one by one, as one store.
--- put-window: words of another list. put-zeros: zeros. put-list: the words of a list.
+-- put-zeros: zeros. put-list: the words of a list.
 -- sets-front: a list stored over zeros.
 -- Assumes nothing.
 use mathlib.Core.Path.{_≡_, refl, sym, ap, ap₂, _∙_, fun-ext}
@@ -12,13 +12,7 @@ use lib.Seq.{sets, sets-eq, drop-at, drop-length}
 use Rattle.words.specs.Words.{put}
 use Rattle.words.specs.Lists.{window}
 use Rattle.words.proofs.Lists.{length-window, window-add, window-all}
-use Rattle.layout.proofs.Merges.{put-table}
-use Rattle.version.proofs.Versions.{table-window}
-
-pub put-window : (l m : List ℕ) (at b n : ℕ)
-    → put l at n (λ i. getD m (b + i) 0) ≡ sets l at (window m b n)
-put-window l m at b n =
-    put-table l at n (λ i. getD m (b + i) 0) ∙ ap (sets l at) (table-window m b n)
+use Rattle.layout.proofs.Merges.{put-window}
 
 -- The words of the empty list are zeros.
 pub put-zeros : (l : List ℕ) (at n : ℕ) → put l at n (λ _. 0) ≡ sets l at (window [] 0 n)

@@ -1,21 +1,19 @@
 -- What is known of run r of a buffer in form, where it is one of its runs.
 -- RunKnown, run-known: where it lies, and its state. run-stored: another run stored there.
--- cause-..: the causes that calls on a run share, as the code tests them. first-two: with others
--- behind them.
+-- cause-..: the causes that calls on a run share, as the code tests them.
 -- Assumes nothing.
-use mathlib.Core.Path.{_≡_, refl, sym, ap, _∙_}
-use mathlib.Core.Bool.{Bool, true, false, cond, So, not}
+use mathlib.Core.Path.{_≡_, sym, ap, _∙_}
+use mathlib.Core.Bool.{Bool, So, not}
 use mathlib.Core.List.{List}
 use Prim.Native.Nat.{ℕ, _+_, _≤_, _<_}
 use native.Mathlib.Omega.{arith}
-use lib.Dec.{eqb}
 use lib.ListN.{length, getD}
 use Rattle.words.proofs.Bools.{le-leb, gt-leb, leb-gt}
 use Rattle.sizes.specs.declared.Counts.{Counts}
 use Rattle.sizes.specs.Bounds.{runSize, runAt}
 use Rattle.model.specs.Store.{Run, withRun}
 use Rattle.model.specs.Form.{runFormed}
-use Rattle.model.specs.Outcome.{refuse, allowed}
+use Rattle.model.specs.Outcome.{refuse, allowed, runCause}
 use Rattle.layout.specs.Reading.{countsIn, storeOf, readRun}
 use Rattle.layout.specs.Stored.{putRun}
 use Rattle.layout.specs.Buffer.{written}
@@ -28,7 +26,6 @@ use Rattle.model.proofs.Outcomes.{no-cause}
 use Rattle.form.specs.Parts.{RunArea, FormWith}
 use Rattle.form.proofs.Stores.{run-area}
 use Rattle.form.proofs.Known.{form-area, form-counts, form-again}
-use Rattle.status.specs.Status.{runCause}
 
 -- ---- one run
 
@@ -68,29 +65,21 @@ run-stored l z r a H h =
 -- ---- causes
 
 pub cause-high : (l : List ℕ) (z : Counts) (row r : ℕ) → FormWith l z → z .runs ≤ r
-    → 3 ≡ runCause (storeOf l) row r
+    → 3 ≡ runCause (storeOf l) row r 0
 unfolding runCause refuse
 cause-high l z row r H h = rw (form-counts l z H, le-leb _ _ h)
 
 -- b: what the code finds of the word at the run's index.
 pub cause-state : (l : List ℕ) (z : Counts) (row r : ℕ) → FormWith l z → r < z .runs
     → (at : ℕ) (b : Bool) → at ≡ runAt z r → b ≡ allowed row (getD l at 0)
-    → refuse (not b) 4 0 ≡ runCause (storeOf l) row r
+    → refuse (not b) 4 0 ≡ runCause (storeOf l) row r 0
 unfolding runCause refuse readRun
 cause-state l z row r H h at b e f =
     rw (form-counts l z H, gt-leb _ _ h, run-known l z r H h .run, ← e, ← f)
 
 -- Where they do not hold, run r is one of the runs.
 pub cause-below : (l : List ℕ) (z : Counts) (row r : ℕ) → FormWith l z
-    → runCause (storeOf l) row r ≡ 0 → r < z .runs
+    → runCause (storeOf l) row r 0 ≡ 0 → r < z .runs
 unfolding runCause
 cause-below l z row r H e =
     rw (← form-counts l z H) (leb-gt _ _ (no-cause _ 3 _ (omega arith) e .0))
-
--- Of these two causes and what is left: the two, and where neither holds what is left.
-pub first-two : (a b : Bool) (m : ℕ) → let n = refuse a 3 (refuse b 4 0) in
-    refuse a 3 (refuse b 4 m) ≡ cond (eqb n 0) m n
-unfolding refuse
-first-two true b m = refl
-first-two false true m = refl
-first-two false false m = refl

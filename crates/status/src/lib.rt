@@ -15,18 +15,18 @@ ghost use Prim.Native.Nat.{_+_, _≤_, _<_};
 ghost use lib.ListN.{length};
 ghost use Rattle.sizes.specs.Bounds.{planOffset};
 ghost use Rattle.model.specs.Store.{freeRun};
+ghost use Rattle.model.specs.Outcome.{runCause};
 ghost use Rattle.layout.specs.Reading.{storeOf};
 ghost use Rattle.layout.specs.Stored.{putRun};
 ghost use Rattle.form.specs.Parts.{RunArea, FormWith};
 ghost use Rattle.status.specs.Lent.{statusAt, putStatus, freed, marked, spoiled};
-ghost use Rattle.status.specs.Status.{runCause};
 
 // The first cause for which a call on run r is refused: there is no such run, or its state isn't
 // one that the call, a row of the table, allows. 0: none.
 pub fn run_cause(words: &[u32], z: Counts, row: u32, r: usize) -> u32
     requires { ⌜ FormWith (now words) z ⌝ }
     requires { ⌜ row < 5 ⌝ }
-    ensures { λ c. ⌜ c ≡ runCause (storeOf (now (words .entry))) row r ⌝ }
+    ensures { λ c. ⌜ c ≡ runCause (storeOf (now (words .entry))) row r 0 ⌝ }
 {
     let runs = z.runs;
     if runs <= r {

@@ -1,47 +1,26 @@
 -- Masks of sets of keys, as step computes them.
--- item-of: an item of a mask. from-..: the reads divided by where they come from.
+-- from-..: the reads divided by where they come from.
 -- moved-mask, moved-some, moved-none: C's keys that the run has read.
 -- upstream-some: an upstream job that isn't done. plan-mask: the plan's keys.
 -- Assumes nothing.
 use mathlib.Core.Path.{_≡_, refl, sym, ap, _∙_, fun-ext}
-use mathlib.Core.Bool.{Bool, true, false, not, So, _&&_}
+use mathlib.Core.Bool.{Bool, false, not, So, _&&_}
 use mathlib.Core.Logic.{_≢_}
 use Prim.Native.Nat.{ℕ, _^_, _≤_, _<_}
 use native.Mathlib.Omega.{arith}
 use lib.Bits.{bitAnd, and-le-l}
 use lib.Dec.{eqb}
 use Rattle.words.specs.Tests.{Items, anyBelow}
-use Rattle.words.proofs.Bools.{ne-eqb, eq-eqb}
+use Rattle.words.proofs.Bools.{ne-eqb, eq-eqb, and-assoc, not-not}
 use Rattle.words.proofs.Tests.{any-same}
 use Rattle.masks.specs.Mask.{testBit, withBit, withIf, maskBelow, without}
 use Rattle.masks.proofs.Bits.{test-and, test-without, without-lt}
-use Rattle.masks.proofs.Sets.{mask-lt, test-mask, mask-ext-below, mask-none, set-none}
+use Rattle.masks.proofs.Sets.{mask-lt, test-mask, mask-none, set-none, mask-is, item-of}
 use Rattle.sizes.specs.Bounds.{maxJobs}
 use Rattle.model.specs.Algebra.{everything}
 use Rattle.model.specs.Store.{Job, planned, doneReads}
 use Rattle.form.specs.Parts.{readsOf}
 use Rattle.form.proofs.Masks.{test-reads}
-
--- ---- tests
-
-and-assoc : (a b c : Bool) → (a && b) && c ≡ a && (b && c)
-and-assoc true b c = refl
-and-assoc false b c = refl
-
-not-not : (b : Bool) → not (not b) ≡ b
-not-not true = refl
-not-not false = refl
-
--- A mask of items below K is the mask of a set with the same items.
-mask-is : (K a : ℕ) (S : Items) → a < 2 ^ K → ((k : ℕ) → k < K → testBit a k ≡ S k)
-    → a ≡ maskBelow K S
-mask-is K a S h f =
-    mask-ext-below K a (maskBelow K S) h (mask-lt K S K (omega arith))
-    (λ k i. f k i ∙ sym (test-mask K S k i))
-
--- An item of a mask that is known by its set.
-pub item-of : (K p : ℕ) (S : Items) → p ≡ maskBelow K S → (k : ℕ) → k < K → testBit p k ≡ S k
-item-of K p S e k i = ap (λ (m : ℕ). testBit m k) e ∙ test-mask K S k i
 
 -- ---- the reads R, with C and T as masks p and t
 

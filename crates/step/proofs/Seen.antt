@@ -16,8 +16,9 @@ use Rattle.model.specs.Store.{Run}
 use Rattle.model.specs.Version.{versions}
 use Rattle.model.specs.Sets.{unfetchable}
 use Rattle.model.specs.Outcome.{refuse}
-use Rattle.model.specs.Step.{stepCause, stepSite, stepReads, stepStart, stepFetch, stepCache, stepPlan, stepPull, stepSnapshot, stepMoved}
+use Rattle.model.specs.Step.{jobCause, stepCause, stepSite, stepReads, stepStart, stepFetch, stepCache, stepPlan, stepPull, stepSnapshot, stepMoved}
 use Rattle.model.proofs.Formed.{place-in}
+use Rattle.model.proofs.Steps.{step-below}
 use Rattle.layout.specs.Reading.{readPlace, readJobs, readRun, storeOf}
 use Rattle.layout.proofs.Readings.{master-in, cache-in, snapshot-in}
 use Rattle.version.proofs.Stores.{master-area, site-area, snapshot-area}
@@ -25,10 +26,9 @@ use Rattle.form.specs.Parts.{readsOf, FormWith}
 use Rattle.form.proofs.Known.{form-area, form-counts, master-formed, cache-formed}
 use Rattle.form.proofs.Runs.{run-words, job-words}
 use Rattle.step.specs.declared.Visit.{Visit}
-use Rattle.step.specs.Jobs.{jobCause}
 use Rattle.step.specs.Visits.{visitOf, runVisit, startOf, takenOf, fetchedOf, pulledOf, snapshotOf, VisitArea, VisitFormed}
 use Rattle.step.proofs.Divisions.{plan-mask}
-use Rattle.step.proofs.Jobs.{Ready, step-below}
+use Rattle.step.proofs.Jobs.{Ready}
 use Rattle.step.proofs.Visits.{start-fetchable}
 
 -- A visit by the words of the run at an index.
@@ -166,7 +166,7 @@ module _ (l : List ℕ) (z : Counts) (r j : ℕ) (H : FormWith l z) (Y : Ready l
   -- ---- its last cause
 
   -- start, b: what the code finds.
-  pub cause-last : (v : Visit) → v ≡ runVisit z l r j → jobCause (storeOf l) r j ≡ 0
+  pub cause-last : (v : Visit) → v ≡ runVisit z l r j → jobCause (storeOf l .run r) j 0 ≡ 0
       → (start : ℕ) (b : Bool) → start ≡ maskBelow (z .keys) (startOf z l v)
       → b ≡ unfetchable (versions (z .writers)) (z .keys) (readPlace z l (v .master))
       (testBit start)

@@ -21,6 +21,7 @@ use Rattle.model.specs.Store.{Run, Store, withSites, withCache, withRun, withSt
 use Rattle.model.specs.Outcome.{Outcome, answer, unless, brokenState}
 use Rattle.model.specs.Step.{stepSite, stepCache, stepSnapshot, stepMoved, stepCause, stepBroken, stepDone, stepRule}
 use Rattle.model.specs.Calls.{step, ruleOf}
+use Rattle.model.proofs.Steps.{step-free}
 use Rattle.layout.specs.Reading.{storeOf}
 use Rattle.layout.specs.Stored.{putPlace}
 use Rattle.layout.specs.Buffer.{written, inForm}
@@ -32,7 +33,7 @@ use Rattle.step.specs.declared.Visit.{Visit}
 use Rattle.step.specs.declared.Trial.{Trial}
 use Rattle.step.specs.Visits.{runVisit, takenOf, pulledOf, trialOf, finished, brokenAt}
 use Rattle.step.proofs.Divisions.{from-snapshot, from-cache, from-master, moved-mask, moved-some, moved-none}
-use Rattle.step.proofs.Jobs.{Ready, job-ready, step-free}
+use Rattle.step.proofs.Jobs.{Ready, job-ready}
 use Rattle.step.proofs.Visits.{tried-taken, tried-pulled}
 use Rattle.step.proofs.Seen.{seen-site, seen-reads, seen-fetch, seen-cache, seen-pull, seen-snapshot, seen-read, seen-done, seen-moved, visit-cache, visit-snapshot, visit-mask, visit-reads}
 

@@ -1,6 +1,6 @@
 -- A step's visit, and what it finds.
--- drawn-same: a drawn set by what is below K. start-mask, taken-mask, pulled-mask, trial-is,
--- tried-..: the masks that the code computes are those of the sets. start-fetchable: cause 7.
+-- start-mask, taken-mask, pulled-mask, trial-is, tried-..: the masks that the code computes are
+-- those of the sets. start-fetchable: cause 7.
 -- draw-area, fetch-areas, merge-areas: where the places lie.
 -- copied, both-formed, merged: the two stores.
 -- Assumes nothing.
@@ -8,19 +8,18 @@ use mathlib.Core.Path.{_≡_, refl, ap, _∙_}
 use mathlib.Core.Bool.{Bool, cond, not, So, _&&_}
 use mathlib.Core.Logic.{inl, inr}
 use mathlib.Core.List.{List}
-use Prim.Native.Nat.{ℕ, _<_}
+use Prim.Native.Nat.{ℕ}
 use lib.ListN.{length}
-use Rattle.words.specs.Tests.{Items}
 use Rattle.words.proofs.Tests.{any-same}
 use Rattle.masks.specs.Mask.{testBit, maskBelow}
-use Rattle.masks.proofs.Sets.{mask-same}
-use Rattle.reach.proofs.Closures.{closure-same}
+use Rattle.masks.proofs.Sets.{mask-same, item-of}
 use Rattle.sizes.specs.declared.Counts.{Counts}
 use Rattle.model.specs.Algebra.{Algebra, Place, everything, lacking}
 use Rattle.model.specs.Version.{Version, held, merge, versions}
-use Rattle.model.specs.Sets.{draws, drawSet, fetchSet, fetched, unfetchable, pullSet, pulled}
+use Rattle.model.specs.Sets.{drawSet, fetchSet, fetched, unfetchable, pullSet, pulled}
 use Rattle.model.specs.Form.{placeFormed}
 use Rattle.model.specs.Step.{readStart}
+use Rattle.model.proofs.Draws.{drawn-same}
 use Rattle.model.proofs.Formed.{place-out, place-in}
 use Rattle.layout.specs.Reading.{readPlace}
 use Rattle.layout.specs.Stored.{putPlace}
@@ -34,19 +33,7 @@ use Rattle.sets.specs.Draws.{viewed, DrawArea}
 use Rattle.sets.proofs.Views.{chosen}
 use Rattle.step.specs.declared.Visit.{Visit}
 use Rattle.step.specs.declared.Trial.{Trial}
-use Rattle.step.proofs.Divisions.{item-of}
 use Rattle.step.specs.Visits.{wantedOf, startOf, takenOf, fetchedOf, pulledOf, snapshotOf, trialOf, VisitArea, VisitFormed}
-
--- ---- a drawn set by what is below K
-
-pub drawn-same : {A : Type 0} (alg : Algebra A) (K : ℕ) (scope : Items) (target p q : Place A)
-    (a b : Items) → ((k : ℕ) → k < K → p k ≡ q k) → ((k : ℕ) → k < K → a k ≡ b k)
-    → maskBelow K (drawSet alg K scope target p a) ≡ maskBelow K (drawSet alg K scope target q b)
-unfolding drawSet draws
-drawn-same alg K scope target p q a b f g =
-    mask-same K (drawSet alg K scope target p a) (drawSet alg K scope target q b)
-    (closure-same K (draws alg K scope target p) (draws alg K scope target q) a b
-    (λ t d i j. rw (f t i, f d j)) g)
 
 -- ---- the sets
 

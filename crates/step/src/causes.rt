@@ -13,13 +13,13 @@ use words::wide;
 ghost use mathlib.Core.Path.{_≡_};
 ghost use Prim.Native.Nat.{_^_, _<_};
 ghost use Rattle.sizes.specs.Bounds.{maxJobs};
+ghost use Rattle.model.specs.Step.{jobLimit, notReady, jobCause};
 ghost use Rattle.layout.specs.Reading.{storeOf};
 ghost use Rattle.form.specs.Parts.{FormWith};
-ghost use Rattle.step.specs.Jobs.{limitOf, unready, jobCause};
 
 // What the number of a job must be below, in a run of this state and number of jobs.
 pub fn job_limit(state: u32, jobs: u32) -> usize
-    ensures { λ r. ⌜ r ≡ limitOf state jobs ⌝ }
+    ensures { λ r. ⌜ r ≡ jobLimit state jobs ⌝ }
 {
     if state == FREE_STATE {
         Sizes::MAX_JOBS
@@ -31,7 +31,7 @@ pub fn job_limit(state: u32, jobs: u32) -> usize
 // Whether job j is done, or one of its upstream jobs isn't.
 pub fn is_unready(done: u32, upstream: u32, j: u32) -> bool
     requires { ⌜ (j < maxJobs) × (upstream < 2 ^ maxJobs) ⌝ }
-    ensures { λ r. ⌜ r ≡ unready done upstream j ⌝ }
+    ensures { λ r. ⌜ r ≡ notReady done upstream j ⌝ }
 {
     has(done, j) | (without(upstream, done) != 0)
 }
@@ -40,7 +40,7 @@ pub fn is_unready(done: u32, upstream: u32, j: u32) -> bool
 pub fn job_cause(words: &[u32], z: Counts, r: usize, j: usize) -> u32
     requires { ⌜ FormWith (now words) z ⌝ }
     requires { ⌜ r < z .runs ⌝ }
-    ensures { λ c. ⌜ c ≡ jobCause (storeOf (now (words .entry))) r j ⌝ }
+    ensures { λ c. ⌜ c ≡ jobCause (storeOf (now (words .entry)) .run r) j 0 ⌝ }
 {
     let at = z.run_at(r);
     if job_limit(words[at], words[at + RunOffset::JOBS]) <= j {

@@ -30,14 +30,13 @@ ghost use lib.ListN.{length};
 ghost use Rattle.masks.specs.Mask.{without, maskBelow};
 ghost use Rattle.sizes.specs.Bounds.{maxJobs, doneOffset, readOffset, planOffset};
 ghost use Rattle.model.specs.Outcome.{answer};
-ghost use Rattle.model.specs.Step.{stepCause};
+ghost use Rattle.model.specs.Step.{jobCause, stepCause};
 ghost use Rattle.model.specs.Calls.{step};
 ghost use Rattle.layout.specs.Reading.{readRun, storeOf};
 ghost use Rattle.layout.specs.Buffer.{inForm};
 ghost use Rattle.layout.specs.Calls.{on, callOn, leaves};
 ghost use Rattle.form.specs.Parts.{RunArea, FormWith};
 ghost use Rattle.step.specs.Answers.{steppedWords};
-ghost use Rattle.step.specs.Jobs.{jobCause};
 ghost use Rattle.step.specs.Visits.{visitOf, runVisit, startOf, trialOf, finished, VisitArea, VisitFormed};
 
 // The mask of every job.
@@ -134,7 +133,7 @@ fn step_cause(words: &[u32], z: Counts, r: usize, j: usize) -> u32
 // What a step of job j of run r looks at, with the run's own snapshot and read mask.
 fn run_visit(words: &[u32], z: Counts, r: usize, j: usize) -> Visit
     requires { ⌜ FormWith (now words) z ⌝ }
-    requires { ⌜ (r < z .runs) × (jobCause (storeOf (now words)) r j ≡ 0) ⌝ }
+    requires { ⌜ (r < z .runs) × (jobCause (storeOf (now words) .run r) j 0 ≡ 0) ⌝ }
     ensures { λ v. ⌜ v ≡ runVisit z (now (words .entry)) r j ⌝ }
 {
     let at = z.run_at(r);

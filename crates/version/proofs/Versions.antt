@@ -1,42 +1,31 @@
 -- A version copied, cleared and merged, word by word.
--- ..-version: the words that a loop stores are those of a version. table-window: copied words.
+-- ..-version: the words that a loop stores are those of a version.
 -- upto-all, nothing-read: what is read where nothing is.
 -- Assumes nothing.
 use mathlib.Core.Path.{_≡_, refl, sym, ap, _∙_, fun-ext}
 use mathlib.Core.Bool.{Bool, true, false, cond}
-use mathlib.Core.List.{List, [], _∷_, _++_}
-use Prim.Native.Nat.{ℕ, zero, suc, _+_}
-use native.Mathlib.Numerals.{add-one}
+use mathlib.Core.List.{List, []}
+use Prim.Native.Nat.{ℕ, _+_}
 use lib.Dec.{ltb}
 use lib.ListN.{getD}
 use lib.Seq.{sets}
 use Rattle.words.specs.Words.{put}
-use Rattle.words.specs.Lists.{window, upto}
-use Rattle.words.proofs.Lists.{window-add}
+use Rattle.words.specs.Lists.{upto}
 use Rattle.clock.specs.Clock.{Clock, join, clockAt}
 use Rattle.sizes.specs.declared.Counts.{Counts}
 use Rattle.sizes.specs.Bounds.{versionSize}
 use Rattle.model.specs.Version.{unheld, zeroPast, larger}
 use Rattle.layout.specs.Reading.{readClock, readPast, readVersion}
 use Rattle.layout.proofs.Parts.{version-laws}
-use Rattle.layout.proofs.Merges.{table, put-table, larger-version}
+use Rattle.layout.proofs.Merges.{larger-version, put-window}
 use Rattle.layout.specs.Stored.{putVersion}
-
-pub table-window : (l : List ℕ) (at n : ℕ) → table n (λ i. getD l (at + i) 0) ≡ window l at n
-unfolding table window
-table-window l at zero = refl
-table-window l at (suc n) =
-    ap (λ (t : List ℕ). t ++ (getD l (at + n) 0 ∷ [])) (table-window l at n)
-    ∙ sym (window-add l at n 1) ∙ ap (window l at) (add-one n)
 
 -- The words of a version of any buffer m, stored at an index of l.
 pub copy-version : (z : Counts) (l m : List ℕ) (dst src : ℕ)
     → put l dst (versionSize z) (λ i. getD m (src + i) 0)
     ≡ putVersion z l dst (readVersion z m src)
 copy-version z l m dst src =
-    let n = versionSize z in
-    put-table l dst n (λ i. getD m (src + i) 0)
-    ∙ ap (sets l dst) (table-window m src n ∙ sym (version-laws z .round m src))
+    put-window l m dst src (versionSize z) ∙ ap (sets l dst) (sym (version-laws z .round m src))
 
 -- A limit to what stands everywhere is none.
 pub upto-all : {A : Type 0} (n : ℕ) (x : A) (i : ℕ) → upto n x (λ j. x) i ≡ x

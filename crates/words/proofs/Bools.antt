@@ -50,6 +50,10 @@ pub and-cases : (a b : Bool) → a && b ≡ false → (a ≡ false) ⊎ (b ≡ f
 and-cases false b h = inl refl
 and-cases true b h = inr h
 
+pub and-assoc : (a b c : Bool) → (a && b) && c ≡ a && (b && c)
+and-assoc true b c = refl
+and-assoc false b c = refl
+
 pub and-false-right : (a : Bool) → a && false ≡ false
 and-false-right true = refl
 and-false-right false = refl
@@ -140,6 +144,11 @@ ne-eqb m n h = test (eqb m n) (λ p. absurd (h (eqb-eq m n p))) (λ p. p)
 
 pub eqb-ne : (m n : ℕ) → eqb m n ≡ false → m ≢ n
 eqb-ne m n p e = clash (eq-eqb m n e) p
+
+pub not-ltb : (m n : ℕ) → not (ltb m n) ≡ leb n m
+not-ltb m n =
+    test (ltb m n) (λ t. rw (t, gt-leb n m (ltb-lt m n t)))
+    (λ t. rw (t, le-leb n m (ltb-ge m n t)))
 
 pub not-not : (b : Bool) → not (not b) ≡ b
 not-not true = refl

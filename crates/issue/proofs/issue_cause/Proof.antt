@@ -7,10 +7,9 @@ use borrow.Author.Tests.{not-true, not-false}
 use lib.Dec.{eqb}
 use Rattle.words.proofs.Bools.{eq-eqb, ne-eqb}
 use Rattle.model.specs.Outcome.{refuse}
-use Rattle.model.specs.Issue.{issueCause}
+use Rattle.model.specs.Issue.{raiseCause, issueCause}
 use Rattle.layout.specs.Reading.{storeOf}
 use Rattle.form.proofs.Known.{form-area}
-use Rattle.issue.specs.Saves.{raiseCause}
 use Rattle.issue.proofs.Causes.{beyond, issue-cause, in-range, cause-state, cause-jobs}
 use Rattle.issue.proofs.issue_cause.Statement.{statement}
 use Rattle.issue.proofs.issue_cause.Tie as tie

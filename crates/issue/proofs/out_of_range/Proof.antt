@@ -4,7 +4,7 @@ use mathlib.Core.Path.{ap, _∙_}
 use mathlib.Core.Bool.{not}
 use Prim.Native.Nat.{_^_}
 use borrow.Author.Needs.{needs}
-use Rattle.issue.proofs.Causes.{not-below}
+use Rattle.words.proofs.Bools.{not-ltb}
 use Rattle.issue.proofs.out_of_range.Statement.{statement}
 use Rattle.issue.proofs.out_of_range.Tie as tie
 
@@ -14,7 +14,7 @@ is-below-requires c κs = search needs
 returns : tie.Need-returns
 returns c =
     let a = c .before .before .before .args in
-    rw (ap not (c .is-below .ensures) ∙ not-below (a .mask) (2 ^ a .z .keys))
+    rw (ap not (c .is-below .ensures) ∙ not-ltb (a .mask) (2 ^ a .z .keys))
 
 pub out-of-range-spec : {M : Type 1} → statement M
 out-of-range-spec = tie.close (tie.spec is-below-requires returns)

@@ -6,9 +6,9 @@ use borrow.Author.Needs.{needs}
 use native.Mathlib.Omega.{arith}
 use lib.ListN.{length}
 use Rattle.model.specs.Outcome.{refuse}
+use Rattle.model.specs.Issue.{raiseCause}
 use Rattle.layout.specs.Reading.{storeOf}
 use Rattle.form.proofs.Known.{form-long, form-area}
-use Rattle.issue.specs.Saves.{raiseCause}
 use Rattle.issue.proofs.Known.{writer-words}
 use Rattle.issue.proofs.Causes.{raise-word}
 use Rattle.issue.proofs.raise_cause.Statement.{statement}

@@ -4,8 +4,8 @@ use mathlib.Core.Path.{refl, sym}
 use borrow.Author.Needs.{needs}
 use native.Mathlib.Omega.{arith}
 use Rattle.words.proofs.Bools.{eq-eqb}
+use Rattle.model.specs.Issue.{issuedStore, issuedNumber}
 use Rattle.form.proofs.Known.{form-again}
-use Rattle.issue.specs.Saves.{savedNumber, savedStore}
 use Rattle.issue.proofs.save.Statement.{statement}
 use Rattle.issue.proofs.save.Tie as tie
 
@@ -21,7 +21,7 @@ returns : tie.Need-returns
 returns c = c .before .before .save-keys .ensures
 
 returns-2 : tie.Need-returns-2
-unfolding savedNumber savedStore
+unfolding issuedStore issuedNumber
 returns-2 c =
     let s = c .before .before in
     rw (eq-eqb (s .args .mask) 0 (omega (arith, c .if1 .left)))

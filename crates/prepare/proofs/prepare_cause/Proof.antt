@@ -7,10 +7,9 @@ use borrow.Author.Needs.{needs}
 use native.Mathlib.Omega.{arith}
 use lib.ListN.{length, getD}
 use Rattle.sizes.specs.Bounds.{snapshotOffset}
-use Rattle.model.specs.Outcome.{refuse, prepareRow}
+use Rattle.model.specs.Outcome.{refuse, prepareRow, runCause}
 use Rattle.model.specs.Prepare.{prepareCause}
 use Rattle.layout.specs.Reading.{storeOf}
-use Rattle.status.specs.Status.{runCause}
 use Rattle.prepare.specs.Turns.{UsedRun}
 use Rattle.prepare.proofs.Known.{jobs-known, run-index, done-word}
 use Rattle.prepare.proofs.Causes.{cause-run, cause-done, cause-lacks, used-run}
@@ -27,7 +26,7 @@ returns c =
 
 -- The run passes: it isn't free.
 passed : (c : tie.Else1) → let a = c .before .before .before .args in
-    runCause (storeOf (a .words .now)) prepareRow (a .r) ≡ 0
+    runCause (storeOf (a .words .now)) prepareRow (a .r) 0 ≡ 0
 passed c = sym (c .before .run-cause .ensures) ∙ c .if1 .left
 
 used : (c : tie.Else1) → let a = c .before .before .before .args in

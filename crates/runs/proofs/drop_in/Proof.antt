@@ -4,12 +4,11 @@ use mathlib.Core.Path.{_≡_, sym, ap, _∙_}
 use Prim.Native.Nat.{ℕ, _<_}
 use borrow.Author.Needs.{needs}
 use Rattle.model.specs.Store.{freeRun}
-use Rattle.model.specs.Outcome.{dropRow}
+use Rattle.model.specs.Outcome.{dropRow, runCause}
 use Rattle.layout.specs.Reading.{storeOf}
 use Rattle.layout.specs.Stored.{putRun}
 use Rattle.form.specs.Parts.{FormWith}
 use Rattle.form.proofs.Known.{form-long}
-use Rattle.status.specs.Status.{runCause}
 use Rattle.status.proofs.Known.{RunKnown, run-known, cause-below}
 use Rattle.runs.specs.Runs.{droppedWords}
 use Rattle.runs.proofs.Drops.{drop-refused, drop-done}
@@ -46,7 +45,7 @@ holds c =
     record { form = n .before .before .before .before .pre; counts = n .counts .ensures }
 
 free : (c : tie.Else1) → let w = c .before .before .before .before .before in
-    runCause (storeOf (w .before .before .args .words .now)) dropRow (w .wide .result) ≡ 0
+    runCause (storeOf (w .before .before .args .words .now)) dropRow (w .wide .result) 0 ≡ 0
 free c = sym (c .before .run-cause .ensures) ∙ c .if1 .left
 
 below : (c : tie.Else1)

@@ -6,9 +6,8 @@ use Prim.Native.Nat.{_+_, _≤_}
 use native.Mathlib.Omega.{arith}
 use lib.ListN.{length}
 use Rattle.sizes.specs.Bounds.{snapshotOffset}
-use Rattle.model.specs.Outcome.{refuse}
+use Rattle.model.specs.Outcome.{refuse, runCause}
 use Rattle.layout.specs.Reading.{storeOf}
-use Rattle.status.specs.Status.{runCause}
 use Rattle.status.proofs.Known.{RunKnown, run-known, cause-high, cause-state}
 use Rattle.status.proofs.run_cause.Statement.{statement}
 use Rattle.status.proofs.run_cause.Tie as tie
@@ -46,7 +45,7 @@ is-allowed-requires c κs =
 
 -- What the test of the state says.
 told : (c : tie.After-is-allowed) → let a = c .before .before .before .before .before .args in
-    refuse (not (c .is-allowed .result)) 4 0 ≡ runCause (storeOf (a .words .now)) (a .row) (a .r)
+    refuse (not (c .is-allowed .result)) 4 0 ≡ runCause (storeOf (a .words .now)) (a .row) (a .r) 0
 told c =
     let n = c .before .before in
     let e = n .before in

@@ -7,12 +7,12 @@ use lib.ListN.{length}
 use Rattle.words.proofs.Bools.{ne-eqb}
 use Rattle.masks.proofs.Sets.{mask-lt}
 use Rattle.model.specs.Outcome.{refuse}
-use Rattle.model.specs.Step.{stepCause}
+use Rattle.model.specs.Step.{jobCause, stepCause}
+use Rattle.model.proofs.Steps.{step-high, step-below}
 use Rattle.layout.specs.Reading.{storeOf}
 use Rattle.form.proofs.Known.{form-counts}
-use Rattle.step.specs.Jobs.{jobCause}
 use Rattle.step.specs.Visits.{VisitArea}
-use Rattle.step.proofs.Jobs.{Ready, job-ready, step-high, step-below}
+use Rattle.step.proofs.Jobs.{Ready, job-ready}
 use Rattle.step.proofs.Seen.{visit-reads, visit-area, cause-last}
 use Rattle.step.proofs.step_cause.Statement.{statement}
 use Rattle.step.proofs.step_cause.Tie as tie
@@ -41,7 +41,7 @@ returns-2 c =
 
 -- No cause of the run.
 free : (c : tie.Else2) → let a = c .before .before .before .before .args in
-    jobCause (storeOf (a .words .now)) (a .r) (a .j) ≡ 0
+    jobCause (storeOf (a .words .now) .run (a .r)) (a .j) 0 ≡ 0
 free c = sym (c .before .job-cause .ensures) ∙ c .if2 .left
 
 ready : (c : tie.Else2) → let a = c .before .before .before .before .args in

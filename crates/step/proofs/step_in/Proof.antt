@@ -6,13 +6,14 @@ use borrow.Author.Needs.{needs}
 use native.Mathlib.Omega.{arith}
 use lib.ListN.{length}
 use Rattle.model.specs.Step.{stepCause}
+use Rattle.model.proofs.Steps.{step-free}
 use Rattle.layout.specs.Reading.{storeOf}
 use Rattle.form.specs.Parts.{FormWith}
 use Rattle.form.proofs.Known.{form-long}
 use Rattle.status.proofs.Statuses.{spoiled-words}
 use Rattle.step.specs.Answers.{steppedWords}
 use Rattle.step.specs.Visits.{finished, brokenAt, VisitArea, VisitFormed}
-use Rattle.step.proofs.Jobs.{Ready, step-free}
+use Rattle.step.proofs.Jobs.{Ready}
 use Rattle.step.proofs.Seen.{visit-reads, visit-area, visit-formed}
 use Rattle.step.proofs.Steps.{step-ready, step-refused, step-broken, step-done}
 use Rattle.step.proofs.step_in.Statement.{statement}

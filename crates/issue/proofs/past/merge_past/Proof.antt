@@ -5,7 +5,7 @@ use mathlib.Core.Logic.{inl}
 use Prim.Native.Nat.{_+_}
 use borrow.Author.Needs.{needs}
 use native.Mathlib.Omega.{arith}
-use Rattle.issue.proofs.Pasts.{merge-past, row-first}
+use Rattle.layout.proofs.Pasts.{merge-past, row-first}
 use Rattle.issue.proofs.past.merge_past.Statement.{statement}
 use Rattle.issue.proofs.past.merge_past.Tie as tie
 

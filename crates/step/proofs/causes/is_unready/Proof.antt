@@ -4,7 +4,7 @@ use mathlib.Core.Path.{ap}
 use mathlib.Core.Bool.{Bool, _||_}
 use borrow.Author.Needs.{needs}
 use Rattle.masks.specs.Mask.{testBit}
-use Rattle.step.specs.Jobs.{unready}
+use Rattle.model.specs.Step.{notReady}
 use Rattle.step.proofs.Divisions.{upstream-some}
 use Rattle.step.proofs.causes.is_unready.Statement.{statement}
 use Rattle.step.proofs.causes.is_unready.Tie as tie
@@ -16,7 +16,7 @@ without-requires : tie.Need-without-requires
 without-requires c κs = search needs
 
 returns : tie.Need-returns
-unfolding unready
+unfolding notReady
 returns c =
     let s = c .before .before in
     let a = s .args in

@@ -9,11 +9,10 @@ use lib.ListN.{length}
 use Rattle.words.proofs.Bools.{le-leb, gt-leb}
 use Rattle.sizes.proofs.Offsets.{job-lies}
 use Rattle.model.specs.Outcome.{refuse, allowed, stepRow}
-use Rattle.model.specs.Step.{jobLimit}
+use Rattle.model.specs.Step.{jobLimit, jobCause}
 use Rattle.layout.specs.Reading.{storeOf}
 use Rattle.form.proofs.Known.{form-area}
 use Rattle.status.proofs.Known.{RunKnown, run-known}
-use Rattle.step.specs.Jobs.{jobCause}
 use Rattle.step.proofs.Jobs.{limit-in, state-in, unready-in, Ready, job-open}
 use Rattle.step.proofs.causes.job_cause.Statement.{statement}
 use Rattle.step.proofs.causes.job_cause.Tie as tie
@@ -52,7 +51,8 @@ job-limit-requires : tie.Need-job-limit-requires
 job-limit-requires c κs = search needs
 
 limited : (c : tie.After-job-limit) → let a = c .before .before .before .before .before .args in
-    jobLimit (storeOf (a .words .now)) (a .r) (a .j) ≡ c .job-limit .result
+    let x = storeOf (a .words .now) .run (a .r) in
+    jobLimit (x .state) (x .jobs) ≡ c .job-limit .result
 limited c =
     let n = c .before .before .before in
     let a = n .before .before .args in
@@ -167,7 +167,7 @@ is-unready-requires c κs =
 -- What is left where the causes before it do not hold.
 tested : (c : tie.After-is-unready) → let e = c .before .before .before .before in
     let a = e .before .before .before .before .before .before .before .before .before .args in
-    jobCause (storeOf (a .words .now)) (a .r) (a .j) ≡ refuse (c .is-unready .result) 6 0
+    jobCause (storeOf (a .words .now) .run (a .r)) (a .j) 0 ≡ refuse (c .is-unready .result) 6 0
 unfolding jobCause refuse
 tested c =
     let j = c .before .before .before in

@@ -2,7 +2,7 @@
 -- Assumes nothing.
 use borrow.Author.Needs.{needs}
 use Rattle.words.proofs.Bools.{eq-eqb, ne-eqb}
-use Rattle.step.specs.Jobs.{limitOf}
+use Rattle.model.specs.Step.{jobLimit}
 use Rattle.step.proofs.causes.job_limit.Statement.{statement}
 use Rattle.step.proofs.causes.job_limit.Tie as tie
 
@@ -10,11 +10,11 @@ wide-requires : tie.Need-wide-requires
 wide-requires c κs = search needs
 
 returns : tie.Need-returns
-unfolding limitOf
+unfolding jobLimit
 returns c = rw (eq-eqb (c .before .args .state) 0 (c .if1 .taken))
 
 returns-2 : tie.Need-returns-2
-unfolding limitOf
+unfolding jobLimit
 returns-2 c =
     rw (ne-eqb (c .before .before .args .state) 0 (c .before .if1 .left)) (c .wide .ensures)
 
