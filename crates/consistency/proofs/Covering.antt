@@ -1,6 +1,6 @@
 -- What holds of every row of counts in a store that follows its book.
 -- EveryRow: a claim about all of them. every-row: by the copies that they count.
--- master-covers: the master's own row of a key has all that is known of the key.
+-- master-dominates: the master's own row of a key has all that is known of the key.
 -- count-bound: no row runs ahead of a writer's count.
 -- Assumes nothing.
 use Prim.Native.Nat.{ℕ, _≤_, _<_}
@@ -10,7 +10,7 @@ use Rattle.history.specs.History.{saved}
 use Rattle.history.specs.Copies.{Copy, reaches, byWriter, counted}
 use Rattle.history.specs.Book.{Book}
 use Rattle.history.proofs.Past.{past-laws}
-use Rattle.history.proofs.Tally.{tally-covers, tally-total}
+use Rattle.history.proofs.Tally.{tally-dominates, tally-total}
 use Rattle.history.proofs.Reached.{reaches-intro, reaches-saved, reaches-session}
 use Rattle.history.proofs.Counted.{counted-row}
 use Rattle.consistency.proofs.Invariant.{Follows}
@@ -38,19 +38,19 @@ module _ {s : Store} {b : Book} (F : Follows s b) where
   }
 
   -- The master's own row of a key dominates every row for that key.
-  pub master-covers : EveryRow s (λ d p.
+  pub master-dominates : EveryRow s (λ d p.
       d < s .counts .keys → Dominates (s .counts .writers) (s .master d .past d) p)
-  master-covers = every-row _ covers
+  master-dominates = every-row _ under
     where
-      covers : (d : ℕ) (c : Copy) → d < s .counts .keys
+      under : (d : ℕ) (c : Copy) → d < s .counts .keys
           → Dominates (s .counts .writers) (s .master d .past d)
           (counted (s .counts .keys) (b .history) c .past d)
-      covers d c l =
+      under d c l =
           let K = s .counts .keys in
           let h = b .history in
           let laws = past-laws K h in
           rw (F .master d l, counted-row K h (b .master d) d, counted-row K h c d)
-          (tally-covers K h (s .counts .writers) (saved h d) (reaches K h c d)
+          (tally-dominates K h (s .counts .writers) (saved h d) (reaches K h c d)
           (reaches K h (b .master d) d) (F .sound .writers)
           (λ j _ y. reaches-saved K h laws c d j y .1)
           (reaches-session K h laws (b .master d) d) .1

@@ -44,7 +44,6 @@ pub fn masks_formed(words: &[u32], z: Counts, at: usize) -> bool
 }
 
 // Whether the snapshot is in form, holds only keys of the plan, and each key that was read.
-// 255 is the mask of all jobs.
 pub fn snapshot_formed(words: &[u32], z: Counts, at: usize) -> bool
     requires { ⌜ RunArea (length (now words)) z at ⌝ }
     requires { ⌜ So (jobsFormed z (readRun z (now words) at)) ⌝ }
@@ -53,7 +52,7 @@ pub fn snapshot_formed(words: &[u32], z: Counts, at: usize) -> bool
 {
     let n = words[at + RunOffset::JOBS];
     let read = words[at + RunOffset::READ];
-    let plan = reads_of(words, at + RunOffset::PLAN, n, 255);
+    let plan = reads_of(words, at + RunOffset::PLAN, n, Sizes::EVERY_JOB);
     let carried = held_mask(words, z, at + RunOffset::SNAPSHOT);
     place_formed(words, z, at + RunOffset::SNAPSHOT)
         & ((without(carried, plan) == 0) & (without(read, carried) == 0))

@@ -20,7 +20,7 @@ use Rattle.model.proofs.Needs.{dependency-iff, supersedes-iff}
 use Rattle.history.specs.History.{History, writerOf, saved}
 use Rattle.history.specs.Copies.{Copy, reaches, heldCopy, needsCopy, meetsCopy, union, lastIn, counted}
 use Rattle.history.proofs.Notions.{PastLaws, Good}
-use Rattle.history.proofs.Tally.{last-at, last-some, last-union, own-rank, tally, tally-at, tally-some, tally-covers, tally-union, tally-none}
+use Rattle.history.proofs.Tally.{last-at, last-some, last-union, own-rank, tally, tally-at, tally-some, tally-dominates, tally-union, tally-none}
 use Rattle.history.proofs.Reached.{reaches-union, reaches-unheld, reaches-saved, reaches-session, reaches-own, copy-held, copy-needs, copy-meets}
 
 module _ (K : ℕ) (h : History) where
@@ -143,7 +143,7 @@ module _ (K : ℕ) (h : History) where
           ↔ Within (length h) (reaches K h c d) (reaches K h b d)
       covers =
           rw (counted-row b d, counted-row c d)
-          (tally-covers K h W (saved h d) (reaches K h c d) (reaches K h b d) writers
+          (tally-dominates K h W (saved h d) (reaches K h c d) (reaches K h b d) writers
           (λ j _ y. reaches-saved K h laws c d j y .1) (reaches-session K h laws b d))
 
       own : (j : ℕ) → reaches K h b d j ≡ b j

@@ -1,6 +1,6 @@
 -- Sets of writes of one key, counted by writer: the row of a version that counts its copy.
 -- last-..: the last issue of a set. rank: an issue's count at its writer. tally: a set's counts.
--- tally-covers: the counts of one set dominate those of another where it has all of them.
+-- tally-dominates: the counts of one set dominate those of another where it has all of them.
 -- Assumes nothing.
 use mathlib.Core.Path.{_≡_, refl, sym, _∙_, fun-ext}
 use mathlib.Core.Bool.{Bool, true, false, _&&_, _||_, So, and-or-distrib-right}
@@ -154,10 +154,10 @@ module _ (K : ℕ) (h : History) where
       → So (s j)
 
   -- The counts of t dominate those of s just where t has all of s.
-  pub tally-covers : (W : ℕ) (writes s t : Items) → ((i : ℕ) → i < length h → writerOf h i < W)
+  pub tally-dominates : (W : ℕ) (writes s t : Items) → ((i : ℕ) → i < length h → writerOf h i < W)
       → Within (length h) s writes → SessionClosed writes t
       → Dominates W (tally t) (tally s) ↔ Within (length h) s t
-  tally-covers W writes s t ok sub closed = (there, back)
+  tally-dominates W writes s t ok sub closed = (there, back)
     where
       there : Dominates W (tally t) (tally s) → Within (length h) s t
       there c i l p =

@@ -110,13 +110,13 @@ reading m = record { site = 0; reads = m; upstream = 0 }
 abbrev jobs : ℕ → Job
 jobs i = getD (reading 1 ∷ reading 2 ∷ []) i noJob
 
-abbrev pub shelf-of : List ℕ → Place Version
-shelf-of need = place (version 2 (two-zero ∷ []) ∷ version 2 (need ∷ two-zero ∷ []) ∷ [])
+abbrev pub cache-of : List ℕ → Place Version
+cache-of need = place (version 2 (two-zero ∷ []) ∷ version 2 (need ∷ two-zero ∷ []) ∷ [])
 
 abbrev pub store-of : ℕ → List ℕ → Store
 store-of read need =
-    let master = withMaster (fresh (countsOf 2 2 1 1)) (shelf-of two-zero) in
-    withRun (withCache master 0 (shelf-of need)) 0 (record {
+    let master = withMaster (fresh (countsOf 2 2 1 1)) (cache-of two-zero) in
+    withRun (withCache master 0 (cache-of need)) 0 (record {
       state = 1;
       jobs = 2;
       done = read;
@@ -155,8 +155,8 @@ marked =
 -- ---- unmarked ones (those about new are in crate layout)
 
 -- "Document 001's "supersede" is read so; a rival doesn't meet a need."
-abbrev pub rival : Bool
-rival = not (supersedes 2 0 (version 1 (one-zero ∷ [])) (clock zero-one))
+abbrev pub concurrent-unmet : Bool
+concurrent-unmet = not (supersedes 2 0 (version 1 (one-zero ∷ [])) (clock zero-one))
 
 -- A causal cut: sixth's place is one, and without e it isn't one, nor with e older than u's need.
 abbrev pub cut : Bool
@@ -172,7 +172,7 @@ overlap =
     && not (overlappingCut (versions 2) 3 (testBit 5) evicting)
 
 abbrev pub sentences : List Bool
-sentences = rival ∷ cut ∷ overlap ∷ []
+sentences = concurrent-unmet ∷ cut ∷ overlap ∷ []
 
 abbrev words : ℕ → List ℕ
 words zero = []

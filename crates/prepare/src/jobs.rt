@@ -3,6 +3,7 @@
 use form::job::reads_of;
 use masks::with_item;
 use sizes::Counts;
+use sizes::Sizes;
 use sizes::job_at;
 use sizes::run::JobOffset;
 use sizes::run::RunOffset;
@@ -62,7 +63,7 @@ pub fn sites_used(words: &[u32], z: Counts, r: usize) -> u32
     mask
 }
 
-// The plan of run r: all that its jobs read. 255 is the mask of all jobs.
+// The plan of run r: all that its jobs read.
 pub fn plan_keys(words: &[u32], z: Counts, r: usize) -> u32
     requires { ⌜ UsedRun (now words) z r ⌝ }
     ensures { λ m. ⌜ testBit m ≡ planned (storeOf (now (words .entry)) .run r .jobs)
@@ -70,5 +71,5 @@ pub fn plan_keys(words: &[u32], z: Counts, r: usize) -> u32
 {
     let n = job_count(words, z, r);
     let at = z.run_at(r);
-    reads_of(words, at + RunOffset::PLAN, n, 255)
+    reads_of(words, at + RunOffset::PLAN, n, Sizes::EVERY_JOB)
 }

@@ -30,6 +30,10 @@ maxRuns = 8
 abbrev pub maxJobs : ℕ
 maxJobs = 8
 
+-- The mask of every job.
+abbrev pub everyJob : ℕ
+everyJob = 255
+
 -- 1 to top.
 unfoldable pub between : ℕ → ℕ → Bool
 between top x = leb 1 x && leb x top

@@ -4,7 +4,7 @@ pub mod run;
 use run::RunOffset;
 ghost use mathlib.Core.Path.{_≡_};
 ghost use Prim.Native.Nat.{_<_, _^_};
-ghost use Rattle.sizes.specs.Bounds.{between, ranged, Ranged, countsOf, sizesOf, maxKeys, maxWriters, maxSites, maxRuns, maxJobs, jobSize, pastSize, versionSize, placeSize, siteSize, writerSize, runSize, siteAt, writerAt, runAt, snapshotAt, jobAt, keyAt, rowAt};
+ghost use Rattle.sizes.specs.Bounds.{between, ranged, Ranged, countsOf, sizesOf, maxKeys, maxWriters, maxSites, maxRuns, maxJobs, everyJob, jobSize, pastSize, versionSize, placeSize, siteSize, writerSize, runSize, siteAt, writerAt, runAt, snapshotAt, jobAt, keyAt, rowAt};
 
 // Sheets, writers, offices and runs (document 01: K, W, N, P).
 pub struct Counts {
@@ -34,6 +34,9 @@ impl Sizes {
 
     pub const MAX_JOBS: usize = 8;
 
+    // The mask of every job.
+    pub const EVERY_JOB: u32 = 255;
+
     pub const JOB_SIZE: usize = 3;
 
     // Offsets and total from four counts.
@@ -56,13 +59,14 @@ impl Sizes {
         }
     }
 
-    // The limits above, and the words of a job, are those of the definitions.
+    // The constants above are those of the definitions.
     pub fn limits()
         ensures keys { λ _. do ⌜ (← ⟦Sizes::MAX_KEYS⟧ .entry) ≡ maxKeys ⌝ }
         ensures writers { λ _. do ⌜ (← ⟦Sizes::MAX_WRITERS⟧ .entry) ≡ maxWriters ⌝ }
         ensures sites { λ _. do ⌜ (← ⟦Sizes::MAX_SITES⟧ .entry) ≡ maxSites ⌝ }
         ensures runs { λ _. do ⌜ (← ⟦Sizes::MAX_RUNS⟧ .entry) ≡ maxRuns ⌝ }
         ensures jobs { λ _. do ⌜ (← ⟦Sizes::MAX_JOBS⟧ .entry) ≡ maxJobs ⌝ }
+        ensures every { λ _. do ⌜ (← ⟦Sizes::EVERY_JOB⟧ .entry) ≡ everyJob ⌝ }
         ensures job { λ _. do ⌜ (← ⟦Sizes::JOB_SIZE⟧ .entry) ≡ jobSize ⌝ }
     {}
 }

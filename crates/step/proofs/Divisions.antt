@@ -1,26 +1,22 @@
 -- Masks of sets of keys, as step computes them.
 -- from-..: the reads divided by where they come from.
 -- moved-mask, moved-some, moved-none: C's keys that the run has read.
--- upstream-some: an upstream job that isn't done. plan-mask: the plan's keys.
+-- upstream-some: an upstream job that isn't done.
 -- Assumes nothing.
-use mathlib.Core.Path.{_≡_, refl, sym, ap, _∙_, fun-ext}
+use mathlib.Core.Path.{_≡_, sym, ap, _∙_}
 use mathlib.Core.Bool.{Bool, false, not, So, _&&_}
 use mathlib.Core.Logic.{_≢_}
-use Prim.Native.Nat.{ℕ, _^_, _≤_, _<_}
+use Prim.Native.Nat.{ℕ, _^_, _<_}
 use native.Mathlib.Omega.{arith}
 use lib.Bits.{bitAnd, and-le-l}
 use lib.Dec.{eqb}
 use Rattle.words.specs.Tests.{Items, anyBelow}
 use Rattle.words.proofs.Bools.{ne-eqb, eq-eqb, and-assoc, not-not}
 use Rattle.words.proofs.Tests.{any-same}
-use Rattle.masks.specs.Mask.{testBit, withBit, withIf, maskBelow, without}
+use Rattle.masks.specs.Mask.{testBit, maskBelow, without}
 use Rattle.masks.proofs.Bits.{test-and, test-without, without-lt}
-use Rattle.masks.proofs.Sets.{mask-lt, test-mask, mask-none, set-none, mask-is, item-of}
+use Rattle.masks.proofs.Sets.{mask-lt, mask-none, set-none, mask-is, item-of}
 use Rattle.sizes.specs.Bounds.{maxJobs}
-use Rattle.model.specs.Algebra.{everything}
-use Rattle.model.specs.Store.{Job, planned, doneReads}
-use Rattle.form.specs.Parts.{readsOf}
-use Rattle.form.proofs.Masks.{test-reads}
 
 -- ---- the reads R, with C and T as masks p and t
 
@@ -83,21 +79,3 @@ upstream-some done upstream h =
     ∙ not-not (anyBelow maxJobs (testBit (without upstream done)))
     ∙ any-same maxJobs (testBit (without upstream done))
     (λ i. testBit upstream i && not (testBit done i)) (λ i _. test-without upstream done i)
-
--- ---- the plan
-
-every-job : maskBelow maxJobs everything ≡ 255
-unfolding maskBelow withIf withBit
-every-job = refl
-
-one-job : (j : ℕ) → j < maxJobs → So (testBit 255 j)
-one-job j h = rw (← every-job) (test-mask maxJobs everything j h)
-
--- What all jobs read.
-pub plan-mask : (n : ℕ) (job : ℕ → Job) → n ≤ maxJobs
-    → testBit (readsOf n job 255) ≡ planned n job
-unfolding planned doneReads
-plan-mask n job h =
-    fun-ext (λ k. test-reads n job 255 k
-    ∙ any-same n (λ j. testBit 255 j && testBit (job j .reads) k) (λ j. testBit (job j .reads) k)
-    (λ j i. rw (one-job j (omega arith))))

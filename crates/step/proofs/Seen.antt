@@ -25,9 +25,9 @@ use Rattle.version.proofs.Stores.{master-area, site-area, snapshot-area}
 use Rattle.form.specs.Parts.{readsOf, FormWith}
 use Rattle.form.proofs.Known.{form-area, form-counts, master-formed, cache-formed}
 use Rattle.form.proofs.Runs.{run-words, job-words}
+use Rattle.form.proofs.Snapshots.{test-plan}
 use Rattle.step.specs.declared.Visit.{Visit}
 use Rattle.step.specs.Visits.{visitOf, runVisit, startOf, takenOf, fetchedOf, pulledOf, snapshotOf, VisitArea, VisitFormed}
-use Rattle.step.proofs.Divisions.{plan-mask}
 use Rattle.step.proofs.Jobs.{Ready}
 use Rattle.step.proofs.Visits.{start-fetchable}
 
@@ -68,7 +68,7 @@ module _ (l : List ℕ) (z : Counts) (r j : ℕ) (H : FormWith l z) (Y : Ready l
 
   seen-plan : stepPlan (storeOf l) r j ≡ testBit (runVisit z l r j .plan)
   unfolding stepPlan visitOf
-  seen-plan = rw (Y .known .run) (sym (plan-mask _ _ (Y .plan .jobs .high)))
+  seen-plan = rw (Y .known .run) (sym (test-plan _ _ (Y .plan .jobs .high)))
 
   old-cache : storeOf l .site (stepSite (storeOf l) r j) .cache
       ≡ readPlace z l (runVisit z l r j .cache)

@@ -13,7 +13,7 @@ use lib.ListN.{getD, set}
 use Rattle.words.specs.Tests.{Items}
 use Rattle.masks.specs.Mask.{testBit, withBit, maskBelow}
 use Rattle.sizes.specs.declared.Counts.{Counts}
-use Rattle.sizes.specs.Bounds.{placeSize, masterAt, siteAt, runAt, snapshotAt}
+use Rattle.sizes.specs.Bounds.{everyJob, readOffset, placeSize, masterAt, siteAt, runAt, snapshotAt}
 use Rattle.model.specs.Algebra.{Place, lacking}
 use Rattle.model.specs.Version.{Version, versions}
 use Rattle.model.specs.Sets.{fetchSet, fetched, pullSet, pulled}
@@ -35,14 +35,14 @@ visitOf z l at snapshot read j =
       master = masterAt z;
       cache = siteAt z (a .job j .site);
       snapshot = snapshot;
-      plan = readsOf (a .jobs) (a .job) 255;
+      plan = readsOf (a .jobs) (a .job) everyJob;
       reads = a .job j .reads;
       read = getD l read 0;
     }
 
 -- Job j of run r, with the run's own snapshot and read mask.
 abbrev pub runVisit : Counts → List ℕ → ℕ → ℕ → Visit
-runVisit z l r j = visitOf z l (runAt z r) (snapshotAt z r) (runAt z r + 3) j
+runVisit z l r j = visitOf z l (runAt z r) (snapshotAt z r) (runAt z r + readOffset) j
 
 module _ (z : Counts) (l : List ℕ) (v : Visit) where
   -- "every sheet of R that the card lacks"

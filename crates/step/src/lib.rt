@@ -14,6 +14,7 @@ use sets::fetch_set;
 use sets::missing::is_unfetchable;
 use sets::missing::lacking;
 use sizes::Counts;
+use sizes::Sizes;
 use sizes::job_at;
 use sizes::run::JobOffset;
 use sizes::run::RunOffset;
@@ -38,9 +39,6 @@ ghost use Rattle.layout.specs.Calls.{on, callOn, leaves};
 ghost use Rattle.form.specs.Parts.{RunArea, FormWith};
 ghost use Rattle.step.specs.Answers.{steppedWords};
 ghost use Rattle.step.specs.Visits.{visitOf, runVisit, startOf, trialOf, finished, VisitArea, VisitFormed};
-
-// The mask of every job.
-const EVERY_JOB: u32 = 255;
 
 // The reads from the snapshot, from the cache and from the master; or the keys that would move
 // though the run has read them; or the cause's number.
@@ -157,7 +155,7 @@ fn visit_of(words: &[u32], z: Counts, at: usize, snapshot: usize, read: usize, j
         words,
         at + RunOffset::PLAN,
         words[at + RunOffset::JOBS],
-        EVERY_JOB,
+        Sizes::EVERY_JOB,
     );
     Visit {
         master: areas.master,
