@@ -11,6 +11,8 @@ mod everyday;
 mod odd;
 #[path = "generate/plots.rs"]
 mod plots;
+#[path = "generate/random.rs"]
+mod random;
 #[path = "generate/teller.rs"]
 mod teller;
 mod text;

@@ -22,6 +22,7 @@ mod generate {
     pub mod everyday;
     pub mod odd;
     pub mod plots;
+    pub mod random;
     pub mod teller;
 }
 

@@ -3,6 +3,7 @@
 use crate::desk::layout::{has, DONE, JOBS, JOB_LIST, READ, STATE};
 use crate::desk::version::{covers, held, row};
 use crate::desk::{in_form, Answer, Sizes};
+use crate::random::Random;
 use crate::text::{self, Call};
 
 #[derive(Default)]
@@ -46,35 +47,25 @@ pub struct Teller {
     pub script: Vec<u8>,
     pub words: Vec<u32>,
     pub counts: Counts,
-    state: u64,
-}
-
-/// The next number of a splitmix sequence.
-pub fn mixed(state: &mut u64) -> u64 {
-    *state = state.wrapping_add(0x9E37_79B9_7F4A_7C15);
-    let mut mixed = *state;
-    mixed = (mixed ^ (mixed >> 30)).wrapping_mul(0xBF58_476D_1CE4_E5B9);
-    mixed = (mixed ^ (mixed >> 27)).wrapping_mul(0x94D0_49BB_1331_11EB);
-    mixed ^ (mixed >> 31)
+    random: Random,
 }
 
 impl Teller {
     pub fn new(seed: u64) -> Teller {
         let words = vec![0; text::LENT];
-        Teller { script: Vec::new(), words, counts: Counts::default(), state: seed }
+        Teller { script: Vec::new(), words, counts: Counts::default(), random: Random::new(seed) }
     }
 
     pub fn next(&mut self) -> u64 {
-        mixed(&mut self.state)
+        self.random.next()
     }
 
     pub fn below(&mut self, count: usize) -> usize {
-        (self.next() % count as u64) as usize
+        self.random.below(count)
     }
 
-    /// True in so many of a hundred cases.
     pub fn chance(&mut self, percent: usize) -> bool {
-        self.below(100) < percent
+        self.random.chance(percent)
     }
 
     /// The desk's sizes; the script makes one before any plot needs them.

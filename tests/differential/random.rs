@@ -1,30 +1,8 @@
-//! A sequence of numbers, as the generated scripts have it.
+//! Numbers, words and masks, from the sequence that the generated scripts have too.
 
-use crate::teller::mixed;
-
-#[derive(Clone)]
-pub struct Random {
-    state: u64,
-}
+pub use crate::generate::random::Random;
 
 impl Random {
-    pub fn new(seed: u64) -> Random {
-        Random { state: seed }
-    }
-
-    pub fn next(&mut self) -> u64 {
-        mixed(&mut self.state)
-    }
-
-    pub fn below(&mut self, count: usize) -> usize {
-        (self.next() % count as u64) as usize
-    }
-
-    /// True in so many of a hundred cases.
-    pub fn chance(&mut self, percent: usize) -> bool {
-        self.below(100) < percent
-    }
-
     /// One of these, each as likely.
     pub fn one_of(&mut self, choices: &[usize]) -> usize {
         choices[self.below(choices.len())]
