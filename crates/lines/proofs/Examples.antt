@@ -1,18 +1,16 @@
--- Lines and the calls that they ask for, and answers in text, computed.
+-- Lines and the calls that they ask for, computed.
 -- case-lines: case A's lines, and the calls that it lacks. read-lines: others that are read.
--- unread-lines, unread-calls: what isn't. long-lines: 400 bytes and 401. answers: answers in text.
+-- unread-lines, unread-calls: what isn't. long-lines: 400 bytes and 401.
 -- Assumes nothing.
 use mathlib.Core.Path.{_≡_, refl}
 use mathlib.Core.List.{[], _∷_, _++_}
 use mathlib.Core.Option.{none, some}
 use lib.ListN.{replicate}
 use Rattle.text.specs.Bytes.{bytesOf, sameBytes}
-use Rattle.text.specs.Decimal.{digitsOf, decimalOf}
 use Rattle.text.specs.Fields.{inFirst, fieldsOf, digitsOnly, valueFrom, isEmpty, numberOf, numberBefore, numbersOf}
 use Rattle.model.specs.Calls.{openRun, fetch, evict, prepare, step, issue, dropRun, look}
 use Rattle.layout.specs.Calls.{new, on}
 use Rattle.lines.specs.Grammar.{commandOf, callOf, opening, asked, fieldsCall, lineCall}
-use Rattle.lines.specs.Print.{answerWord, numbersText, answerText, unreadText}
 
 -- Case A's lines, each once, and a prepare and a drop.
 pub case-lines :
@@ -81,17 +79,3 @@ pub long-lines :
 unfolding lineCall fieldsCall fieldsOf inFirst asked commandOf sameBytes callOf opening numbersOf
     numberBefore numberOf isEmpty digitsOnly valueFrom
 long-lines = (refl, refl)
-
--- Case A's kinds of answers, a broken run, the largest number, and a line that is unread.
-pub answers :
-    (answerText (0 ∷ 88 ∷ []) ≡ bytesOf "ok 88\n")
-    × (answerText (0 ∷ 0 ∷ 0 ∷ 0 ∷ []) ≡ bytesOf "ok 0 0 0\n")
-    × (answerText (0 ∷ 0 ∷ 1 ∷ 0 ∷ []) ≡ bytesOf "ok 0 1 0\n")
-    × (answerText (0 ∷ 2 ∷ 0 ∷ 0 ∷ []) ≡ bytesOf "ok 2 0 0\n")
-    × (answerText (2 ∷ 6 ∷ []) ≡ bytesOf "refused 6\n")
-    × (answerText (2 ∷ 10 ∷ []) ≡ bytesOf "refused 10\n")
-    × (answerText (1 ∷ 1 ∷ []) ≡ bytesOf "broken 1\n")
-    × (answerText (0 ∷ 4294967295 ∷ []) ≡ bytesOf "ok 4294967295\n")
-    × (unreadText ≡ bytesOf "unread\n")
-unfolding answerText answerWord numbersText unreadText decimalOf digitsOf
-answers = (refl, refl, refl, refl, refl, refl, refl, refl, refl)

@@ -1,8 +1,4 @@
-// The program's lines: a call read from one, an answer put into one.
-mod print;
-
-pub use print::print_answer;
-pub use print::print_unread;
+// The program's lines: a call read from one.
 use text::Count;
 ghost use mathlib.Core.Path.{_≡_};
 ghost use Prim.Native.Nat.{_≤_, _<_};

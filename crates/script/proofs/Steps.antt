@@ -17,7 +17,7 @@ use Rattle.words.proofs.Bools.{test, leb-le, le-leb, gt-leb, lt-ltb, ge-ltb, ne
 use Rattle.model.specs.Outcome.{Outcome, refused, broken, done, answer}
 use Rattle.layout.specs.Buffer.{inForm}
 use Rattle.layout.specs.Calls.{Call, callOn}
-use Rattle.lines.specs.Print.{answerText, unreadText}
+use Rattle.print.specs.Print.{answerText, unreadText}
 use Rattle.dispatch.specs.Performs.{Performs}
 use Rattle.dispatch.specs.declared.Performed.{Performed}
 use Rattle.script.specs.Script.{callText, callLeaves, lineText, lineLeaves, linesOf, bufferAfter, program}

@@ -11,7 +11,7 @@ use lib.Dec.{eqb, leb, ltb}
 use lib.ListN.{length, take}
 use Rattle.layout.specs.Calls.{Call}
 use Rattle.lines.specs.Grammar.{lineCall}
-use Rattle.lines.specs.Print.{answerText, unreadText}
+use Rattle.print.specs.Print.{answerText, unreadText}
 use Rattle.script.specs.Script.{callText, callLeaves, withCall}
 
 -- A line of more than 400 bytes isn't kept: it gives `unread` whatever it holds.

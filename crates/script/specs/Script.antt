@@ -10,7 +10,7 @@ use lib.Dec.{eqb}
 use Rattle.model.specs.Outcome.{answer}
 use Rattle.layout.specs.Calls.{Call, callOn, leaves}
 use Rattle.lines.specs.Grammar.{lineCall}
-use Rattle.lines.specs.Print.{answerText, unreadText}
+use Rattle.print.specs.Print.{answerText, unreadText}
 
 -- ---- one line, on a buffer
 

@@ -17,9 +17,9 @@ fn print_words(out: &mut [u8], at: usize, answer: &[u32], count: usize) -> usize
     ensures { λ r. ⌜ r ≤ at + 256 ⌝ }
 {
     if count == 0 {
-        return lines::print_unread(out, at);
+        return print::print_unread(out, at);
     }
-    lines::print_answer(out, at, &answer[0..count])
+    print::print_answer(out, at, &answer[0..count])
 }
 
 // A line of any length: read, performed, answered.
@@ -72,7 +72,7 @@ pub fn part_done(
     ensures { λ r. ⌜ r .end ≤ state .end + 256 ⌝ }
 {
     if 400 < state.len {
-        let end = lines::print_unread(out, state.end);
+        let end = print::print_unread(out, state.end);
         return State {
             ready: state.ready,
             len: 0,

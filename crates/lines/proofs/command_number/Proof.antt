@@ -1,8 +1,13 @@
 -- `lines::command_number` meets its contract: each test is the definition's next one.
 -- Assumes nothing.
 use borrow.Author.Needs.{needs}
-use mathlib.Core.Path.{sym, _∙_}
+use mathlib.Core.Path.{_≡_, refl, sym, _∙_}
+use mathlib.Core.Bool.{false}
+use mathlib.Core.List.{List}
+use Prim.Native.Nat.{ℕ}
+use Rattle.text.specs.Bytes.{bytesOf, sameBytes}
 use Rattle.lines.specs.Grammar.{commandOf}
+use Rattle.lines.proofs.Chain.{this-case, next-case}
 use Rattle.lines.proofs.command_number.Statement.{statement}
 use Rattle.lines.proofs.command_number.Tie as tie
 
@@ -14,7 +19,13 @@ is-word-requires c κs = search needs
 
 returns : tie.Need-returns
 unfolding commandOf
-returns c = simp (sym (c .before .is-word .ensures) ∙ c .if1 .taken)
+returns c = this-case _ (sym (c .before .is-word .ensures) ∙ c .if1 .taken)
+
+abbrev word1 : tie.Else1 → List ℕ
+word1 c = c .before .before .before .before .args .word .now
+
+no1 : (c : tie.Else1) → sameBytes (word1 c) (bytesOf "new") ≡ false
+no1 c = sym (c .before .is-word .ensures) ∙ c .if1 .left
 
 slice-aggregate-is-word-2 : tie.Need-slice-aggregate-is-word-2
 slice-aggregate-is-word-2 c = search needs
@@ -26,10 +37,14 @@ returns-2 : tie.Need-returns-2
 unfolding commandOf
 returns-2 c =
     let b1 = c .before .before .before in
-    simp (
-      sym (b1 .before .is-word .ensures) ∙ b1 .if1 .left,
-      sym (c .before .is-word2 .ensures) ∙ c .if2 .taken,
-    )
+    next-case 1 (no1 b1)
+    (this-case _ (sym (c .before .is-word2 .ensures) ∙ c .if2 .taken))
+
+abbrev word2 : tie.Else2 → List ℕ
+word2 c = word1 (c .before .before .before)
+
+no2 : (c : tie.Else2) → sameBytes (word2 c) (bytesOf "open") ≡ false
+no2 c = sym (c .before .is-word2 .ensures) ∙ c .if2 .left
 
 slice-aggregate-is-word-3 : tie.Need-slice-aggregate-is-word-3
 slice-aggregate-is-word-3 c = search needs
@@ -42,11 +57,15 @@ unfolding commandOf
 returns-3 c =
     let b2 = c .before .before .before in
     let b1 = b2 .before .before .before in
-    simp (
-      sym (b1 .before .is-word .ensures) ∙ b1 .if1 .left,
-      sym (b2 .before .is-word2 .ensures) ∙ b2 .if2 .left,
-      sym (c .before .is-word3 .ensures) ∙ c .if3 .taken,
-    )
+    next-case 1 (no1 b1)
+    (next-case 2 (no2 b2)
+    (this-case _ (sym (c .before .is-word3 .ensures) ∙ c .if3 .taken)))
+
+abbrev word3 : tie.Else3 → List ℕ
+word3 c = word2 (c .before .before .before)
+
+no3 : (c : tie.Else3) → sameBytes (word3 c) (bytesOf "fetch") ≡ false
+no3 c = sym (c .before .is-word3 .ensures) ∙ c .if3 .left
 
 slice-aggregate-is-word-4 : tie.Need-slice-aggregate-is-word-4
 slice-aggregate-is-word-4 c = search needs
@@ -60,12 +79,16 @@ returns-4 c =
     let b3 = c .before .before .before in
     let b2 = b3 .before .before .before in
     let b1 = b2 .before .before .before in
-    simp (
-      sym (b1 .before .is-word .ensures) ∙ b1 .if1 .left,
-      sym (b2 .before .is-word2 .ensures) ∙ b2 .if2 .left,
-      sym (b3 .before .is-word3 .ensures) ∙ b3 .if3 .left,
-      sym (c .before .is-word4 .ensures) ∙ c .if4 .taken,
-    )
+    next-case 1 (no1 b1)
+    (next-case 2 (no2 b2)
+    (next-case 3 (no3 b3)
+    (this-case _ (sym (c .before .is-word4 .ensures) ∙ c .if4 .taken))))
+
+abbrev word4 : tie.Else4 → List ℕ
+word4 c = word3 (c .before .before .before)
+
+no4 : (c : tie.Else4) → sameBytes (word4 c) (bytesOf "evict") ≡ false
+no4 c = sym (c .before .is-word4 .ensures) ∙ c .if4 .left
 
 slice-aggregate-is-word-5 : tie.Need-slice-aggregate-is-word-5
 slice-aggregate-is-word-5 c = search needs
@@ -80,13 +103,17 @@ returns-5 c =
     let b3 = b4 .before .before .before in
     let b2 = b3 .before .before .before in
     let b1 = b2 .before .before .before in
-    simp (
-      sym (b1 .before .is-word .ensures) ∙ b1 .if1 .left,
-      sym (b2 .before .is-word2 .ensures) ∙ b2 .if2 .left,
-      sym (b3 .before .is-word3 .ensures) ∙ b3 .if3 .left,
-      sym (b4 .before .is-word4 .ensures) ∙ b4 .if4 .left,
-      sym (c .before .is-word5 .ensures) ∙ c .if5 .taken,
-    )
+    next-case 1 (no1 b1)
+    (next-case 2 (no2 b2)
+    (next-case 3 (no3 b3)
+    (next-case 4 (no4 b4)
+    (this-case _ (sym (c .before .is-word5 .ensures) ∙ c .if5 .taken)))))
+
+abbrev word5 : tie.Else5 → List ℕ
+word5 c = word4 (c .before .before .before)
+
+no5 : (c : tie.Else5) → sameBytes (word5 c) (bytesOf "prepare") ≡ false
+no5 c = sym (c .before .is-word5 .ensures) ∙ c .if5 .left
 
 slice-aggregate-is-word-6 : tie.Need-slice-aggregate-is-word-6
 slice-aggregate-is-word-6 c = search needs
@@ -102,14 +129,18 @@ returns-6 c =
     let b3 = b4 .before .before .before in
     let b2 = b3 .before .before .before in
     let b1 = b2 .before .before .before in
-    simp (
-      sym (b1 .before .is-word .ensures) ∙ b1 .if1 .left,
-      sym (b2 .before .is-word2 .ensures) ∙ b2 .if2 .left,
-      sym (b3 .before .is-word3 .ensures) ∙ b3 .if3 .left,
-      sym (b4 .before .is-word4 .ensures) ∙ b4 .if4 .left,
-      sym (b5 .before .is-word5 .ensures) ∙ b5 .if5 .left,
-      sym (c .before .is-word6 .ensures) ∙ c .if6 .taken,
-    )
+    next-case 1 (no1 b1)
+    (next-case 2 (no2 b2)
+    (next-case 3 (no3 b3)
+    (next-case 4 (no4 b4)
+    (next-case 5 (no5 b5)
+    (this-case _ (sym (c .before .is-word6 .ensures) ∙ c .if6 .taken))))))
+
+abbrev word6 : tie.Else6 → List ℕ
+word6 c = word5 (c .before .before .before)
+
+no6 : (c : tie.Else6) → sameBytes (word6 c) (bytesOf "step") ≡ false
+no6 c = sym (c .before .is-word6 .ensures) ∙ c .if6 .left
 
 slice-aggregate-is-word-7 : tie.Need-slice-aggregate-is-word-7
 slice-aggregate-is-word-7 c = search needs
@@ -126,15 +157,19 @@ returns-7 c =
     let b3 = b4 .before .before .before in
     let b2 = b3 .before .before .before in
     let b1 = b2 .before .before .before in
-    simp (
-      sym (b1 .before .is-word .ensures) ∙ b1 .if1 .left,
-      sym (b2 .before .is-word2 .ensures) ∙ b2 .if2 .left,
-      sym (b3 .before .is-word3 .ensures) ∙ b3 .if3 .left,
-      sym (b4 .before .is-word4 .ensures) ∙ b4 .if4 .left,
-      sym (b5 .before .is-word5 .ensures) ∙ b5 .if5 .left,
-      sym (b6 .before .is-word6 .ensures) ∙ b6 .if6 .left,
-      sym (c .before .is-word7 .ensures) ∙ c .if7 .taken,
-    )
+    next-case 1 (no1 b1)
+    (next-case 2 (no2 b2)
+    (next-case 3 (no3 b3)
+    (next-case 4 (no4 b4)
+    (next-case 5 (no5 b5)
+    (next-case 6 (no6 b6)
+    (this-case _ (sym (c .before .is-word7 .ensures) ∙ c .if7 .taken)))))))
+
+abbrev word7 : tie.Else7 → List ℕ
+word7 c = word6 (c .before .before .before)
+
+no7 : (c : tie.Else7) → sameBytes (word7 c) (bytesOf "issue") ≡ false
+no7 c = sym (c .before .is-word7 .ensures) ∙ c .if7 .left
 
 slice-aggregate-is-word-8 : tie.Need-slice-aggregate-is-word-8
 slice-aggregate-is-word-8 c = search needs
@@ -152,16 +187,20 @@ returns-8 c =
     let b3 = b4 .before .before .before in
     let b2 = b3 .before .before .before in
     let b1 = b2 .before .before .before in
-    simp (
-      sym (b1 .before .is-word .ensures) ∙ b1 .if1 .left,
-      sym (b2 .before .is-word2 .ensures) ∙ b2 .if2 .left,
-      sym (b3 .before .is-word3 .ensures) ∙ b3 .if3 .left,
-      sym (b4 .before .is-word4 .ensures) ∙ b4 .if4 .left,
-      sym (b5 .before .is-word5 .ensures) ∙ b5 .if5 .left,
-      sym (b6 .before .is-word6 .ensures) ∙ b6 .if6 .left,
-      sym (b7 .before .is-word7 .ensures) ∙ b7 .if7 .left,
-      sym (c .before .is-word8 .ensures) ∙ c .if8 .taken,
-    )
+    next-case 1 (no1 b1)
+    (next-case 2 (no2 b2)
+    (next-case 3 (no3 b3)
+    (next-case 4 (no4 b4)
+    (next-case 5 (no5 b5)
+    (next-case 6 (no6 b6)
+    (next-case 7 (no7 b7)
+    (this-case _ (sym (c .before .is-word8 .ensures) ∙ c .if8 .taken))))))))
+
+abbrev word8 : tie.Else8 → List ℕ
+word8 c = word7 (c .before .before .before)
+
+no8 : (c : tie.Else8) → sameBytes (word8 c) (bytesOf "drop") ≡ false
+no8 c = sym (c .before .is-word8 .ensures) ∙ c .if8 .left
 
 slice-aggregate-is-word-9 : tie.Need-slice-aggregate-is-word-9
 slice-aggregate-is-word-9 c = search needs
@@ -180,21 +219,26 @@ returns-9 c =
     let b3 = b4 .before .before .before in
     let b2 = b3 .before .before .before in
     let b1 = b2 .before .before .before in
-    simp (
-      sym (b1 .before .is-word .ensures) ∙ b1 .if1 .left,
-      sym (b2 .before .is-word2 .ensures) ∙ b2 .if2 .left,
-      sym (b3 .before .is-word3 .ensures) ∙ b3 .if3 .left,
-      sym (b4 .before .is-word4 .ensures) ∙ b4 .if4 .left,
-      sym (b5 .before .is-word5 .ensures) ∙ b5 .if5 .left,
-      sym (b6 .before .is-word6 .ensures) ∙ b6 .if6 .left,
-      sym (b7 .before .is-word7 .ensures) ∙ b7 .if7 .left,
-      sym (b8 .before .is-word8 .ensures) ∙ b8 .if8 .left,
-      sym (c .before .is-word9 .ensures) ∙ c .if9 .taken,
-    )
+    next-case 1 (no1 b1)
+    (next-case 2 (no2 b2)
+    (next-case 3 (no3 b3)
+    (next-case 4 (no4 b4)
+    (next-case 5 (no5 b5)
+    (next-case 6 (no6 b6)
+    (next-case 7 (no7 b7)
+    (next-case 8 (no8 b8)
+    (this-case _ (sym (c .before .is-word9 .ensures) ∙ c .if9 .taken)))))))))
+
+abbrev word9 : tie.Else9 → List ℕ
+word9 c = word8 (c .before .before .before)
+
+no9 : (c : tie.Else9) → sameBytes (word9 c) (bytesOf "look") ≡ false
+no9 c = sym (c .before .is-word9 .ensures) ∙ c .if9 .left
 
 returns-10 : tie.Need-returns-10
 unfolding commandOf
 returns-10 c =
+    let b9 = c in
     let b8 = c .before .before .before in
     let b7 = b8 .before .before .before in
     let b6 = b7 .before .before .before in
@@ -203,17 +247,15 @@ returns-10 c =
     let b3 = b4 .before .before .before in
     let b2 = b3 .before .before .before in
     let b1 = b2 .before .before .before in
-    simp (
-      sym (b1 .before .is-word .ensures) ∙ b1 .if1 .left,
-      sym (b2 .before .is-word2 .ensures) ∙ b2 .if2 .left,
-      sym (b3 .before .is-word3 .ensures) ∙ b3 .if3 .left,
-      sym (b4 .before .is-word4 .ensures) ∙ b4 .if4 .left,
-      sym (b5 .before .is-word5 .ensures) ∙ b5 .if5 .left,
-      sym (b6 .before .is-word6 .ensures) ∙ b6 .if6 .left,
-      sym (b7 .before .is-word7 .ensures) ∙ b7 .if7 .left,
-      sym (b8 .before .is-word8 .ensures) ∙ b8 .if8 .left,
-      sym (c .before .is-word9 .ensures) ∙ c .if9 .left,
-    )
+    next-case 1 (no1 b1)
+    (next-case 2 (no2 b2)
+    (next-case 3 (no3 b3)
+    (next-case 4 (no4 b4)
+    (next-case 5 (no5 b5)
+    (next-case 6 (no6 b6)
+    (next-case 7 (no7 b7)
+    (next-case 8 (no8 b8)
+    (next-case 9 (no9 b9) refl))))))))
 
 pub command-number-spec : {M : Type 1} → statement M
 command-number-spec =

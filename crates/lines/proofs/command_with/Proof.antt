@@ -2,7 +2,7 @@
 -- definition. Assumes nothing.
 use borrow.Author.Needs.{needs}
 use native.Mathlib.Omega.{arith}
-use mathlib.Core.Path.{_≡_, sym, _∙_}
+use mathlib.Core.Path.{_≡_, refl, sym, _∙_}
 use mathlib.Core.Bool.{true}
 use borrow.Author.Tests.{eqb-true, ltb-true, ne-eqb, not-true, not-false}
 use Rattle.model.specs.Calls.{fetch, evict, prepare, step, issue, dropRun, look}
@@ -10,6 +10,7 @@ use Rattle.layout.specs.Calls.{new, on}
 use Rattle.lines.specs.Counts.{fits}
 use Rattle.lines.specs.Grammar.{callOf, spelled, numbersEnd}
 use Rattle.lines.proofs.Calls.{miscounted-first, of-one, of-two, of-three, of-four, of-open}
+use Rattle.lines.proofs.Chain.{next-case}
 use Rattle.lines.proofs.command_with.Statement.{statement}
 use Rattle.lines.proofs.command_with.Tie as tie
 
@@ -149,17 +150,15 @@ returns-11 c =
     let r3 = r4 .0 in
     let r2 = r3 .0 in
     let r1 = r2 .0 in (
-      simp (
-        ne-eqb _ _ (r1 .1),
-        ne-eqb _ _ (r2 .1),
-        ne-eqb _ _ (r3 .1),
-        ne-eqb _ _ (r4 .1),
-        ne-eqb _ _ (r5 .1),
-        ne-eqb _ _ (r6 .1),
-        ne-eqb _ _ (r7 .1),
-        ne-eqb _ _ (r8 .1),
-        ne-eqb _ _ (r9 .1),
-      ),
+      next-case _ (ne-eqb _ _ (r1 .1))
+          (next-case _ (ne-eqb _ _ (r2 .1))
+          (next-case _ (ne-eqb _ _ (r3 .1))
+          (next-case _ (ne-eqb _ _ (r4 .1))
+          (next-case _ (ne-eqb _ _ (r5 .1))
+          (next-case _ (ne-eqb _ _ (r6 .1))
+          (next-case _ (ne-eqb _ _ (r7 .1))
+          (next-case _ (ne-eqb _ _ (r8 .1))
+          (next-case _ (ne-eqb _ _ (r9 .1)) refl)))))))),
       omega arith,
     )
 

@@ -54,14 +54,15 @@ loop-again c =
     let s = k .step-byte .ensures in
     let t = k .before .before .before .before .before .before .before .before in
     let o = t .loop in
-    let b = t .before .before .before .before .before .before .before .args .chunk .now in (
+    let b = t .before .before .before .before .before .before .before .args .chunk .now in
+    let m = k .step-byte .kept in (
       omega arith,
-      omega arith,
-      omega arith,
-      omega arith,
-      omega arith,
-      omega arith,
-      omega arith,
+      omega (arith, m, o .inv),
+      omega (arith, m, o .inv),
+      omega (arith, m, o .inv),
+      omega (arith, m, o .inv),
+      omega (arith, m, o .inv),
+      omega (arith, s, o .inv),
       s .0,
       s .1 .0
           ∙ ap (λ p. byteStep p (getD b (o .i) 0)) (o .inv .8)

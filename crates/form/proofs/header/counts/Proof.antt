@@ -31,7 +31,11 @@ wide-requires-4 c κs = search needs
 
 returns : tie.Need-returns
 unfolding countsIn
-returns c = cc
+returns c =
+    let w3 = c .before .before in
+    let w2 = w3 .before .before in
+    let w1 = w2 .before .before in
+    rw (w1 .wide .ensures, w2 .wide2 .ensures, w3 .wide3 .ensures, c .wide4 .ensures)
 
 pub counts-spec : {M : Type 1} → statement M
 counts-spec =

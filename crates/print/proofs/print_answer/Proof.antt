@@ -1,11 +1,11 @@
--- `lines::print_answer` meets its contract: the word, the numbers, the line's end.
+-- `print::print_answer` meets its contract: the word, the numbers, the line's end.
 -- Assumes nothing.
 use borrow.Author.Needs.{needs}
 use native.Mathlib.Omega.{arith}
 use lib.ListN.{take}
-use Rattle.lines.proofs.Words.{answer-parts}
-use Rattle.lines.proofs.print.print_answer.Statement.{statement}
-use Rattle.lines.proofs.print.print_answer.Tie as tie
+use Rattle.print.proofs.Words.{answer-parts}
+use Rattle.print.proofs.print_answer.Statement.{statement}
+use Rattle.print.proofs.print_answer.Tie as tie
 
 shared-slice-read-put-word : tie.Need-shared-slice-read-put-word
 shared-slice-read-put-word c = search needs

@@ -1,9 +1,9 @@
--- `lines::print_unread` meets its contract. Assumes nothing.
+-- `print::print_unread` meets its contract. Assumes nothing.
 use borrow.Author.Needs.{needs}
 use native.Mathlib.Omega.{arith}
-use Rattle.lines.specs.Print.{unreadText}
-use Rattle.lines.proofs.print.print_unread.Statement.{statement}
-use Rattle.lines.proofs.print.print_unread.Tie as tie
+use Rattle.print.specs.Print.{unreadText}
+use Rattle.print.proofs.print_unread.Statement.{statement}
+use Rattle.print.proofs.print_unread.Tie as tie
 
 slice-aggregate-put-bytes : tie.Need-slice-aggregate-put-bytes
 slice-aggregate-put-bytes c = search needs

@@ -4,7 +4,7 @@ ghost use mathlib.Core.List.{_∷_, _++_};
 ghost use Prim.Native.Nat.{_+_, _*_, _≤_, _<_};
 ghost use lib.ListN.{length, take, drop};
 ghost use Rattle.text.specs.Decimal.{decimalOf};
-ghost use Rattle.lines.specs.Print.{answerWord, numbersText, answerText, unreadText};
+ghost use Rattle.print.specs.Print.{answerWord, numbersText, answerText, unreadText};
 
 // `ok`, `broken` or `refused`.
 fn put_word(out: &mut [u8], at: usize, kind: u32) -> usize

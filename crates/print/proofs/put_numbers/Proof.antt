@@ -1,14 +1,14 @@
--- `lines::print::put_numbers` meets its contract: what is put and what is left make the whole at
+-- `print::put_numbers` meets its contract: what is put and what is left make the whole at
 -- each turn. Assumes nothing.
 use native.Mathlib.Omega.{arith}
 use mathlib.Core.Path.{_≡_, refl, sym, _∙_}
 use mathlib.Core.List.{_++_}
 use Prim.Native.Nat.{_+_, _*_, _-_, _<_, _≤_}
 use lib.ListN.{length, take, drop}
-use Rattle.lines.specs.Print.{numbersText}
-use Rattle.lines.proofs.Words.{numbers-more, numbers-end}
-use Rattle.lines.proofs.print.put_numbers.Statement.{statement}
-use Rattle.lines.proofs.print.put_numbers.Tie as tie
+use Rattle.print.specs.Print.{numbersText}
+use Rattle.print.proofs.Words.{numbers-more, numbers-end}
+use Rattle.print.proofs.put_numbers.Statement.{statement}
+use Rattle.print.proofs.put_numbers.Tie as tie
 
 abbrev Inv-loop : tie.InvT-loop
 Inv-loop out₀ at answer end₀ i₀ out end i =

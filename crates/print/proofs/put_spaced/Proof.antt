@@ -1,4 +1,4 @@
--- `lines::print::put_spaced` meets its contract: a space, then the digits, of which a word has ten
+-- `print::put_spaced` meets its contract: a space, then the digits, of which a word has ten
 -- at most. Assumes nothing.
 use borrow.Author.Needs.{needs}
 use native.Mathlib.Omega.{arith}
@@ -7,8 +7,8 @@ use lib.ListN.{take}
 use Rattle.text.specs.Decimal.{decimalOf}
 use Rattle.text.proofs.Puts.{put-both}
 use Rattle.text.proofs.Decimals.{decimal-length}
-use Rattle.lines.proofs.print.put_spaced.Statement.{statement}
-use Rattle.lines.proofs.print.put_spaced.Tie as tie
+use Rattle.print.proofs.put_spaced.Statement.{statement}
+use Rattle.print.proofs.put_spaced.Tie as tie
 
 put-byte-requires : tie.Need-put-byte-requires
 put-byte-requires c κs = search needs

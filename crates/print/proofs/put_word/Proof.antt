@@ -1,9 +1,9 @@
--- `lines::print::put_word` meets its contract: each arm puts its word. Assumes nothing.
+-- `print::put_word` meets its contract: each arm puts its word. Assumes nothing.
 use borrow.Author.Needs.{needs}
 use native.Mathlib.Omega.{arith}
-use Rattle.lines.proofs.Words.{ok-word, broken-word, refused-word}
-use Rattle.lines.proofs.print.put_word.Statement.{statement}
-use Rattle.lines.proofs.print.put_word.Tie as tie
+use Rattle.print.proofs.Words.{ok-word, broken-word, refused-word}
+use Rattle.print.proofs.put_word.Statement.{statement}
+use Rattle.print.proofs.put_word.Tie as tie
 
 slice-aggregate-put-bytes : tie.Need-slice-aggregate-put-bytes
 slice-aggregate-put-bytes c = search needs

@@ -12,7 +12,7 @@ use lib.Seq.{drop-cons}
 use Rattle.text.specs.Bytes.{bytesOf}
 use Rattle.text.specs.Decimal.{decimalOf}
 use Rattle.text.proofs.Puts.{put-both}
-use Rattle.lines.specs.Print.{answerWord, numbersText, answerText}
+use Rattle.print.specs.Print.{answerWord, numbersText, answerText}
 
 pub ok-word : (t : ℕ) → t ≡ 0 → answerWord t ≡ bytesOf "ok"
 unfolding answerWord
