@@ -47,11 +47,7 @@ fn main() -> io::Result<()> {
 /// One plot: a few calls that belong together.
 fn one_plot(teller: &mut Teller) {
     match teller.below(100) {
-        0..=24 => plots::break_a_run(teller),
-        25..=36 => plots::issue_rivals(teller),
-        37..=49 => everyday::prepared_run(teller),
-        50..=53 => everyday::prepare_again(teller),
-        54..=57 => everyday::plain_run(teller),
+        number @ 0..=57 => plots::of_runs(teller, number),
         58..=65 => everyday::fetch_and_evict(teller),
         66..=77 => everyday::any_call(teller),
         78..=89 => odd::refused(teller),

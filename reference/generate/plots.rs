@@ -3,7 +3,19 @@
 use crate::desk::layout::has;
 use crate::desk::version::needs;
 use crate::desk::{Answer, FREE};
+use crate::everyday;
 use crate::teller::Teller;
+
+/// A plot of runs, by a number below 58.
+pub fn of_runs(t: &mut Teller, number: usize) {
+    match number {
+        0..=24 => break_a_run(t),
+        25..=36 => issue_rivals(t),
+        37..=49 => everyday::prepared_run(t),
+        50..=53 => everyday::prepare_again(t),
+        _ => everyday::plain_run(t),
+    }
+}
 
 /// A new desk, mostly small, so that sheets and writers meet often.
 pub fn fresh_desk(t: &mut Teller) {

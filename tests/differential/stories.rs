@@ -83,11 +83,7 @@ fn tell(
 /// A few calls that belong together, as the generated scripts have them.
 fn plot(teller: &mut Teller) {
     match teller.below(100) {
-        0..=24 => plots::break_a_run(teller),
-        25..=36 => plots::issue_rivals(teller),
-        37..=49 => everyday::prepared_run(teller),
-        50..=53 => everyday::prepare_again(teller),
-        54..=57 => everyday::plain_run(teller),
+        number @ 0..=57 => plots::of_runs(teller, number),
         58..=69 => everyday::fetch_and_evict(teller),
         70..=85 => everyday::any_call(teller),
         _ => odd::refused(teller),
