@@ -44,16 +44,18 @@ want 2 "two files" ./sheetdesk "$work/good" "$work/good"
 want 0 "--help" ./sheetdesk --help
 same docs/USER.md "--help"
 
-# By hand: the answer to a line comes before the input ends.
+# By hand: the answer to a line comes before the input ends. Into a file of its own: that of the last command is there
+# until the redirection empties it.
 mkfifo "$work/in" || exit 2
-./sheetdesk <"$work/in" >"$work/out" 2>"$work/err" &
+: >"$work/prompt"
+./sheetdesk <"$work/in" >"$work/prompt" 2>"$work/err" &
 exec 3>"$work/in"
 printf 'new 2 2 2 1\n' >&3
-for wait in 1 2 3 4 5 6 7 8 9 10; do
-  [ -s "$work/out" ] && break
+for wait in {1..50}; do
+  [ "$(cat "$work/prompt")" = "ok 88" ] && break
   sleep 0.2
 done
-[ "$(cat "$work/out")" = "ok 88" ] || { echo "command: no answer before the input ended"; exit 1; }
+[ "$(cat "$work/prompt")" = "ok 88" ] || { echo "command: no answer before the input ended"; exit 1; }
 exec 3>&-
 wait $!
 echo "command: options, files, exit statuses and prompt answers as the user page says"
