@@ -4,7 +4,7 @@ use native.Mathlib.Omega.{arith}
 use mathlib.Core.Path.{refl}
 use lib.ListN.{length-set}
 use borrow.Author.Needs.{needs}
-use Rattle.answers.proofs.Fronts.{front-two}
+use Rattle.answers.proofs.Fronts.{over-two}
 use Rattle.answers.proofs.put_two.Statement.{statement}
 use Rattle.answers.proofs.put_two.Tie as tie
 
@@ -18,8 +18,10 @@ same-length : tie.Need-same-length
 same-length c = search needs
 
 returns : tie.Need-returns
-returns c =
-    (front-two (c .args .answer .now) (c .args .outcome) (c .args .number) (c .pre), refl)
+returns c = record {
+  laid = over-two (c .args .answer .now) (c .args .first) (c .args .number) (omega (arith, c .pre));
+  count = refl;
+}
 
 pub put-two-spec : {M : Type 1} → statement M
 put-two-spec = tie.close (tie.spec slice-write-answer slice-write-answer-2 same-length returns)
