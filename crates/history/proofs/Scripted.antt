@@ -22,14 +22,14 @@ use Rattle.model.specs.Version.{Version, held, dependency, supersedes, larger, 
 use Rattle.model.specs.Sets.{draws, drawSet, fetchSet, fetched, unfetchable, evictSet, evicted, pullSet, pulled}
 use Rattle.model.specs.Store.{Store, fresh, planned, withMaster, withLast, withSites, withCache, withWriter, withRun, withState, withSnapshot, withJobDone}
 use Rattle.model.specs.Form.{validJob}
-use Rattle.model.specs.Outcome.{refuse, unless, allowed, runCause}
+use Rattle.model.specs.Outcome.{refuse, unless, replied, allowed, runCause}
 use Rattle.model.specs.Caches.{fetchCause, fetchDone, fetchRule, evictCause, evictDone, evictRule}
 use Rattle.model.specs.Runs.{listedJob, listedCount, listedJobs, listValid, openCause, openedRun, openDone, openRule, dropCause, dropDone, dropRule}
 use Rattle.model.specs.Prepare.{jobStart, fetchReads, preparedCaches, unpreparable, usesSite, sitesMerged, siteCaches, prepareCause, prepareCaches, prepareSnapshot, prepareDone, prepareRule}
 use Rattle.model.specs.Step.{readStart, stepSite, stepReads, stepStart, stepFetch, stepCache, stepPlan, stepPull, stepSnapshot, stepMoved, jobLimit, notReady, jobCause, stepCause, stepBroken, stepDone, stepRule}
 use Rattle.model.specs.Issue.{raiseCause, issueCause, takenIn, rowsSet, newPast, newVersion, issuedMaster, issuedWriter, savedStore, issuedStore, issuedNumber, issueDone, issueRule}
-use Rattle.model.specs.Look.{lookPlace, lookLimit, lookCause, rowNumbers, lookDone, lookRule}
-use Rattle.model.specs.Calls.{StoreCall, openRun, fetch, step, issue, ruleOf}
+use Rattle.model.specs.Look.{lookPlace, lookLimit, lookCause, rowNumbers, lookNumbers, lookReply}
+use Rattle.model.specs.Calls.{StoreCall, openRun, fetch, step, issue, replyOf, ruleOf}
 use Rattle.model.proofs.Outcomes.{nextStore}
 use Rattle.model.proofs.Scripts.{case-a-script, longer-script, reading-script}
 use Rattle.layout.specs.Words.{clockWords, pastWords, versionWords, placeWords, siteWords, sitesWords, writerWords, writersWords, jobWords, jobsWords, runWords, runsWords, headerWords, storeWords}
@@ -144,17 +144,17 @@ unfolding anyBelow allBelow only foldBelow countBelow largest when putAt upto bl
     versionSize placeSize siteSize writerSize runSize masterAt sitesAt writersAt runsAt totalOf
     lacking held dependency supersedes larger merge draws drawSet fetchSet fetched unfetchable
     evictSet evicted pullSet pulled fresh planned withMaster withLast withSites withCache
-    withWriter withRun withState withSnapshot withJobDone validJob refuse unless allowed runCause
-    fetchCause fetchDone fetchRule evictCause evictDone evictRule listedJob listedCount
+    withWriter withRun withState withSnapshot withJobDone validJob refuse unless allowed
+    runCause fetchCause fetchDone fetchRule evictCause evictDone evictRule listedJob listedCount
     listedJobs listValid openCause openedRun openDone openRule dropCause dropDone dropRule
-    jobStart fetchReads preparedCaches unpreparable usesSite sitesMerged siteCaches
-    prepareCause prepareCaches prepareSnapshot prepareDone prepareRule readStart stepSite
-    stepReads stepStart stepFetch stepCache stepPlan stepPull stepSnapshot stepMoved jobLimit
-    notReady jobCause stepCause stepBroken stepDone stepRule raiseCause issueCause takenIn rowsSet
-    newPast newVersion issuedMaster issuedWriter savedStore issuedStore issuedNumber issueDone
-    issueRule lookPlace lookLimit lookCause rowNumbers lookDone lookRule ruleOf clockWords
-    pastWords versionWords placeWords siteWords sitesWords writerWords writersWords jobWords
-    jobsWords runWords runsWords headerWords storeWords readClock readPast readVersion
+    jobStart fetchReads preparedCaches unpreparable usesSite sitesMerged siteCaches prepareCause
+    prepareCaches prepareSnapshot prepareDone prepareRule readStart stepSite stepReads stepStart
+    stepFetch stepCache stepPlan stepPull stepSnapshot stepMoved jobLimit notReady jobCause
+    stepCause stepBroken stepDone stepRule raiseCause issueCause takenIn rowsSet newPast
+    newVersion issuedMaster issuedWriter savedStore issuedStore issuedNumber issueDone issueRule
+    lookPlace lookLimit lookCause rowNumbers lookNumbers lookReply replied replyOf ruleOf
+    clockWords pastWords versionWords placeWords siteWords sitesWords writerWords writersWords
+    jobWords jobsWords runWords runsWords headerWords storeWords readClock readPast readVersion
     readPlace readSite readWriter readJob readJobs readRun countsIn storeOf isOk writerOf leads
     inPast reaches heldCopy needsCopy meetsCopy union lastIn byWriter counted freshBook
     withBookCaches withBookRun bookOpen bookFetch bookEvict bookPrepare bookStepJob entry

@@ -10,7 +10,7 @@ use Rattle.words.proofs.Bools.{and-intro, and-left, and-right}
 use Rattle.sizes.specs.Bounds.{Ranged}
 use Rattle.model.specs.Store.{Store}
 use Rattle.model.specs.Form.{wellFormed}
-use Rattle.model.specs.Outcome.{Outcome, refused, broken, done}
+use Rattle.model.specs.Outcome.{Outcome, refused, broken, done, told}
 use Rattle.model.specs.Calls.{StoreCall, ruleOf}
 use Rattle.model.proofs.Outcomes.{nextStore}
 use Rattle.layout.specs.Reading.{storeOf}
@@ -43,6 +43,7 @@ unfolding leaves
 left (refused n) s l e = refl
 left (broken m t) s l e = written-twice s t l e
 left (done a t) s l e = written-twice s t l e
+left (told w a) s l e = refl
 
 pub fine-leaves : (c : StoreCall) (s : Store) (l : List ℕ) → Fine s
     → nextStore (ruleOf c s) s .counts ≡ s .counts

@@ -1,20 +1,21 @@
 -- A call on a buffer that is in form, and on one that isn't.
 -- no-form: refused. form-rule: the rule on the store. form-refused, form-done: by its cause.
 -- form-kept: the buffer is in form after it.
+-- ask-..: a call that only answers.
 -- Assumes nothing.
-use mathlib.Core.Path.{_≡_, _∙_}
+use mathlib.Core.Path.{_≡_, refl, _∙_}
 use mathlib.Core.Bool.{false, So}
 use mathlib.Core.Logic.{_≢_}
 use mathlib.Core.List.{List}
 use Prim.Native.Nat.{ℕ}
-use Rattle.words.proofs.Bools.{ne-eqb}
+use Rattle.words.proofs.Bools.{test, ne-eqb}
 use Rattle.model.specs.Store.{Store}
-use Rattle.model.specs.Outcome.{Outcome, refused, broken, done, unless}
-use Rattle.model.specs.Calls.{StoreCall, ruleOf}
+use Rattle.model.specs.Outcome.{Outcome, refused, broken, done, told, unless, Reply, replied}
+use Rattle.model.specs.Calls.{StoreCall, Query, ask, replyOf, ruleOf}
 use Rattle.layout.specs.Reading.{storeOf}
 use Rattle.layout.specs.Buffer.{inForm}
 use Rattle.layout.specs.Calls.{on, onStore, callOn, leaves}
-use Rattle.model.proofs.Outcomes.{nextStore}
+use Rattle.model.proofs.Outcomes.{nextStore, replied-cases, replied-told, replied-refused}
 use Rattle.layout.proofs.Follow.{Fine, fine-form, form-fine}
 use Rattle.layout.proofs.Rules.{rule-kept}
 
@@ -24,6 +25,7 @@ unfolding leaves
 left-form (refused n) s l F K = F
 left-form (broken m t) s l F K = fine-form t l K
 left-form (done a t) s l F K = fine-form t l K
+left-form (told w a) s l F K = F
 
 module _ (c : StoreCall) (l : List ℕ) where
   pub no-form : inForm l ≡ false → callOn (on c) l ≡ refused 1
@@ -50,3 +52,29 @@ module _ (c : StoreCall) (l : List ℕ) where
       let s = storeOf l in
       rw (form-rule F)
       (left-form (ruleOf c s) s l F (rule-kept c s (form-fine l F) .fine))
+
+-- ---- a call that only answers
+
+pub replied-leaves : (a : Reply) (l : List ℕ) → leaves (replied a) l ≡ l
+unfolding leaves
+replied-leaves a l = replied-cases (λ x. leaves x l ≡ l) a refl refl
+
+module _ (q : Query) (l : List ℕ) where
+  ask-rule : So (inForm l) → callOn (on (ask q)) l ≡ replied (replyOf q (storeOf l))
+  unfolding ruleOf
+  ask-rule F = form-rule (ask q) l F
+
+  pub ask-refused : So (inForm l) → replyOf q (storeOf l) .cause ≢ 0
+      → callOn (on (ask q)) l ≡ refused (replyOf q (storeOf l) .cause)
+  ask-refused F n = ask-rule F ∙ replied-refused (replyOf q (storeOf l)) n
+
+  pub ask-told : So (inForm l) → let a = replyOf q (storeOf l) in
+      a .cause ≡ 0 → callOn (on (ask q)) l ≡ told (a .word) (a .numbers)
+  ask-told F e = ask-rule F ∙ replied-told (replyOf q (storeOf l)) e
+
+  -- Any buffer, in form or not.
+  pub ask-leaves : leaves (callOn (on (ask q)) l) l ≡ l
+  unfolding leaves
+  ask-leaves =
+      test (inForm l) (λ F. rw (ask-rule F) (replied-leaves (replyOf q (storeOf l)) l))
+      (λ e. rw (no-form (ask q) l e))

@@ -1,6 +1,6 @@
 -- What every rule keeps: a fine store stays fine, with the same counts.
--- Kept: of an outcome. kept-..: by how a rule ends.
--- look-kept, drop-kept, fetch-kept, evict-kept: of these rules.
+-- Kept: of an outcome. kept-..: by how a rule ends; kept-replied: of each call that only answers.
+-- drop-kept, fetch-kept, evict-kept: of these rules.
 -- Assumes nothing.
 use mathlib.Core.Path.{_≡_, refl}
 use mathlib.Core.List.{List}
@@ -14,11 +14,10 @@ use Rattle.model.specs.Algebra.{Place}
 use Rattle.model.specs.Version.{Version, versions}
 use Rattle.model.specs.Sets.{fetchSet, fetched, evictSet, evicted}
 use Rattle.model.specs.Store.{Store, emptyPlace, freeRun, fresh, withSites, withCache, withRun}
-use Rattle.model.specs.Outcome.{Outcome, refused, broken, done, unless, runCause}
+use Rattle.model.specs.Outcome.{Outcome, refused, broken, done, unless, Reply, replied, runCause}
 use Rattle.model.specs.Caches.{fetchCause, fetchDone, fetchRule, evictCause, evictDone, evictRule}
 use Rattle.model.specs.Runs.{dropCause, dropDone, dropRule}
-use Rattle.model.specs.Look.{lookCause, lookDone, lookRule}
-use Rattle.model.proofs.Outcomes.{no-cause, unless-cases, nextStore}
+use Rattle.model.proofs.Outcomes.{no-cause, unless-cases, nextStore, replied-cases}
 use Rattle.layout.proofs.Parts.{FitPlace}
 use Rattle.layout.proofs.Whole.{FitStore}
 use Rattle.layout.proofs.Fit.{fit-empty, fit-free, fit-choice, fit-cache, fit-run, fresh-fits}
@@ -51,6 +50,10 @@ pub kept-unless : (s : Store) (n : ℕ) (x : Outcome) → Fine s → (n ≡ 0 �
     → Kept s (unless n x)
 kept-unless s n x F f = unless-cases (Kept s) n x f (λ _. kept-refused s n F)
 
+pub kept-replied : (s : Store) (a : Reply) → Fine s → Kept s (replied a)
+kept-replied s a F =
+    replied-cases (Kept s) a (record { fine = F; counts = refl }) (kept-refused s (a .cause) F)
+
 -- ---- a fresh store
 
 pub fresh-fine : (z : Counts) → Ranged z → Fine (fresh z)
@@ -65,13 +68,7 @@ fresh-fine z R = record {
   });
 }
 
--- ---- look and drop
-
-pub look-kept : (p i k : ℕ) (s : Store) → Fine s → Kept s (lookRule p i k s)
-unfolding lookRule lookDone
-look-kept p i k s F =
-    kept-unless s (lookCause s p i k) (lookDone s p i k) F
-    (λ _. kept-done s s _ F (F .fits) (well-out s (F .formed)) refl)
+-- ---- drop
 
 pub drop-kept : (r : ℕ) (s : Store) → Fine s → Kept s (dropRule r s)
 unfolding dropRule dropDone dropCause runCause withRun

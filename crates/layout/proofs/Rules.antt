@@ -11,12 +11,12 @@ use Rattle.sizes.specs.declared.Counts.{Counts}
 use Rattle.sizes.proofs.Offsets.{ranged-out}
 use Rattle.model.specs.Store.{Store, fresh}
 use Rattle.model.specs.Outcome.{refused, done}
-use Rattle.model.specs.Calls.{StoreCall, openRun, fetch, evict, prepare, step, issue, dropRun, look, ruleOf}
+use Rattle.model.specs.Calls.{StoreCall, openRun, fetch, evict, prepare, step, issue, dropRun, ask, replyOf, ruleOf}
 use Rattle.model.proofs.Outcomes.{no-lack, unless-done, unless-refused, nextStore}
 use Rattle.layout.specs.Buffer.{written}
 use Rattle.layout.specs.Calls.{Call, new, on, newCause, newOn, callOn, leaves, after}
 use Rattle.layout.proofs.Follow.{Fine, fine-leaves}
-use Rattle.layout.proofs.Kept.{Kept, fresh-fine, look-kept, drop-kept, fetch-kept, evict-kept}
+use Rattle.layout.proofs.Kept.{Kept, fresh-fine, kept-replied, drop-kept, fetch-kept, evict-kept}
 use Rattle.layout.proofs.KeptOpen.{open-kept}
 use Rattle.layout.proofs.KeptPrepare.{prepare-kept}
 use Rattle.layout.proofs.KeptStep.{step-kept}
@@ -31,7 +31,7 @@ rule-kept (prepare r) s F = prepare-kept r s F
 rule-kept (step r j) s F = step-kept r j s F
 rule-kept (issue r w S) s F = issue-kept r w S s F
 rule-kept (dropRun r) s F = drop-kept r s F
-rule-kept (look p i k) s F = look-kept p i k s F
+rule-kept (ask q) s F = kept-replied s (replyOf q s) F
 
 -- An accepted new leaves a fine store in any buffer.
 pub new-fine : (l : List ℕ) (k w n p : ℕ) → newCause l (countsOf k w n p) ≡ 0

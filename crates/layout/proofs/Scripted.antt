@@ -17,14 +17,14 @@ use Rattle.model.specs.Version.{held, dependency, supersedes, larger, merge}
 use Rattle.model.specs.Sets.{draws, drawSet, fetchSet, fetched, unfetchable, evictSet, evicted, pullSet, pulled}
 use Rattle.model.specs.Store.{fresh, planned, doneReads, withMaster, withLast, withSites, withCache, withWriter, withRun, withState, withSnapshot, withJobDone}
 use Rattle.model.specs.Form.{zeroRows, versionFormed, placeFormed, validJob, zeroJob, freeFormed, jobsFormed, masksFormed, snapshotFormed, runFormed, wellFormed}
-use Rattle.model.specs.Outcome.{answer, refuse, unless, allowed, runCause}
+use Rattle.model.specs.Outcome.{answer, refuse, unless, replied, allowed, runCause}
 use Rattle.model.specs.Caches.{fetchCause, fetchDone, fetchRule, evictCause, evictDone, evictRule}
 use Rattle.model.specs.Runs.{listedJob, listedCount, listedJobs, listValid, openCause, openedRun, openDone, openRule, dropCause, dropDone, dropRule}
 use Rattle.model.specs.Prepare.{jobStart, fetchReads, preparedCaches, unpreparable, usesSite, sitesMerged, siteCaches, prepareCause, prepareCaches, prepareSnapshot, prepareDone, prepareRule}
 use Rattle.model.specs.Step.{readStart, stepSite, stepReads, stepStart, stepFetch, stepCache, stepPlan, stepPull, stepSnapshot, stepMoved, jobLimit, notReady, jobCause, stepCause, stepBroken, stepDone, stepRule}
 use Rattle.model.specs.Issue.{raiseCause, issueCause, takenIn, rowsSet, newPast, newVersion, issuedMaster, issuedWriter, savedStore, issuedStore, issuedNumber, issueDone, issueRule}
-use Rattle.model.specs.Look.{lookPlace, lookLimit, lookCause, rowNumbers, lookDone, lookRule}
-use Rattle.model.specs.Calls.{ruleOf}
+use Rattle.model.specs.Look.{lookPlace, lookLimit, lookCause, rowNumbers, lookNumbers, lookReply}
+use Rattle.model.specs.Calls.{replyOf, ruleOf}
 use Rattle.model.proofs.Scripts.{ok₁, not-taken, case-a-script, case-a-answers, longer-script, longer-answers}
 use Rattle.layout.specs.Words.{clockWords, pastWords, versionWords, placeWords, siteWords, sitesWords, writerWords, writersWords, jobWords, jobsWords, runWords, runsWords, headerWords, storeWords}
 use Rattle.layout.specs.Reading.{readClock, readPast, readVersion, readPlace, readSite, readWriter, readJob, readJobs, readRun, countsIn, storeOf}
@@ -99,9 +99,9 @@ unfolding anyBelow allBelow only foldBelow putAt upto blocks testBit withBit wit
     stepMoved jobLimit notReady jobCause stepCause stepBroken stepDone stepRule raiseCause
     issueCause takenIn rowsSet newPast newVersion issuedMaster issuedWriter savedStore
     issuedStore issuedNumber issueDone issueRule lookPlace lookLimit lookCause rowNumbers
-    lookDone lookRule ruleOf clockWords pastWords versionWords placeWords siteWords sitesWords
-    writerWords writersWords jobWords jobsWords runWords runsWords headerWords storeWords
-    readClock readPast readVersion readPlace readSite readWriter readJob readJobs readRun
-    countsIn storeOf written headerRight shaped inForm newCause newOn onStore callOn leaves
-    outcomes after
+    lookNumbers lookReply replied replyOf ruleOf clockWords pastWords versionWords placeWords
+    siteWords sitesWords writerWords writersWords jobWords jobsWords runWords runsWords
+    headerWords storeWords readClock readPast readVersion readPlace readSite readWriter readJob
+    readJobs readRun countsIn storeOf written headerRight shaped inForm newCause newOn onStore
+    callOn leaves outcomes after
 scripted = record { case-a = refl; case-a-past = refl; longer = refl }

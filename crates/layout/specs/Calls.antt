@@ -5,12 +5,12 @@
 use mathlib.Core.Bool.{Bool, true, false, cond, not}
 use mathlib.Core.List.{List, [], _∷_}
 use Prim.Native.Nat.{ℕ}
-use lib.Dec.{leb}
+use lib.Dec.{eqb, leb}
 use lib.ListN.{length}
 use Rattle.sizes.specs.Bounds.{ranged, countsOf, totalOf}
 use Rattle.sizes.specs.declared.Counts.{Counts}
 use Rattle.model.specs.Store.{Store, fresh}
-use Rattle.model.specs.Outcome.{Outcome, refused, broken, done, refuse, unless}
+use Rattle.model.specs.Outcome.{Outcome, refused, broken, done, told, refuse, unless}
 use Rattle.model.specs.Calls.{StoreCall, ruleOf}
 use Rattle.layout.specs.Reading.{storeOf}
 use Rattle.layout.specs.Buffer.{written, inForm}
@@ -39,17 +39,19 @@ unfoldable pub callOn : Call → List ℕ → Outcome
 callOn (new k w n p) l = newOn l (countsOf k w n p)
 callOn (on c) l = onStore l (ruleOf c)
 
--- The buffer after it: a refusal leaves every word.
+-- The buffer after it: a refusal leaves every word, and so does a call that only answers.
 unfoldable pub leaves : Outcome → List ℕ → List ℕ
 leaves (refused n) l = l
 leaves (broken m s) l = written s l
 leaves (done a s) l = written s l
+leaves (told w a) l = l
 
 -- Answered `ok`.
 unfoldable pub isOk : Outcome → Bool
 isOk (refused n) = false
 isOk (broken m s) = false
 isOk (done a s) = true
+isOk (told w a) = eqb w 0
 
 -- The buffer after a list of calls: "each call gets the buffer as the last one left it".
 unfoldable pub after : List Call → List ℕ → List ℕ

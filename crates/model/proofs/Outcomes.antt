@@ -2,6 +2,7 @@
 -- no-cause, no-lack: a row that is passed. run-rest: the rows of a call on a run.
 -- allowed-used: the run isn't free. free-state: it is.
 -- unless-..: refused for a cause, or what the call does. nextStore: the store after a call.
+-- replied-..: the same of a call that only answers, whichever it is; it leaves the store.
 -- Assumes nothing.
 use mathlib.Core.Path.{_≡_, refl}
 use mathlib.Core.Bool.{Bool, true, false, not, So, false≢true, cond}
@@ -11,7 +12,7 @@ use native.Mathlib.Omega.{arith}
 use lib.Dec.{eqb, leb}
 use Rattle.words.proofs.Bools.{test, clash, eqb-eq, eqb-ne, ne-eqb}
 use Rattle.model.specs.Store.{Store}
-use Rattle.model.specs.Outcome.{Outcome, refused, broken, done, refuse, unless, allowed, openRow, freeState, runCause}
+use Rattle.model.specs.Outcome.{Outcome, refused, broken, done, told, refuse, unless, Reply, replied, allowed, openRow, freeState, runCause}
 
 -- A row of the refusal table that is passed: its cause doesn't hold, and the rows below are left.
 pub no-cause : (b : Bool) (n rest : ℕ) → 0 < n → refuse b n rest ≡ 0 → (b ≡ false) × (rest ≡ 0)
@@ -72,3 +73,22 @@ abbrev pub nextStore : Outcome → Store → Store
 nextStore (refused n) s = s
 nextStore (broken m t) s = t
 nextStore (done a t) s = t
+nextStore (told w a) s = s
+
+-- ---- a call that only answers
+
+pub replied-told : (a : Reply) → a .cause ≡ 0 → replied a ≡ told (a .word) (a .numbers)
+unfolding replied
+replied-told a e = unless-done (a .cause) _ e
+
+pub replied-refused : (a : Reply) → a .cause ≢ 0 → replied a ≡ refused (a .cause)
+unfolding replied
+replied-refused a n = unless-refused (a .cause) _ n
+
+pub replied-cases {ℓ} : (P : Outcome → Type ℓ) (a : Reply) → P (told (a .word) (a .numbers))
+    → P (refused (a .cause)) → P (replied a)
+unfolding replied
+replied-cases P a f g = unless-cases P (a .cause) _ (λ _. f) (λ _. g)
+
+pub replied-next : (a : Reply) (s : Store) → nextStore (replied a) s ≡ s
+replied-next a s = replied-cases (λ x. nextStore x s ≡ s) a refl refl

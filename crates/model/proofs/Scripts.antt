@@ -5,7 +5,7 @@ use mathlib.Core.List.{List, [], _∷_}
 use Prim.Native.Nat.{ℕ}
 use Rattle.model.specs.Store.{Store}
 use Rattle.model.specs.Outcome.{answer}
-use Rattle.model.specs.Calls.{StoreCall, openRun, fetch, evict, prepare, step, issue, dropRun, look, ruleOf}
+use Rattle.model.specs.Calls.{StoreCall, openRun, fetch, evict, prepare, step, issue, dropRun, ask, look, ruleOf}
 use Rattle.model.proofs.Outcomes.{nextStore}
 
 abbrev pub answers : List StoreCall → Store → List (List ℕ)
@@ -31,7 +31,7 @@ abbrev pub case-a-script : List StoreCall
 case-a-script =
     openRun 0 (0 ∷ 0 ∷ 0 ∷ []) ∷ step 0 0 ∷ issue 0 0 3 ∷ fetch 0 0
     ∷ openRun 0 (0 ∷ 1 ∷ 0 ∷ []) ∷ step 0 0 ∷ issue 0 1 2
-    ∷ openRun 0 (0 ∷ 1 ∷ 0 ∷ 1 ∷ 2 ∷ 1 ∷ []) ∷ step 0 1 ∷ step 0 0 ∷ step 0 1 ∷ look 2 0 1
+    ∷ openRun 0 (0 ∷ 1 ∷ 0 ∷ 1 ∷ 2 ∷ 1 ∷ []) ∷ step 0 1 ∷ step 0 0 ∷ step 0 1 ∷ ask (look 2 0 1)
     ∷ fetch 1 1 ∷ evict 0 1 ∷ []
 
 abbrev pub case-a-answers : List (List ℕ)
@@ -49,9 +49,9 @@ longer-script =
     -- Writer 0 saves keys 0 and 1; writer 1, who has read nothing, saves 1: a rival, merged on
     -- the master.
     openRun 0 (0 ∷ 0 ∷ 0 ∷ []) ∷ step 0 0 ∷ issue 0 0 3
-    ∷ openRun 1 (1 ∷ 0 ∷ 0 ∷ []) ∷ step 1 0 ∷ issue 1 1 2 ∷ look 0 0 1
+    ∷ openRun 1 (1 ∷ 0 ∷ 0 ∷ []) ∷ step 1 0 ∷ issue 1 1 2 ∷ ask (look 0 0 1)
     -- Site 0 takes 1, and 0 with it; evicting 0 takes 1 along.
-    ∷ fetch 0 1 ∷ evict 0 0 ∷ look 1 0 1 ∷ fetch 0 0 ∷ look 1 0 0
+    ∷ fetch 0 1 ∷ evict 0 0 ∷ ask (look 1 0 1) ∷ fetch 0 0 ∷ ask (look 1 0 0)
     -- Run 0 reads 0 at site 0. Writer 0, having read 0, saves 0 and 2; site 1 takes 2, which
     -- needs the new 0.
     ∷ openRun 0 (0 ∷ 1 ∷ 0 ∷ 1 ∷ 4 ∷ 0 ∷ []) ∷ step 0 0
@@ -61,8 +61,8 @@ longer-script =
     -- The same jobs, prepared: site 0 fetches what it lacks, the card is the merge of both
     -- caches, and both go through.
     ∷ openRun 0 (0 ∷ 1 ∷ 0 ∷ 1 ∷ 4 ∷ 1 ∷ []) ∷ prepare 0 ∷ step 0 0 ∷ prepare 0 ∷ step 0 1
-    ∷ look 2 0 2
-    ∷ issue 0 1 7 ∷ look 0 0 2 ∷ issue 0 1 0 ∷ []
+    ∷ ask (look 2 0 2)
+    ∷ issue 0 1 7 ∷ ask (look 0 0 2) ∷ issue 0 1 0 ∷ []
 
 abbrev pub longer-answers : List (List ℕ)
 longer-answers =
@@ -85,9 +85,9 @@ refusals-script =
     ∷ openRun 0 (0 ∷ 1 ∷ []) ∷ prepare 0 ∷ step 0 0 ∷ issue 0 0 4 ∷ issue 0 2 3 ∷ issue 0 0 3
     ∷ dropRun 0 ∷ dropRun 0 ∷ prepare 1 ∷ fetch 0 0 ∷ fetch 1 0 ∷ fetch 0 2 ∷ evict 0 0
     ∷ evict 0 2 ∷ openRun 0 (0 ∷ 0 ∷ 0 ∷ []) ∷ step 0 1 ∷ step 0 0 ∷ step 0 0 ∷ prepare 0
-    ∷ issue 0 0 3 ∷ fetch 0 0 ∷ openRun 0 (0 ∷ 2 ∷ 0 ∷ []) ∷ step 0 0 ∷ look 2 0 1
-    ∷ look 2 0 0 ∷ look 1 0 0 ∷ look 0 1 0 ∷ look 3 0 0 ∷ look 2 2 0 ∷ issue 0 1 1
-    ∷ fetch 0 1 ∷ look 1 0 0 ∷ fetch 0 0 ∷ []
+    ∷ issue 0 0 3 ∷ fetch 0 0 ∷ openRun 0 (0 ∷ 2 ∷ 0 ∷ []) ∷ step 0 0 ∷ ask (look 2 0 1)
+    ∷ ask (look 2 0 0) ∷ ask (look 1 0 0) ∷ ask (look 0 1 0) ∷ ask (look 3 0 0)
+    ∷ ask (look 2 2 0) ∷ issue 0 1 1 ∷ fetch 0 1 ∷ ask (look 1 0 0) ∷ fetch 0 0 ∷ []
 
 abbrev pub refusals-answers : List (List ℕ)
 refusals-answers =
@@ -103,7 +103,7 @@ refusals-answers =
 abbrev pub reading-script : List StoreCall
 reading-script =
     openRun 0 (0 ∷ 0 ∷ 0 ∷ []) ∷ step 0 0 ∷ issue 0 0 1 ∷ openRun 0 (0 ∷ 1 ∷ 0 ∷ [])
-    ∷ step 0 0 ∷ issue 0 1 2 ∷ fetch 1 1 ∷ look 1 1 1 ∷ evict 1 0 ∷ []
+    ∷ step 0 0 ∷ issue 0 1 2 ∷ fetch 1 1 ∷ ask (look 1 1 1) ∷ evict 1 0 ∷ []
 
 abbrev pub reading-answers : List (List ℕ)
 reading-answers =

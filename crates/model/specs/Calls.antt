@@ -1,16 +1,24 @@
 -- The calls of document 01 with their arguments, and the rule of each on a store.
+-- Query, replyOf: those that only answer. StoreCall, ruleOf: all on a store.
 -- New alone needs no store: crate layout has it, and the calls on a buffer.
 -- Assumes nothing.
 use mathlib.Core.List.{List}
 use Prim.Native.Nat.{ℕ}
 use Rattle.model.specs.Store.{Store}
-use Rattle.model.specs.Outcome.{Outcome}
+use Rattle.model.specs.Outcome.{Outcome, Reply, replied}
 use Rattle.model.specs.Caches.{fetchRule, evictRule}
 use Rattle.model.specs.Runs.{openRule, dropRule}
 use Rattle.model.specs.Prepare.{prepareRule}
 use Rattle.model.specs.Step.{stepRule}
 use Rattle.model.specs.Issue.{issueRule}
-use Rattle.model.specs.Look.{lookRule}
+use Rattle.model.specs.Look.{lookReply}
+
+-- A call that only answers.
+pub data Query : Type 0 where
+  look : ℕ → ℕ → ℕ → Query  -- place, its number, sheet
+
+unfoldable pub replyOf : Query → Store → Reply
+replyOf (look p i k) = lookReply p i k
 
 -- A call on a store that is in form.
 pub data StoreCall : Type 0 where
@@ -21,7 +29,7 @@ pub data StoreCall : Type 0 where
   step : ℕ → ℕ → StoreCall  -- run, job
   issue : ℕ → ℕ → ℕ → StoreCall  -- run, writer, mask S
   dropRun : ℕ → StoreCall  -- run
-  look : ℕ → ℕ → ℕ → StoreCall  -- place, its number, sheet
+  ask : Query → StoreCall
 
 unfoldable pub ruleOf : StoreCall → Store → Outcome
 ruleOf (openRun r l) = openRule r l
@@ -31,4 +39,4 @@ ruleOf (prepare r) = prepareRule r
 ruleOf (step r j) = stepRule r j
 ruleOf (issue r w S) = issueRule r w S
 ruleOf (dropRun r) = dropRule r
-ruleOf (look p i k) = lookRule p i k
+ruleOf (ask q) = λ s. replied (replyOf q s)

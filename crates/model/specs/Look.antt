@@ -10,7 +10,7 @@ use Rattle.sizes.specs.declared.Counts.{Counts}
 use Rattle.model.specs.Algebra.{Place}
 use Rattle.model.specs.Version.{Version, held}
 use Rattle.model.specs.Store.{Store}
-use Rattle.model.specs.Outcome.{Outcome, done, refuse, unless}
+use Rattle.model.specs.Outcome.{Reply, refuse}
 
 -- "place (0 master, 1 shelf, 2 card), its number (0 for the master)"
 unfoldable pub lookPlace : Store → ℕ → ℕ → Place Version
@@ -34,10 +34,11 @@ unfoldable pub rowNumbers : ℕ → Clock → List ℕ
 rowNumbers W c = blocks W (λ w. c w ∷ [])
 
 -- "answers issue number and own row. Changes nothing."
-unfoldable pub lookDone : Store → ℕ → ℕ → ℕ → Outcome
-lookDone s p i k =
+unfoldable pub lookNumbers : Store → ℕ → ℕ → ℕ → List ℕ
+lookNumbers s p i k =
     let v = lookPlace s p i k in
-    done (v .issue ∷ rowNumbers (s .counts .writers) (v .past k)) s
+    v .issue ∷ rowNumbers (s .counts .writers) (v .past k)
 
-unfoldable pub lookRule : ℕ → ℕ → ℕ → Store → Outcome
-lookRule p i k s = unless (lookCause s p i k) (lookDone s p i k)
+unfoldable pub lookReply : ℕ → ℕ → ℕ → Store → Reply
+lookReply p i k s =
+    record { cause = lookCause s p i k; word = 0; numbers = lookNumbers s p i k }

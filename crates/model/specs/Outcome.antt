@@ -1,5 +1,6 @@
 -- What a call comes to, the refusal table as a chain of causes, and the table of states.
--- Outcome, answer; refuse, unless; allowed: "Which state a call needs"; runCause: by both.
+-- Outcome, answer; refuse, unless; Reply, replied: of calls that only answer; allowed: "Which
+-- state a call needs"; runCause: by both.
 -- Assumes nothing.
 use mathlib.Core.Bool.{Bool, true, false, cond, not}
 use mathlib.Core.List.{List, [], _∷_}
@@ -12,12 +13,14 @@ pub data Outcome : Type 0 where
   refused : ℕ → Outcome  -- "turned down": the cause's number; every word stays
   broken : ℕ → Store → Outcome  -- step alone: the mask, and the next store
   done : List ℕ → Store → Outcome  -- ok: the answer's numbers, and the next store
+  told : ℕ → List ℕ → Outcome  -- the answer's first word and numbers; every word stays
 
 -- The answer in words: 0 ok, 1 broken, 2 refused, then the numbers that the text prints.
 unfoldable pub answer : Outcome → List ℕ
 answer (refused n) = 2 ∷ n ∷ []
 answer (broken m s) = 1 ∷ m ∷ []
 answer (done a s) = 0 ∷ a
+answer (told w a) = w ∷ a
 
 -- One row of the refusal table: the number n where the cause holds, otherwise the rows below it.
 -- 0: no cause.
@@ -28,6 +31,16 @@ refuse false n rest = rest
 -- Refused for a cause other than 0.
 unfoldable pub unless : ℕ → Outcome → Outcome
 unless n x = cond (eqb n 0) x (refused n)
+
+-- What a call that only answers comes to: the cause of a refusal (0: none), else the answer's
+-- first word and numbers.
+pub record Reply : Type 0 where
+  pub cause : ℕ
+  pub word : ℕ
+  pub numbers : List ℕ
+
+unfoldable pub replied : Reply → Outcome
+replied a = unless (a .cause) (told (a .word) (a .numbers))
 
 -- ---- states
 
