@@ -1,6 +1,6 @@
 // Fetch and evict: a site's cache takes keys from the master, or leaves them.
+use answers::Answered;
 use form::header::counts;
-use form::in_form;
 use masks::with_item;
 use sets::evict_keys;
 use sets::fetch_keys;
@@ -16,19 +16,7 @@ ghost use Rattle.layout.specs.Reading.{storeOf};
 ghost use Rattle.layout.specs.Buffer.{inForm};
 ghost use Rattle.layout.specs.Calls.{on, callOn, leaves};
 ghost use Rattle.form.specs.Parts.{FormWith};
-ghost use Rattle.caches.specs.Answers.{fetchedWords, evictedWords};
-
-// The mask of the keys that the cache took, or the cause's number.
-pub enum Fetched {
-    Done(u32),
-    Refused(u32),
-}
-
-// The mask of the keys that left the cache, or the cause's number.
-pub enum Evicted {
-    Done(u32),
-    Refused(u32),
-}
+ghost use Rattle.answers.specs.Answers.{answeredWords};
 
 // Whether there is no such site or no such key.
 fn out_of_range(z: Counts, site: usize, key: usize) -> bool
@@ -37,41 +25,27 @@ fn out_of_range(z: Counts, site: usize, key: usize) -> bool
     (z.sites <= site) | (z.keys <= key)
 }
 
-// A site's cache takes a key from the master, and with it what its version needs.
-pub fn fetch(words: &mut [u32], site: u32, key: u32) -> Fetched
-    ensures answers { λ r. ⌜ fetchedWords r
-        ≡ answer (callOn (on (fetch site key)) (now (words .entry))) ⌝ }
-    ensures leaves { λ _. ⌜ now (words .exit)
-        ≡ leaves (callOn (on (fetch site key)) (now (words .entry))) (now (words .entry)) ⌝ }
-    ensures form { λ _. ⌜ (So (inForm (now (words .entry))) → So (inForm (now (words .exit)))) ⌝ }
-{
-    if !in_form(words) {
-        return Fetched::Refused(1);
-    }
-    fetch_in(words, site, key)
-}
-
-// Fetch on a buffer in form.
-pub fn fetch_in(words: &mut [u32], site: u32, key: u32) -> Fetched
+// A site's cache takes a key from the master, and with it what its version needs. Answers the mask
+// of the keys taken.
+pub fn fetch(words: &mut [u32], site: u32, key: u32) -> Answered
     requires { ⌜ So (inForm (now words)) ⌝ }
-    ensures answers { λ r. ⌜ fetchedWords r
+    ensures answers { λ r. ⌜ answeredWords r
         ≡ answer (callOn (on (fetch site key)) (now (words .entry))) ⌝ }
     ensures leaves { λ _. ⌜ now (words .exit)
         ≡ leaves (callOn (on (fetch site key)) (now (words .entry))) (now (words .entry)) ⌝ }
-    ensures form { λ _. ⌜ (So (inForm (now (words .entry))) → So (inForm (now (words .exit)))) ⌝ }
 {
     let z = counts(words);
     let o = site as usize;
     let k = key as usize;
     let cause = fetch_cause(words, z, o, k);
     if cause != 0 {
-        return Fetched::Refused(cause);
+        return Answered::Refused(cause);
     }
     let areas = z.areas();
     let at = z.site_at(o);
     let wanted = with_item(0, key);
     let taken = fetch_keys(words, z, areas.master, at, wanted);
-    Fetched::Done(taken)
+    Answered::Done(taken)
 }
 
 // The first cause for which a fetch is refused, or 0.
@@ -89,40 +63,26 @@ fn fetch_cause(words: &[u32], z: Counts, site: usize, key: usize) -> u32
     0
 }
 
-// A key leaves a site's cache, and with it the keys whose versions need it.
-pub fn evict(words: &mut [u32], site: u32, key: u32) -> Evicted
-    ensures answers { λ r. ⌜ evictedWords r
-        ≡ answer (callOn (on (evict site key)) (now (words .entry))) ⌝ }
-    ensures leaves { λ _. ⌜ now (words .exit)
-        ≡ leaves (callOn (on (evict site key)) (now (words .entry))) (now (words .entry)) ⌝ }
-    ensures form { λ _. ⌜ (So (inForm (now (words .entry))) → So (inForm (now (words .exit)))) ⌝ }
-{
-    if !in_form(words) {
-        return Evicted::Refused(1);
-    }
-    evict_in(words, site, key)
-}
-
-// Evict on a buffer in form.
-pub fn evict_in(words: &mut [u32], site: u32, key: u32) -> Evicted
+// A key leaves a site's cache, and with it the keys whose versions need it. Answers the mask of
+// the keys gone.
+pub fn evict(words: &mut [u32], site: u32, key: u32) -> Answered
     requires { ⌜ So (inForm (now words)) ⌝ }
-    ensures answers { λ r. ⌜ evictedWords r
+    ensures answers { λ r. ⌜ answeredWords r
         ≡ answer (callOn (on (evict site key)) (now (words .entry))) ⌝ }
     ensures leaves { λ _. ⌜ now (words .exit)
         ≡ leaves (callOn (on (evict site key)) (now (words .entry))) (now (words .entry)) ⌝ }
-    ensures form { λ _. ⌜ (So (inForm (now (words .entry))) → So (inForm (now (words .exit)))) ⌝ }
 {
     let z = counts(words);
     let o = site as usize;
     let k = key as usize;
     let cause = evict_cause(words, z, o, k);
     if cause != 0 {
-        return Evicted::Refused(cause);
+        return Answered::Refused(cause);
     }
     let at = z.site_at(o);
     let unwanted = with_item(0, key);
     let gone = evict_keys(words, z, at, unwanted);
-    Evicted::Done(gone)
+    Answered::Done(gone)
 }
 
 // The first cause for which an evict is refused, or 0.

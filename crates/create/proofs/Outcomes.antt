@@ -1,8 +1,8 @@
 -- What new comes to: its causes from the tests that the code makes, and its two outcomes.
 -- cause-..: which cause there is. NewEnds: what new answers and leaves; new-no, new-done.
 -- Assumes nothing.
-use mathlib.Core.Path.{_≡_, refl, sym, ap, _∙_}
-use mathlib.Core.Bool.{false, So, false≢true}
+use mathlib.Core.Path.{_≡_, refl, ap}
+use mathlib.Core.Bool.{false, So}
 use mathlib.Core.Logic.{_≢_}
 use mathlib.Core.List.{List, [], _∷_}
 use Prim.Native.Nat.{ℕ, _≤_, _<_}
@@ -12,10 +12,8 @@ use Rattle.sizes.specs.declared.Counts.{Counts}
 use Rattle.sizes.specs.Bounds.{ranged, countsOf, totalOf}
 use Rattle.model.specs.Store.{fresh}
 use Rattle.model.specs.Outcome.{refuse, unless, answer}
-use Rattle.layout.specs.Buffer.{written, inForm}
-use Rattle.layout.specs.Calls.{new, newCause, newOn, callOn, leaves, isOk}
-use Rattle.layout.proofs.Follow.{fine-form}
-use Rattle.layout.proofs.Rules.{new-fine}
+use Rattle.layout.specs.Buffer.{written}
+use Rattle.layout.specs.Calls.{new, newCause, newOn, callOn, leaves}
 
 -- ---- the causes
 
@@ -34,30 +32,22 @@ module _ (l : List ℕ) (z : Counts) where
 
 -- ---- the outcomes
 
--- The answer's words w, and the buffer m after it.
+-- The answer's words a, and the buffer m after it.
 module _ (l : List ℕ) (k w n p : ℕ) where
   abbrev pub NewEnds : List ℕ → List ℕ → Type 0
   NewEnds a m =
-      (a ≡ answer (callOn (new k w n p) l))
-      × ((m ≡ leaves (callOn (new k w n p) l) l)
-      × (So (isOk (callOn (new k w n p) l)) → So (inForm m)))
+      (a ≡ answer (callOn (new k w n p) l)) × (m ≡ leaves (callOn (new k w n p) l) l)
 
   -- If there is a cause, for counts y that are these,
   pub new-no : (y : Counts) (c : ℕ) → y ≡ countsOf k w n p → c ≡ newCause l y → c ≢ 0
       → NewEnds (2 ∷ c ∷ []) l
-  unfolding callOn newOn unless answer leaves isOk
-  new-no y c same e h =
-      rw (← same, ← e, ne-eqb c 0 h) (refl, (refl, λ yes. absurd (false≢true yes)))
+  unfolding callOn newOn unless answer leaves
+  new-no y c same e h = rw (← same, ← e, ne-eqb c 0 h) (refl, refl)
 
   -- and if there is none.
   pub new-done : (y : Counts) (c total : ℕ) (m : List ℕ) → y ≡ countsOf k w n p
       → c ≡ newCause l y → c ≡ 0 → total ≡ totalOf y → m ≡ written (fresh y) l
       → NewEnds (0 ∷ total ∷ []) m
-  unfolding callOn newOn unless answer leaves isOk
+  unfolding callOn newOn unless answer leaves
   new-done y c total m same e h t q =
-      let no : newCause l (countsOf k w n p) ≡ 0 = rw (← same) (sym e ∙ h) in
-      let formed = fine-form (fresh (countsOf k w n p)) l (new-fine l k w n p no) in
-      rw (no) (
-        ap (λ (x : ℕ). 0 ∷ x ∷ []) (rw (← same) t),
-        (rw (← same) q, λ yes. rw (q, same) formed),
-      )
+      rw (← same, ← e, h) (ap (λ (x : ℕ). 0 ∷ x ∷ []) t, q)

@@ -1,9 +1,9 @@
 // The call new: a fresh store written into a buffer of any content.
+use answers::Answered;
 use sizes::Counts;
 use sizes::Sizes;
 use words::wide;
 ghost use mathlib.Core.Path.{_≡_};
-ghost use mathlib.Core.Bool.{So};
 ghost use Prim.Native.Nat.{_<_};
 ghost use lib.ListN.{length};
 ghost use lib.Seq.{sets};
@@ -11,34 +11,26 @@ ghost use Rattle.sizes.specs.Bounds.{Ranged, countsOf, sizesOf, totalOf};
 ghost use Rattle.model.specs.Store.{fresh};
 ghost use Rattle.model.specs.Outcome.{answer};
 ghost use Rattle.layout.specs.Words.{headerWords};
-ghost use Rattle.layout.specs.Buffer.{written, inForm};
-ghost use Rattle.layout.specs.Calls.{new, newCause, callOn, leaves, isOk};
-ghost use Rattle.create.specs.Answer.{createdWords};
+ghost use Rattle.layout.specs.Buffer.{written};
+ghost use Rattle.layout.specs.Calls.{new, newCause, callOn, leaves};
+ghost use Rattle.answers.specs.Answers.{answeredWords};
 ghost use Rattle.create.specs.Room.{Room};
 
-// The total of the fresh store, or the number of the cause for which new is refused.
-pub enum Created {
-    Done(u32),
-    Refused(u32),
-}
-
-// Writes a fresh store, or refuses and leaves every word.
-pub fn new(words: &mut [u32], keys: u32, writers: u32, sites: u32, runs: u32) -> Created
-    ensures answers { λ r. ⌜ createdWords r
+// Writes a fresh store, or refuses and leaves every word. Answers the total.
+pub fn new(words: &mut [u32], keys: u32, writers: u32, sites: u32, runs: u32) -> Answered
+    ensures answers { λ r. ⌜ answeredWords r
         ≡ answer (callOn (new keys writers sites runs) (now (words .entry))) ⌝ }
     ensures leaves { λ _. ⌜ now (words .exit)
         ≡ leaves (callOn (new keys writers sites runs) (now (words .entry)))
         (now (words .entry)) ⌝ }
-    ensures form { λ _. ⌜ (So (isOk (callOn (new keys writers sites runs) (now (words .entry))))
-        → So (inForm (now (words .exit)))) ⌝ }
 {
     let z = counts_of(keys, writers, sites, runs);
     let no = cause(words, z);
     if no != 0 {
-        return Created::Refused(no);
+        return Answered::Refused(no);
     }
     let total = store_fresh(words, z);
-    Created::Done(total)
+    Answered::Done(total)
 }
 
 // The cause for which new is refused, or 0. No size is computed from counts out of range.

@@ -1,38 +1,111 @@
--- `fetch` is refused on a buffer that is not in form.
+-- `fetch` is refused for its cause, or stores T.
 -- Assumes nothing.
-use mathlib.Core.Path.{sym, _∙_}
+use mathlib.Core.Path.{_≡_, sym, _∙_}
+use Prim.Native.Nat.{_<_}
 use borrow.Author.Needs.{needs}
-use borrow.Author.Tests.{not-true, not-false}
-use Rattle.model.specs.Calls.{fetch}
-use Rattle.form.proofs.Known.{ends-unformed}
-use Rattle.caches.specs.Answers.{fetchedWords}
+use native.Mathlib.Omega.{arith}
+use lib.ListN.{length}
+use Rattle.layout.specs.Reading.{storeOf}
+use Rattle.model.specs.Caches.{fetchCause}
+use Rattle.version.proofs.Stores.{site-master}
+use Rattle.form.specs.Parts.{StoreArea}
+use Rattle.form.proofs.Known.{form-long, form-area, master-found}
+use Rattle.answers.specs.Answers.{answeredWords}
+use Rattle.caches.proofs.Known.{one-low}
+use Rattle.caches.proofs.Fetches.{fetch-ready, fetch-refused, fetch-done}
 use Rattle.caches.proofs.fetch.Statement.{statement}
 use Rattle.caches.proofs.fetch.Tie as tie
 
-in-form-requires : tie.Need-in-form-requires
-in-form-requires c κs = search needs
+counts-requires : tie.Need-counts-requires
+counts-requires c κs = form-long _ (c .before .before .pre)
+
+fetch-cause-requires : tie.Need-fetch-cause-requires
+fetch-cause-requires c κs = search needs
 
 same-length : tie.Need-same-length
 same-length c = search needs
 
 returns : tie.Need-returns
-unfolding fetchedWords
+unfolding answeredWords
 returns c =
-    let a = c .before .before .before .before .args in
-    ends-unformed (fetch (a .site) (a .key)) (a .words .now)
-    (sym (c .before .in-form .ensures) ∙ not-true _ (c .if1 .taken))
+    let s = c .before .before .before .before .before .before in
+    let a = s .args in
+    fetch-refused (a .words .now) (a .site) (a .key) (c .before .fetch-cause .result) (s .pre)
+    (c .before .fetch-cause .ensures) (c .if1 .taken)
 
-fetch-in-requires : tie.Need-fetch-in-requires
-fetch-in-requires c κs =
-    sym (c .before .before .in-form .ensures) ∙ not-false _ (c .before .if1 .left)
+-- No cause: the site and the key are in range.
+free : (c : tie.Else1) → let a = c .before .before .before .before .before .before .args in
+    fetchCause (storeOf (a .words .now)) (a .site) (a .key) ≡ 0
+free c = sym (c .before .fetch-cause .ensures) ∙ c .if1 .left
+
+counted : (c : tie.Else1)
+    → StoreArea (length (c .before .before .before .before .before .before .args .words .now))
+    (c .before .before .before .counts .result)
+counted c =
+    form-area _ _ (record {
+      form = c .before .before .before .before .before .before .pre;
+      counts = c .before .before .before .counts .ensures;
+    })
+
+ready : (c : tie.Else1) → let a = c .before .before .before .before .before .before .args in
+    let z = c .before .before .before .counts .result in
+    (a .site < z .sites) × (a .key < z .keys)
+ready c = fetch-ready _ _ (c .before .before .before .counts .ensures) _ _ (free c)
+
+areas-requires : tie.Need-areas-requires
+areas-requires c κs = counted c .ranged
+
+site-at-requires : tie.Need-site-at-requires
+site-at-requires c κs = (counted (c .before) .ranged, ready (c .before) .0)
+
+with-item-requires : tie.Need-with-item-requires
+with-item-requires c κs =
+    let e = c .before .before in omega (arith, ready e .1, counted e .ranged .keys-high)
+
+fetch-keys-requires : tie.Need-fetch-keys-requires
+fetch-keys-requires c κs =
+    let site = c .before .before in
+    let areas = site .before in
+    let e = areas .before in
+    let K = counted e in
+    let l = e .before .before .before .before .before .before .args .words .now in
+    let z = e .before .before .before .counts .result in (
+      rw (site .site-at .ensures, master-found z (areas .areas .result) (areas .areas .ensures))
+          (site-master (length l) z (K .ranged) (K .fits) _ (ready e .0)),
+      one-low _ _ _ (ready e .1) (c .before .with-item .ensures),
+    )
 
 same-length-2 : tie.Need-same-length-2
 same-length-2 c = search needs
 
 returns-2 : tie.Need-returns-2
-returns-2 c = c .before .before .fetch-in .ensures
+unfolding answeredWords
+returns-2 c =
+    let keys = c .before .before in
+    let item = keys .before .before in
+    let areas = item .before .before in
+    let e = areas .before in
+    let s = e .before .before .before .before .before .before in
+    let a = s .args in
+    let counts = e .before .before .before .counts in
+    fetch-done (a .words .now) (counts .result) (s .pre) (counts .ensures) (a .site) (a .key)
+    (free e) (areas .areas .result .master) (item .before .site-at .result)
+    (item .with-item .result) (keys .fetch-keys .result) _
+    (master-found (counts .result) (areas .areas .result) (areas .areas .ensures))
+    (item .before .site-at .ensures) (item .with-item .ensures)
+    (keys .fetch-keys .ensures .0) (keys .fetch-keys .ensures .1)
 
 pub fetch-spec : {M : Type 1} → statement M
 fetch-spec =
     tie.close
-    (tie.spec in-form-requires same-length returns fetch-in-requires same-length-2 returns-2)
+    (tie.spec
+    counts-requires
+    fetch-cause-requires
+    same-length
+    returns
+    areas-requires
+    site-at-requires
+    with-item-requires
+    fetch-keys-requires
+    same-length-2
+    returns-2)

@@ -1,7 +1,7 @@
 -- `new` meets its contract: refused for its cause, or done.
 -- Assumes nothing.
 use borrow.Author.Needs.{needs}
-use Rattle.create.specs.Answer.{createdWords}
+use Rattle.answers.specs.Answers.{answeredWords}
 use Rattle.create.proofs.Outcomes.{new-no, new-done}
 use Rattle.create.proofs.new.Statement.{statement}
 use Rattle.create.proofs.new.Tie as tie
@@ -16,7 +16,7 @@ same-length : tie.Need-same-length
 same-length c = search needs
 
 returns : tie.Need-returns
-unfolding createdWords
+unfolding answeredWords
 returns c =
     let b = c .before in
     new-no _ _ _ _ _ _ _ (b .before .before .counts-of .ensures) (b .cause .ensures)
@@ -29,7 +29,7 @@ same-length-2 : tie.Need-same-length-2
 same-length-2 c = search needs
 
 returns-2 : tie.Need-returns-2
-unfolding createdWords
+unfolding answeredWords
 returns-2 c =
     let s = c .before .before in
     let e = s .before .before in

@@ -1,38 +1,94 @@
--- `drop` refuses a buffer that isn't in form, or is the call on one that is.
+-- `drop` refuses for the cause of its run, or clears the run.
 -- Assumes nothing.
-use mathlib.Core.Path.{sym, _∙_}
+use mathlib.Core.Path.{_≡_, sym, ap, _∙_}
+use Prim.Native.Nat.{ℕ, _<_}
 use borrow.Author.Needs.{needs}
-use borrow.Author.Tests.{not-true, not-false}
-use Rattle.model.specs.Calls.{dropRun}
-use Rattle.form.proofs.Known.{ends-unformed}
-use Rattle.runs.specs.Runs.{droppedWords}
+use Rattle.model.specs.Store.{freeRun}
+use Rattle.model.specs.Outcome.{dropRow, runCause}
+use Rattle.layout.specs.Reading.{storeOf}
+use Rattle.layout.specs.Stored.{putRun}
+use Rattle.form.specs.Parts.{FormWith}
+use Rattle.form.proofs.Known.{form-long}
+use Rattle.status.proofs.Known.{RunKnown, run-known, cause-below}
+use Rattle.answers.specs.Answers.{answeredWords}
+use Rattle.runs.proofs.Drops.{drop-refused, drop-done}
 use Rattle.runs.proofs.drop.Statement.{statement}
 use Rattle.runs.proofs.drop.Tie as tie
 
-in-form-requires : tie.Need-in-form-requires
-in-form-requires c κs = search needs
+wide-requires : tie.Need-wide-requires
+wide-requires c κs = search needs
+
+counts-requires : tie.Need-counts-requires
+counts-requires c κs =
+    let s = c .before .before .before in form-long (s .args .words .now) (s .pre)
+
+run-cause-requires : tie.Need-run-cause-requires
+run-cause-requires c κs = search needs
 
 same-length : tie.Need-same-length
 same-length c = search needs
 
 returns : tie.Need-returns
-unfolding droppedWords
+unfolding answeredWords
 returns c =
-    let a = c .before .before .before .before .args in
-    ends-unformed (dropRun (a .run)) (a .words .now)
-    (sym (c .before .in-form .ensures) ∙ not-true _ (c .if1 .taken))
+    let w = c .before .before .before .before .before in
+    let s = w .before .before in
+    rw (← w .wide .ensures)
+    (drop-refused (s .args .words .now) _ _ (s .pre) (c .before .run-cause .ensures)
+    (c .if1 .taken))
 
-drop-in-requires : tie.Need-drop-in-requires
-drop-in-requires c κs =
-    sym (c .before .before .in-form .ensures) ∙ not-false _ (c .before .if1 .left)
+-- Where no cause holds: the store's counts, and the run is one of its runs.
+holds : (c : tie.Else1) → let n = c .before .before .before in
+    FormWith (n .before .before .before .before .args .words .now) (n .counts .result)
+holds c =
+    let n = c .before .before .before in
+    record { form = n .before .before .before .before .pre; counts = n .counts .ensures }
+
+free : (c : tie.Else1) → let w = c .before .before .before .before .before in
+    runCause (storeOf (w .before .before .args .words .now)) dropRow (w .wide .result) 0 ≡ 0
+free c = sym (c .before .run-cause .ensures) ∙ c .if1 .left
+
+below : (c : tie.Else1)
+    → c .before .before .before .before .before .wide .result
+    < c .before .before .before .counts .result .runs
+below c = cause-below _ _ dropRow _ (holds c) (free c)
+
+known : (c : tie.Else1) → let n = c .before .before .before in
+    RunKnown (n .before .before .before .before .args .words .now) (n .counts .result)
+    (n .before .before .wide .result)
+known c = run-known _ _ _ (holds c) (below c)
+
+run-at-requires : tie.Need-run-at-requires
+run-at-requires c κs = (known c .area .ranged, below c)
+
+clear-run-requires : tie.Need-clear-run-requires
+clear-run-requires c κs = rw (c .before .run-at .ensures) (known (c .before .before) .area)
 
 same-length-2 : tie.Need-same-length-2
 same-length-2 c = search needs
 
 returns-2 : tie.Need-returns-2
-returns-2 c = c .before .before .drop-in .ensures
+unfolding answeredWords
+returns-2 c =
+    let p = c .before .before .before .before in
+    let e = p .before in
+    let n = e .before .before .before in
+    let z = n .counts .result in
+    let l = n .before .before .before .before .args .words .now in
+    rw (← n .before .before .wide .ensures)
+    (drop-done l z _ _ (holds e) (free e) (c .before .before .clear-run .ensures
+    ∙ ap (λ (k : ℕ). putRun z l k freeRun) (p .run-at .ensures)))
 
 pub drop-spec : {M : Type 1} → statement M
 drop-spec =
     tie.close
-    (tie.spec in-form-requires same-length returns drop-in-requires same-length-2 returns-2)
+    (tie.spec
+    wide-requires
+    counts-requires
+    run-cause-requires
+    same-length
+    returns
+    run-at-requires
+    clear-run-requires
+    same-length-2
+    returns-2)

@@ -1,38 +1,102 @@
--- `open` refuses a buffer that isn't in form, or is the call on one that is.
+-- `open` refuses for its cause, or stores the jobs over the free run.
 -- Assumes nothing.
-use mathlib.Core.Path.{sym, _∙_}
+use mathlib.Core.Path.{_≡_, sym, ap, _∙_}
+use Prim.Native.Nat.{ℕ}
 use borrow.Author.Needs.{needs}
-use borrow.Author.Tests.{not-true, not-false}
-use Rattle.model.specs.Calls.{openRun}
-use Rattle.form.proofs.Known.{ends-unformed}
-use Rattle.runs.specs.Runs.{openedWords}
+use native.Mathlib.Omega.{arith}
+use Rattle.model.specs.Runs.{openCause}
+use Rattle.layout.specs.Reading.{storeOf}
+use Rattle.form.specs.Parts.{FormWith}
+use Rattle.form.proofs.Known.{form-long}
+use Rattle.status.proofs.Known.{RunKnown, run-known}
+use Rattle.answers.specs.Answers.{answeredWords}
+use Rattle.runs.specs.Runs.{putJobs}
+use Rattle.runs.proofs.Opens.{OpenReady, open-ready, open-refused, open-done}
 use Rattle.runs.proofs.open.Statement.{statement}
 use Rattle.runs.proofs.open.Tie as tie
 
-in-form-requires : tie.Need-in-form-requires
-in-form-requires c κs = search needs
+wide-requires : tie.Need-wide-requires
+wide-requires c κs = search needs
+
+counts-requires : tie.Need-counts-requires
+counts-requires c κs =
+    let s = c .before .before .before .before in form-long (s .args .words .now) (s .pre)
+
+open-cause-requires : tie.Need-open-cause-requires
+open-cause-requires c κs = search needs
 
 same-length : tie.Need-same-length
 same-length c = search needs
 
 returns : tie.Need-returns
-unfolding openedWords
+unfolding answeredWords
 returns c =
-    let a = c .before .before .before .before .before .args in
-    ends-unformed (openRun (a .run) (a .jobs .now)) (a .words .now)
-    (sym (c .before .in-form .ensures) ∙ not-true _ (c .if1 .taken))
+    let w = c .before .before .before .before .before in
+    let s = w .before .before .before in
+    rw (← w .wide .ensures)
+    (open-refused (s .args .words .now) _ (s .args .jobs .now) _ (s .pre)
+    (c .before .open-cause .ensures) (c .if1 .taken))
 
-open-in-requires : tie.Need-open-in-requires
-open-in-requires c κs =
-    sym (c .before .before .in-form .ensures) ∙ not-false _ (c .before .if1 .left)
+-- Where no cause holds: the store's counts, the run and the list.
+holds : (c : tie.Else1) → let n = c .before .before .before in
+    FormWith (n .before .before .before .before .before .args .words .now) (n .counts .result)
+holds c =
+    let n = c .before .before .before in
+    record { form = n .before .before .before .before .before .pre; counts = n .counts .ensures }
+
+free : (c : tie.Else1) → let w = c .before .before .before .before .before in
+    let a = w .before .before .before .args in
+    openCause (storeOf (a .words .now)) (w .wide .result) (a .jobs .now) ≡ 0
+free c = sym (c .before .open-cause .ensures) ∙ c .if1 .left
+
+ready : (c : tie.Else1) → let n = c .before .before .before in
+    let a = n .before .before .before .before .before .args in
+    OpenReady (a .words .now) (n .counts .result) (n .before .before .wide .result) (a .jobs .now)
+ready c = open-ready _ _ _ _ (holds c) (free c)
+
+known : (c : tie.Else1) → let n = c .before .before .before in
+    RunKnown (n .before .before .before .before .before .args .words .now) (n .counts .result)
+    (n .before .before .wide .result)
+known c = run-known _ _ _ (holds c) (ready c .run)
+
+run-at-requires : tie.Need-run-at-requires
+run-at-requires c κs = (known c .area .ranged, ready c .run)
+
+put-jobs-requires : tie.Need-put-jobs-requires
+put-jobs-requires c κs =
+    let K = known (c .before .before) in
+    let L = ready (c .before .before) .listed in (
+      rw (c .before .run-at .ensures) (omega (arith, K .area .fits)),
+      omega (arith, L .whole, L .high),
+    )
 
 same-length-2 : tie.Need-same-length-2
 same-length-2 c = search needs
 
 returns-2 : tie.Need-returns-2
-returns-2 c = c .before .before .open-in .ensures
+unfolding answeredWords
+returns-2 c =
+    let put = c .before .before .put-jobs .ensures in
+    let p = c .before .before .before .before in
+    let e = p .before in
+    let n = e .before .before .before in
+    let a = n .before .before .before .before .before .args in
+    let l = a .words .now in
+    let jobs = a .jobs .now in
+    rw (← n .before .before .wide .ensures, put .0)
+    (open-done l (n .counts .result) _ jobs _ (holds e) (free e)
+    (put .1 ∙ ap (λ (k : ℕ). putJobs l k jobs) (p .run-at .ensures)))
 
 pub open-spec : {M : Type 1} → statement M
 open-spec =
     tie.close
-    (tie.spec in-form-requires same-length returns open-in-requires same-length-2 returns-2)
+    (tie.spec
+    wide-requires
+    counts-requires
+    open-cause-requires
+    same-length
+    returns
+    run-at-requires
+    put-jobs-requires
+    same-length-2
+    returns-2)
