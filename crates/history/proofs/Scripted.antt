@@ -29,9 +29,9 @@ use Rattle.model.specs.Prepare.{jobStart, fetchReads, preparedCaches, unprepara
 use Rattle.model.specs.Step.{readStart, stepSite, stepReads, stepStart, stepFetch, stepCache, stepPlan, stepPull, stepSnapshot, stepMoved, jobLimit, notReady, jobCause, stepCause, stepBroken, stepDone, stepRule}
 use Rattle.model.specs.Issue.{raiseCause, issueCause, takenIn, rowsSet, newPast, newVersion, issuedMaster, issuedWriter, savedStore, issuedStore, issuedNumber, issueDone, issueRule}
 use Rattle.model.specs.Look.{lookPlace, lookLimit, lookCause, rowNumbers, lookNumbers, lookReply}
-use Rattle.model.specs.Calls.{StoreCall, openRun, fetch, step, issue, replyOf, ruleOf}
+use Rattle.model.specs.Calls.{StoreCall, fetch, replyOf, ruleOf}
 use Rattle.model.proofs.Outcomes.{nextStore}
-use Rattle.model.proofs.Scripts.{case-a-script, longer-script, reading-script}
+use Rattle.model.proofs.Scripts.{saving, case-a-script, longer-script, reading-script}
 use Rattle.layout.specs.Words.{clockWords, pastWords, versionWords, placeWords, siteWords, sitesWords, writerWords, writersWords, jobWords, jobsWords, runWords, runsWords, headerWords, storeWords}
 use Rattle.layout.specs.Reading.{readClock, readPast, readVersion, readPlace, readSite, readWriter, readJob, readJobs, readRun, countsIn, storeOf}
 use Rattle.layout.specs.Calls.{on, isOk}
@@ -122,10 +122,6 @@ abbrev pub from-new : Counts → List StoreCall → Bool
 from-new z cs = followed cs (fresh z) (freshBook z)
 
 -- ---- the scripts
-
--- Writer 0, having read nothing, saves the sheets of S.
-abbrev pub saving : ℕ → List StoreCall
-saving S = openRun 0 (0 ∷ 0 ∷ 0 ∷ []) ∷ step 0 0 ∷ issue 0 0 S ∷ []
 
 -- After `new 2 1 1 1`: an issue of nothing isn't entered. Site 0 takes 0; then 0 and 1 are saved,
 -- and 1 needs both saves of 0, being by the same writer: the site takes 0 again with it.

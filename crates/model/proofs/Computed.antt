@@ -23,17 +23,21 @@ use Rattle.model.specs.Step.{readStart, stepSite, stepReads, stepStart, 
 use Rattle.model.specs.Issue.{raiseCause, issueCause, takenIn, rowsSet, newPast, newVersion, issuedMaster, issuedWriter, savedStore, issuedStore, issuedNumber, issueDone, issueRule}
 use Rattle.model.specs.Look.{lookPlace, lookLimit, lookCause, rowNumbers, lookNumbers, lookReply}
 use Rattle.model.specs.Calls.{replyOf, ruleOf}
-use Rattle.model.proofs.Readings.{marked, sentences, unmarked, unmarked-answers}
-use Rattle.model.proofs.Scripts.{answers, case-a-script, case-a-answers, longer-script, longer-answers, refusals-script, refusals-answers, reading-script, reading-answers}
+use Rattle.model.proofs.Readings.{marked, sentences, unmarked, limits, shelved}
+use Rattle.model.proofs.Scripts.{answers, case-a-script, case-a-answers, longer-script, longer-answers, refusals-script, refusals-answers, reading-script, reading-answers, again-script, again-answers, broken-script, broken-answers}
 
 -- The ten marked readings pass, and each script is answered as it should be, answer by answer.
 pub record Computed : Type 0 where
   pub ten : marked ≡ replicate 10 true
-  pub texts : sentences ≡ replicate 3 true
-  pub others : unmarked ≡ unmarked-answers
+  pub texts : sentences ≡ replicate 4 true
+  pub others : unmarked ≡ replicate 5 true
+  pub at-limits : limits ≡ replicate 6 true
+  pub on-shelf : shelved ≡ replicate 2 true
   pub case-a : answers case-a-script (fresh (countsOf 2 2 2 1)) ≡ case-a-answers
   pub refusals : answers refusals-script (fresh (countsOf 2 2 1 2)) ≡ refusals-answers
   pub reading : answers reading-script (fresh (countsOf 2 2 2 1)) ≡ reading-answers
+  pub again : answers again-script (fresh (countsOf 2 2 1 1)) ≡ again-answers
+  pub broken : answers broken-script (fresh (countsOf 2 2 2 2)) ≡ broken-answers
   pub longer : answers longer-script (fresh (countsOf 3 2 2 2)) ≡ longer-answers
 
 pub computed : Computed
@@ -56,8 +60,12 @@ computed = record {
   ten = refl;
   texts = refl;
   others = refl;
+  at-limits = refl;
+  on-shelf = refl;
   case-a = refl;
   refusals = refl;
   reading = refl;
+  again = refl;
+  broken = refl;
   longer = refl;
 }
