@@ -20,7 +20,7 @@ use Rattle.sizes.specs.declared.Counts.{Counts}
 use Rattle.model.specs.Algebra.{Place, lacking}
 use Rattle.model.specs.Version.{Version, held, dependency, supersedes, larger, merge}
 use Rattle.model.specs.Sets.{draws, drawSet, fetchSet, fetched, unfetchable, evictSet, evicted, pullSet, pulled}
-use Rattle.model.specs.Store.{Store, fresh, planned, withMaster, withLast, withSites, withCache, withWriter, withRun, withState, withSnapshot, withJobDone}
+use Rattle.model.specs.Store.{Store, fresh, planned, withMaster, withLast, withSites, withCache, withCaches, withWriter, withRun, withState, withSnapshot, withJobDone}
 use Rattle.model.specs.Form.{validJob}
 use Rattle.model.specs.Outcome.{refuse, unless, replied, allowed, runCause}
 use Rattle.model.specs.Caches.{fetchCause, fetchDone, fetchRule, evictCause, evictDone, evictRule}
@@ -140,19 +140,19 @@ unfolding anyBelow allBelow only foldBelow countBelow largest when putAt upto bl
     versionSize placeSize siteSize writerSize runSize masterAt sitesAt writersAt runsAt totalOf
     lacking held dependency supersedes larger merge draws drawSet fetchSet fetched unfetchable
     evictSet evicted pullSet pulled fresh planned withMaster withLast withSites withCache
-    withWriter withRun withState withSnapshot withJobDone validJob refuse unless allowed
-    runCause fetchCause fetchDone fetchRule evictCause evictDone evictRule listedJob listedCount
-    listedJobs listValid openCause openedRun openDone openRule dropCause dropDone dropRule
-    jobStart fetchReads preparedCaches unpreparable usesSite sitesMerged siteCaches prepareCause
-    prepareCaches prepareSnapshot prepareDone prepareRule readStart stepSite stepReads stepStart
-    stepFetch stepCache stepPlan stepPull stepSnapshot stepMoved jobLimit notReady jobCause
-    stepCause stepBroken stepDone stepRule raiseCause issueCause takenIn rowsSet newPast
-    newVersion issuedMaster issuedWriter savedStore issuedStore issuedNumber issueDone issueRule
-    lookPlace lookLimit lookCause rowNumbers lookNumbers lookReply replied replyOf ruleOf
-    clockWords pastWords versionWords placeWords siteWords sitesWords writerWords writersWords
-    jobWords jobsWords runWords runsWords headerWords storeWords readClock readPast readVersion
-    readPlace readSite readWriter readJob readJobs readRun countsIn storeOf isOk writerOf leads
-    inPast reaches heldCopy needsCopy meetsCopy union lastIn byWriter counted freshBook
-    withBookCaches withBookRun bookOpen bookFetch bookEvict bookPrepare bookStepJob entry
-    bookIssue bookIssued bookRule bookOk bookStep
+    withCaches withWriter withRun withState withSnapshot withJobDone validJob refuse unless
+    allowed runCause fetchCause fetchDone fetchRule evictCause evictDone evictRule listedJob
+    listedCount listedJobs listValid openCause openedRun openDone openRule dropCause dropDone
+    dropRule jobStart fetchReads preparedCaches unpreparable usesSite sitesMerged siteCaches
+    prepareCause prepareCaches prepareSnapshot prepareDone prepareRule readStart stepSite
+    stepReads stepStart stepFetch stepCache stepPlan stepPull stepSnapshot stepMoved jobLimit
+    notReady jobCause stepCause stepBroken stepDone stepRule raiseCause issueCause takenIn
+    rowsSet newPast newVersion issuedMaster issuedWriter savedStore issuedStore issuedNumber
+    issueDone issueRule lookPlace lookLimit lookCause rowNumbers lookNumbers lookReply replied
+    replyOf ruleOf clockWords pastWords versionWords placeWords siteWords sitesWords writerWords
+    writersWords jobWords jobsWords runWords runsWords headerWords storeWords readClock readPast
+    readVersion readPlace readSite readWriter readJob readJobs readRun countsIn storeOf isOk
+    writerOf leads inPast reaches heldCopy needsCopy meetsCopy union lastIn byWriter counted
+    freshBook withBookCaches withBookRun bookOpen bookFetch bookEvict bookPrepare bookStepJob
+    entry bookIssue bookIssued bookRule bookOk bookStep
 scripted = record { later = refl; reading = refl; case-a = refl; longer = refl }

@@ -13,7 +13,7 @@ use Rattle.sizes.specs.Bounds.{countsOf, between}
 use Rattle.model.specs.Algebra.{lacking, needsMet, causalCut, overlappingCut}
 use Rattle.model.specs.Version.{held, dependency, supersedes, larger, merge}
 use Rattle.model.specs.Sets.{draws, drawSet, fetchSet, fetched, unfetchable, evictSet, evicted, pullSet, pulled}
-use Rattle.model.specs.Store.{fresh, planned, doneReads, withMaster, withLast, withSites, withCache, withWriter, withRun, withState, withSnapshot, withJobDone}
+use Rattle.model.specs.Store.{fresh, planned, doneReads, withMaster, withLast, withSites, withCache, withCaches, withWriter, withRun, withState, withSnapshot, withJobDone}
 use Rattle.model.specs.Form.{zeroRows, versionFormed, placeFormed, validJob, zeroJob, freeFormed, jobsFormed, masksFormed, snapshotFormed, runFormed, wellFormed}
 use Rattle.model.specs.Outcome.{answer, refuse, unless, replied, allowed, runCause}
 use Rattle.model.specs.Caches.{fetchCause, fetchDone, fetchRule, evictCause, evictDone, evictRule}
@@ -46,7 +46,7 @@ unfolding needsMet causalCut overlappingCut concurrent doneReads zeroRows versio
     anyBelow allBelow only foldBelow putAt upto blocks testBit withBit withIf maskBelow closure
     rounds round dominates present join between lacking held dependency supersedes larger merge
     draws drawSet fetchSet fetched unfetchable evictSet evicted pullSet pulled fresh planned
-    withMaster withLast withSites withCache withWriter withRun withState withSnapshot
+    withMaster withLast withSites withCache withCaches withWriter withRun withState withSnapshot
     withJobDone validJob answer refuse unless allowed runCause fetchCause fetchDone fetchRule
     evictCause evictDone evictRule listedJob listedCount listedJobs listValid openCause
     openedRun openDone openRule dropCause dropDone dropRule jobStart fetchReads preparedCaches
