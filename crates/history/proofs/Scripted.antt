@@ -20,7 +20,7 @@ use Rattle.sizes.specs.declared.Counts.{Counts}
 use Rattle.model.specs.Algebra.{Place, lacking}
 use Rattle.model.specs.Version.{Version, held, dependency, supersedes, larger, merge}
 use Rattle.model.specs.Sets.{draws, drawSet, fetchSet, fetched, unfetchable, evictSet, evicted, pullSet, pulled}
-use Rattle.model.specs.Store.{Store, fresh, planned, withMaster, withLast, withSites, withCache, withWriter, withRun, withState, withSnapshot, withJobDone}
+use Rattle.model.specs.Store.{Store, fresh, planned, withMaster, withLast, withSites, withCache, withCaches, withWriter, withRun, withState, withSnapshot, withJobDone}
 use Rattle.model.specs.Form.{validJob}
 use Rattle.model.specs.Outcome.{refuse, unless, replied, allowed, runCause}
 use Rattle.model.specs.Caches.{fetchCause, fetchDone, fetchRule, evictCause, evictDone, evictRule}
@@ -29,9 +29,9 @@ use Rattle.model.specs.Prepare.{jobStart, fetchReads, preparedCaches, unprepara
 use Rattle.model.specs.Step.{readStart, stepSite, stepReads, stepStart, stepFetch, stepCache, stepPlan, stepPull, stepSnapshot, stepMoved, jobLimit, notReady, jobCause, stepCause, stepBroken, stepDone, stepRule}
 use Rattle.model.specs.Issue.{raiseCause, issueCause, takenIn, rowsSet, newPast, newVersion, issuedMaster, issuedWriter, savedStore, issuedStore, issuedNumber, issueDone, issueRule}
 use Rattle.model.specs.Look.{lookPlace, lookLimit, lookCause, rowNumbers, lookNumbers, lookReply}
-use Rattle.model.specs.Calls.{StoreCall, openRun, fetch, step, issue, replyOf, ruleOf}
+use Rattle.model.specs.Calls.{StoreCall, fetch, replyOf, ruleOf}
 use Rattle.model.proofs.Outcomes.{nextStore}
-use Rattle.model.proofs.Scripts.{case-a-script, longer-script, reading-script}
+use Rattle.model.proofs.Scripts.{saving, case-a-script, longer-script, reading-script}
 use Rattle.layout.specs.Words.{clockWords, pastWords, versionWords, placeWords, siteWords, sitesWords, writerWords, writersWords, jobWords, jobsWords, runWords, runsWords, headerWords, storeWords}
 use Rattle.layout.specs.Reading.{readClock, readPast, readVersion, readPlace, readSite, readWriter, readJob, readJobs, readRun, countsIn, storeOf}
 use Rattle.layout.specs.Calls.{on, isOk}
@@ -123,10 +123,6 @@ from-new z cs = followed cs (fresh z) (freshBook z)
 
 -- ---- the scripts
 
--- Writer 0, having read nothing, saves the sheets of S.
-abbrev pub saving : ℕ → List StoreCall
-saving S = openRun 0 (0 ∷ 0 ∷ 0 ∷ []) ∷ step 0 0 ∷ issue 0 0 S ∷ []
-
 -- After `new 2 1 1 1`: an issue of nothing isn't entered. Site 0 takes 0; then 0 and 1 are saved,
 -- and 1 needs both saves of 0, being by the same writer: the site takes 0 again with it.
 abbrev pub later-script : List StoreCall
@@ -144,19 +140,19 @@ unfolding anyBelow allBelow only foldBelow countBelow largest when putAt upto bl
     versionSize placeSize siteSize writerSize runSize masterAt sitesAt writersAt runsAt totalOf
     lacking held dependency supersedes larger merge draws drawSet fetchSet fetched unfetchable
     evictSet evicted pullSet pulled fresh planned withMaster withLast withSites withCache
-    withWriter withRun withState withSnapshot withJobDone validJob refuse unless allowed
-    runCause fetchCause fetchDone fetchRule evictCause evictDone evictRule listedJob listedCount
-    listedJobs listValid openCause openedRun openDone openRule dropCause dropDone dropRule
-    jobStart fetchReads preparedCaches unpreparable usesSite sitesMerged siteCaches prepareCause
-    prepareCaches prepareSnapshot prepareDone prepareRule readStart stepSite stepReads stepStart
-    stepFetch stepCache stepPlan stepPull stepSnapshot stepMoved jobLimit notReady jobCause
-    stepCause stepBroken stepDone stepRule raiseCause issueCause takenIn rowsSet newPast
-    newVersion issuedMaster issuedWriter savedStore issuedStore issuedNumber issueDone issueRule
-    lookPlace lookLimit lookCause rowNumbers lookNumbers lookReply replied replyOf ruleOf
-    clockWords pastWords versionWords placeWords siteWords sitesWords writerWords writersWords
-    jobWords jobsWords runWords runsWords headerWords storeWords readClock readPast readVersion
-    readPlace readSite readWriter readJob readJobs readRun countsIn storeOf isOk writerOf leads
-    inPast reaches heldCopy needsCopy meetsCopy union lastIn byWriter counted freshBook
-    withBookCaches withBookRun bookOpen bookFetch bookEvict bookPrepare bookStepJob entry
-    bookIssue bookIssued bookRule bookOk bookStep
+    withCaches withWriter withRun withState withSnapshot withJobDone validJob refuse unless
+    allowed runCause fetchCause fetchDone fetchRule evictCause evictDone evictRule listedJob
+    listedCount listedJobs listValid openCause openedRun openDone openRule dropCause dropDone
+    dropRule jobStart fetchReads preparedCaches unpreparable usesSite sitesMerged siteCaches
+    prepareCause prepareCaches prepareSnapshot prepareDone prepareRule readStart stepSite
+    stepReads stepStart stepFetch stepCache stepPlan stepPull stepSnapshot stepMoved jobLimit
+    notReady jobCause stepCause stepBroken stepDone stepRule raiseCause issueCause takenIn
+    rowsSet newPast newVersion issuedMaster issuedWriter savedStore issuedStore issuedNumber
+    issueDone issueRule lookPlace lookLimit lookCause rowNumbers lookNumbers lookReply replied
+    replyOf ruleOf clockWords pastWords versionWords placeWords siteWords sitesWords writerWords
+    writersWords jobWords jobsWords runWords runsWords headerWords storeWords readClock readPast
+    readVersion readPlace readSite readWriter readJob readJobs readRun countsIn storeOf isOk
+    writerOf leads inPast reaches heldCopy needsCopy meetsCopy union lastIn byWriter counted
+    freshBook withBookCaches withBookRun bookOpen bookFetch bookEvict bookPrepare bookStepJob
+    entry bookIssue bookIssued bookRule bookOk bookStep
 scripted = record { later = refl; reading = refl; case-a = refl; longer = refl }

@@ -1,7 +1,7 @@
 -- A changed part keeps the store in range.
 -- fit-..: of a part, and of a store with one part changed.
 -- Assumes nothing.
-use mathlib.Core.Path.{_≡_, refl, ap, _∙_, fun-ext}
+use mathlib.Core.Path.{_≡_, refl, ap, ap₂, _∙_, fun-ext}
 use mathlib.Core.Bool.{Bool, cond}
 use mathlib.Core.Logic.{_⊎_, inl, inr, ⊎-elim}
 use Prim.Native.Nat.{ℕ, _≤_, _<_}
@@ -14,10 +14,10 @@ use Rattle.clock.specs.Clock.{Clock, join}
 use Rattle.sizes.specs.declared.Counts.{Counts}
 use Rattle.model.specs.Algebra.{Place}
 use Rattle.model.specs.Version.{Version, unheld, larger, merge}
-use Rattle.model.specs.Store.{Writer, Run, Site, Store, emptyPlace, freeRun, fresh, withLast, withMaster, withSites, withCache, withWriter, withRun}
+use Rattle.model.specs.Store.{Writer, Run, Site, Store, emptyPlace, noSite, freeRun, zeroStore, fresh, siteWith, withLast, withMaster, withSites, withCache, withCaches, withWriter, withRun}
 use Rattle.model.proofs.Merges.{merge-cases, merge-idem}
 use Rattle.layout.proofs.Codec.{FitMany}
-use Rattle.layout.proofs.Parts.{FitPast, FitVersion, FitPlace, FitSites, FitWriter, FitRun}
+use Rattle.layout.proofs.Parts.{FitPast, FitVersion, FitPlace, FitSite, FitSites, FitWriter, FitRun}
 use Rattle.layout.proofs.Whole.{FitStore}
 
 -- ---- what stands where nothing does
@@ -39,17 +39,23 @@ fit-free z = record {
   snapshot = fit-empty z;
 }
 
-pub fresh-fits : (z : Counts) → FitStore (fresh z)
-unfolding fresh
-fresh-fits z = record {
+pub fit-no-site : (z : Counts) → FitSite z noSite
+fit-no-site z = record { cache = fit-empty z }
+
+zero-fits : (z : Counts) → FitStore (zeroStore z)
+zero-fits z = record {
   master = fit-empty z;
-  site = record { each = λ o h. record { cache = fit-empty z }; rest = λ o h. refl };
+  site = record { each = λ o h. fit-no-site z; rest = λ o h. refl };
   writer = record {
     each = λ w h. record { past = fit-unheld z .past };
     rest = λ w h. refl;
   };
   run = record { each = λ r h. fit-free z; rest = λ r h. refl };
 }
+
+pub fresh-fits : (z : Counts) → FitStore (fresh z)
+unfolding fresh
+fresh-fits z = zero-fits z
 
 -- ---- versions and places
 
@@ -115,6 +121,12 @@ pub place-fit : (z : Counts) (p : Place Version) → FitPlace z p → (k : ℕ) 
 place-fit z p F k =
     ⊎-elim (λ h. F .each k h) (λ h. rw (F .rest k h) (fit-unheld z)) (below-or-not k (z .keys))
 
+-- ---- a site with another cache
+
+fit-site-with : (z : Counts) (x : Site) (p : Place Version) → FitSite z x → FitPlace z p
+    → FitSite z (siteWith x p)
+fit-site-with z x p F G = record { cache = G }
+
 -- ---- the store with one part changed
 
 module _ (s : Store) (F : FitStore s) where
@@ -134,8 +146,20 @@ module _ (s : Store) (F : FitStore s) where
       → FitStore (withCache s o p)
   unfolding withCache
   fit-cache o p h G =
-      let x : Site = record { cache = p } in
-      fit-sites (putAt (s .site) o x) (fit-put (s .site) o x (F .site) h (record { cache = G }))
+      let x = siteWith (s .site o) p in
+      fit-sites (putAt (s .site) o x) (fit-put (s .site) o x (F .site) h
+      (fit-site-with (s .counts) (s .site o) p (F .site .each o h) G))
+
+  pub fit-caches : (p : ℕ → Place Version)
+      → FitMany (s .counts .sites) emptyPlace (FitPlace (s .counts)) p
+      → FitStore (withCaches s p)
+  unfolding withCaches
+  fit-caches p G =
+      let z = s .counts in
+      fit-sites (λ o. siteWith (s .site o) (p o)) (record {
+        each = λ o h. fit-site-with z (s .site o) (p o) (F .site .each o h) (G .each o h);
+        rest = λ o h. ap₂ siteWith (F .site .rest o h) (G .rest o h);
+      })
 
   pub fit-writer : (w : ℕ) (x : Writer) → w < s .counts .writers → FitWriter (s .counts) x
       → FitStore (withWriter s w x)

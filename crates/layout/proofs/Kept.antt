@@ -13,7 +13,7 @@ use Rattle.sizes.specs.Bounds.{Ranged}
 use Rattle.model.specs.Algebra.{Place}
 use Rattle.model.specs.Version.{Version, versions}
 use Rattle.model.specs.Sets.{fetchSet, fetched, evictSet, evicted}
-use Rattle.model.specs.Store.{Store, emptyPlace, freeRun, fresh, withSites, withCache, withRun}
+use Rattle.model.specs.Store.{Store, emptyPlace, freeRun, zeroStore, fresh, withSites, withCache, withRun}
 use Rattle.model.specs.Outcome.{Outcome, refused, broken, done, unless, Reply, replied, runCause}
 use Rattle.model.specs.Caches.{fetchCause, fetchDone, fetchRule, evictCause, evictDone, evictRule}
 use Rattle.model.specs.Runs.{dropCause, dropDone, dropRule}
@@ -56,17 +56,17 @@ kept-replied s a F =
 
 -- ---- a fresh store
 
+zero-formed : (z : Counts) → Formed (zeroStore z)
+zero-formed z = record {
+  master = formed-empty z;
+  cache = λ o h. formed-empty z;
+  run = λ r h. free-formed z;
+}
+
 pub fresh-fine : (z : Counts) → Ranged z → Fine (fresh z)
 unfolding fresh
-fresh-fine z R = record {
-  fits = fresh-fits z;
-  counts = R;
-  formed = well-in (fresh z) (record {
-    master = formed-empty z;
-    cache = λ o h. formed-empty z;
-    run = λ r h. free-formed z;
-  });
-}
+fresh-fine z R =
+    record { fits = fresh-fits z; counts = R; formed = well-in (fresh z) (zero-formed z) }
 
 -- ---- drop
 

@@ -16,7 +16,7 @@ use Rattle.sizes.specs.declared.Counts.{Counts}
 use Rattle.model.specs.Algebra.{Place}
 use Rattle.model.specs.Version.{Version, unheld, held, merge, versions}
 use Rattle.model.specs.Sets.{fetched}
-use Rattle.model.specs.Store.{Job, Run, Site, Store, emptyPlace, planned, withSites, withRun, withSnapshot}
+use Rattle.model.specs.Store.{Job, Run, Site, Store, emptyPlace, planned, withSites, withCaches, withRun, withSnapshot}
 use Rattle.model.specs.Form.{runFormed}
 use Rattle.model.specs.Outcome.{allowed, prepareRow, runCause}
 use Rattle.model.specs.Prepare.{jobStart, fetchReads, preparedCaches, usesSite, sitesMerged, siteCaches, prepareCause, prepareCaches, prepareSnapshot, prepareDone, prepareRule}
@@ -24,9 +24,9 @@ use Rattle.model.proofs.Merges.{merge-idem}
 use Rattle.model.proofs.Outcomes.{no-cause, no-lack, allowed-used}
 use Rattle.model.proofs.DoneReads.{doneReads-none}
 use Rattle.layout.proofs.Codec.{FitMany}
-use Rattle.layout.proofs.Parts.{FitVersion, FitPlace, FitSites, FitRun}
-use Rattle.layout.proofs.Fit.{fit-unheld, fit-put, fit-merge, fit-sites, fit-run}
-use Rattle.model.proofs.Formed.{VersionFormed, version-unheld, version-merge, PlaceFormed, well-out, formed-sites, formed-run}
+use Rattle.layout.proofs.Parts.{FitVersion, FitPlace, FitRun}
+use Rattle.layout.proofs.Fit.{fit-unheld, fit-put, fit-merge, fit-caches, fit-run}
+use Rattle.model.proofs.Formed.{VersionFormed, version-unheld, version-merge, PlaceFormed, well-out, formed-caches, formed-run}
 use Rattle.model.proofs.Plans.{valid-out, Jobs, Plan, plan-out, plan-in}
 use Rattle.layout.proofs.Follow.{Fine}
 use Rattle.layout.proofs.Kept.{Kept, kept-done, kept-unless, fetched-fits, fetched-formed}
@@ -151,12 +151,6 @@ module _ (s : Store) (r : ℕ) (F : Fine s) (A : Accepted s r) where
       prepared (s .counts) (s .master) (a .job) (a .jobs) (siteCaches s) M (was .jobs)
       (store-caches s F)
 
-  sites-fit : FitSites (s .counts) (λ o. record { cache = prepareCaches s r o })
-  sites-fit = record {
-    each = λ o h. record { cache = caches .each o h .fits };
-    rest = λ o h. ap (λ (p : Place Version). record { cache = p }) (caches .rest o h);
-  }
-
   -- No key is read.
   pub unread : (k : ℕ) → testBit (s .run r .read) k ≡ false
   unread k =
@@ -199,12 +193,13 @@ module _ (s : Store) (r : ℕ) (F : Fine s) (A : Accepted s r) where
       })
 
   done-kept : Kept s (prepareDone s r)
-  unfolding prepareDone after withSites withRun
+  unfolding prepareDone after withCaches withSites withRun
   done-kept =
-      let f : ℕ → Site = λ o. record { cache = prepareCaches s r o } in
-      let s₁ = withSites s f in
-      let f₁ = fit-sites s (F .fits) f sites-fit in
-      let g₁ = formed-sites s (well-out s (F .formed)) f (λ o h. caches .each o h .formed) in
+      let p = prepareCaches s r in
+      let s₁ = withCaches s p in
+      let f₁ = fit-caches s (F .fits) p
+      (record { each = λ o h. caches .each o h .fits; rest = caches .rest }) in
+      let g₁ = formed-caches s (well-out s (F .formed)) p (λ o h. caches .each o h .formed) in
       kept-done s (withRun s₁ r after) _ F (fit-run s₁ f₁ r after (A .run) after-fits)
       (formed-run s₁ g₁ r after after-formed) refl
 

@@ -1,3 +1,5 @@
+pub mod Buffers
+pub mod Scripted
 pub mod Codec
 pub mod Parts
 pub mod Shapes
@@ -18,4 +20,3 @@ pub mod KeptIssue
 pub mod Rules
 pub mod Calls
 pub mod Forms
-pub mod Scripted

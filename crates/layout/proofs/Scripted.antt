@@ -15,7 +15,7 @@ use Rattle.sizes.specs.Bounds.{between, ranged, pastSize, versionSize, placeSiz
 use Rattle.model.specs.Algebra.{lacking}
 use Rattle.model.specs.Version.{held, dependency, supersedes, larger, merge}
 use Rattle.model.specs.Sets.{draws, drawSet, fetchSet, fetched, unfetchable, evictSet, evicted, pullSet, pulled}
-use Rattle.model.specs.Store.{fresh, planned, doneReads, withMaster, withLast, withSites, withCache, withWriter, withRun, withState, withSnapshot, withJobDone}
+use Rattle.model.specs.Store.{fresh, planned, doneReads, withMaster, withLast, withSites, withCache, withCaches, withWriter, withRun, withState, withSnapshot, withJobDone}
 use Rattle.model.specs.Form.{zeroRows, versionFormed, placeFormed, validJob, zeroJob, freeFormed, jobsFormed, masksFormed, snapshotFormed, runFormed, wellFormed}
 use Rattle.model.specs.Outcome.{answer, refuse, unless, replied, allowed, runCause}
 use Rattle.model.specs.Caches.{fetchCause, fetchDone, fetchRule, evictCause, evictDone, evictRule}
@@ -89,19 +89,19 @@ unfolding anyBelow allBelow only foldBelow putAt upto blocks testBit withBit wit
     siteSize writerSize runSize masterAt sitesAt writersAt runsAt totalOf lacking held
     dependency supersedes larger merge draws drawSet fetchSet fetched unfetchable evictSet
     evicted pullSet pulled fresh planned doneReads withMaster withLast withSites withCache
-    withWriter withRun withState withSnapshot withJobDone zeroRows versionFormed placeFormed
-    validJob zeroJob freeFormed jobsFormed masksFormed snapshotFormed runFormed wellFormed
-    answer refuse unless allowed runCause fetchCause fetchDone fetchRule evictCause evictDone
-    evictRule listedJob listedCount listedJobs listValid openCause openedRun openDone openRule
-    dropCause dropDone dropRule jobStart fetchReads preparedCaches unpreparable usesSite
-    sitesMerged siteCaches prepareCause prepareCaches prepareSnapshot prepareDone prepareRule
-    readStart stepSite stepReads stepStart stepFetch stepCache stepPlan stepPull stepSnapshot
-    stepMoved jobLimit notReady jobCause stepCause stepBroken stepDone stepRule raiseCause
-    issueCause takenIn rowsSet newPast newVersion issuedMaster issuedWriter savedStore
-    issuedStore issuedNumber issueDone issueRule lookPlace lookLimit lookCause rowNumbers
-    lookNumbers lookReply replied replyOf ruleOf clockWords pastWords versionWords placeWords
-    siteWords sitesWords writerWords writersWords jobWords jobsWords runWords runsWords
-    headerWords storeWords readClock readPast readVersion readPlace readSite readWriter readJob
-    readJobs readRun countsIn storeOf written headerRight shaped inForm newCause newOn onStore
-    callOn leaves outcomes after
+    withCaches withWriter withRun withState withSnapshot withJobDone zeroRows versionFormed
+    placeFormed validJob zeroJob freeFormed jobsFormed masksFormed snapshotFormed runFormed
+    wellFormed answer refuse unless allowed runCause fetchCause fetchDone fetchRule evictCause
+    evictDone evictRule listedJob listedCount listedJobs listValid openCause openedRun openDone
+    openRule dropCause dropDone dropRule jobStart fetchReads preparedCaches unpreparable
+    usesSite sitesMerged siteCaches prepareCause prepareCaches prepareSnapshot prepareDone
+    prepareRule readStart stepSite stepReads stepStart stepFetch stepCache stepPlan stepPull
+    stepSnapshot stepMoved jobLimit notReady jobCause stepCause stepBroken stepDone stepRule
+    raiseCause issueCause takenIn rowsSet newPast newVersion issuedMaster issuedWriter
+    savedStore issuedStore issuedNumber issueDone issueRule lookPlace lookLimit lookCause
+    rowNumbers lookNumbers lookReply replied replyOf ruleOf clockWords pastWords versionWords
+    placeWords siteWords sitesWords writerWords writersWords jobWords jobsWords runWords
+    runsWords headerWords storeWords readClock readPast readVersion readPlace readSite
+    readWriter readJob readJobs readRun countsIn storeOf written headerRight shaped inForm
+    newCause newOn onStore callOn leaves outcomes after
 scripted = record { case-a = refl; case-a-past = refl; longer = refl }

@@ -16,7 +16,7 @@ use Rattle.words.proofs.Stores.{sets-left, sets-behind, sets-all}
 use Rattle.sizes.specs.Bounds.{doneOffset, snapshotOffset, siteSize, writerSize, runSize, masterAt, sitesAt, writersAt, runsAt, totalOf, siteAt, writerAt, runAt, snapshotAt}
 use Rattle.model.specs.Algebra.{Place}
 use Rattle.model.specs.Version.{Version}
-use Rattle.model.specs.Store.{Writer, Run, Store, withLast, withMaster, withSites, withCache, withWriter, withRun, withState, withSnapshot, withJobDone}
+use Rattle.model.specs.Store.{Writer, Run, Site, Store, withLast, withMaster, withSites, withSite, siteWith, withCache, withWriter, withRun, withState, withSnapshot, withJobDone}
 use Rattle.layout.specs.Words.{headerWords, placeWords, siteWords, sitesWords, writerWords, writersWords, jobsWords, runWords, runsWords, storeWords}
 use Rattle.layout.specs.Buffer.{written}
 use Rattle.layout.specs.Reading.{storeOf}
@@ -97,12 +97,12 @@ put-master s l p =
 
 -- ---- a store within one part of a row: what it does to the part, it does to the store
 
-pub put-site-part : (s : Store) (l : List ℕ) (o i : ℕ) (x : List ℕ) (p : Place Version)
+pub put-site-part : (s : Store) (l : List ℕ) (o i : ℕ) (x : List ℕ) (y : Site)
     → o < s .counts .sites → i + length x ≤ siteSize (s .counts)
-    → sets (siteWords (s .counts) (s .site o)) i x ≡ siteWords (s .counts) (record { cache = p })
-    → sets (written s l) (siteAt (s .counts) o + i) x ≡ written (withCache s o p) l
-unfolding withCache withSites siteAt toMaster afterSites afterWriters afterRuns sitesWords
-put-site-part s l o i x p h j e =
+    → sets (siteWords (s .counts) (s .site o)) i x ≡ siteWords (s .counts) y
+    → sets (written s l) (siteAt (s .counts) o + i) x ≡ written (withSite s o y) l
+unfolding withSites siteAt toMaster afterSites afterWriters afterRuns sitesWords
+put-site-part s l o i x y h j e =
     let z = s .counts in
     let L = site-laws z in
     let k = o * siteSize z + i in
@@ -110,8 +110,8 @@ put-site-part s l o i x p h j e =
     rw (view-sites s l, g)
     (area-to (toMaster s) (sitesWords z (s .site)) (afterSites s l) _ x (sitesAt z) k
     (master-long s) (many-room (z .sites) L (s .site) o i x h j)
-    (many-part (z .sites) L (s .site) o i x (record { cache = p }) h j e)
-    ∙ sym (view-sites (withCache s o p) l))
+    (many-part (z .sites) L (s .site) o i x y h j e)
+    ∙ sym (view-sites (withSite s o y) l))
 
 pub put-writer-part : (s : Store) (l : List ℕ) (w i : ℕ) (x : List ℕ) (y : Writer)
     → w < s .counts .writers → i + length x ≤ writerSize (s .counts)
@@ -150,13 +150,14 @@ put-run-part s l r i x y h j e =
 pub put-cache : (s : Store) (l : List ℕ) (o : ℕ) (p : Place Version) → o < s .counts .sites
     → sets (written s l) (siteAt (s .counts) o) (placeWords (s .counts) p)
     ≡ written (withCache s o p) l
-unfolding siteWords siteSize
+unfolding siteWords siteSize withCache
 put-cache s l o p h =
     let z = s .counts in
     let L = place-laws z in
-    let c = s .site o .cache in
+    let x = s .site o in
+    let c = x .cache in
     let e : siteAt z o ≡ siteAt z o + 0 = omega arith in
-    rw e (put-site-part s l o 0 (placeWords z p) p h (omega (arith, L .long p))
+    rw e (put-site-part s l o 0 (placeWords z p) (siteWith x p) h (omega (arith, L .long p))
     (sets-all (placeWords z c) (placeWords z p) (L .long p ∙ sym (L .long c))))
 
 pub put-writer : (s : Store) (l : List ℕ) (w : ℕ) (y : Writer) → w < s .counts .writers

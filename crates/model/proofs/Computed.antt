@@ -13,7 +13,7 @@ use Rattle.sizes.specs.Bounds.{countsOf, between}
 use Rattle.model.specs.Algebra.{lacking, needsMet, causalCut, overlappingCut}
 use Rattle.model.specs.Version.{held, dependency, supersedes, larger, merge}
 use Rattle.model.specs.Sets.{draws, drawSet, fetchSet, fetched, unfetchable, evictSet, evicted, pullSet, pulled}
-use Rattle.model.specs.Store.{fresh, planned, doneReads, withMaster, withLast, withSites, withCache, withWriter, withRun, withState, withSnapshot, withJobDone}
+use Rattle.model.specs.Store.{fresh, planned, doneReads, withMaster, withLast, withSites, withCache, withCaches, withWriter, withRun, withState, withSnapshot, withJobDone}
 use Rattle.model.specs.Form.{zeroRows, versionFormed, placeFormed, validJob, zeroJob, freeFormed, jobsFormed, masksFormed, snapshotFormed, runFormed, wellFormed}
 use Rattle.model.specs.Outcome.{answer, refuse, unless, replied, allowed, runCause}
 use Rattle.model.specs.Caches.{fetchCause, fetchDone, fetchRule, evictCause, evictDone, evictRule}
@@ -23,17 +23,21 @@ use Rattle.model.specs.Step.{readStart, stepSite, stepReads, stepStart, 
 use Rattle.model.specs.Issue.{raiseCause, issueCause, takenIn, rowsSet, newPast, newVersion, issuedMaster, issuedWriter, savedStore, issuedStore, issuedNumber, issueDone, issueRule}
 use Rattle.model.specs.Look.{lookPlace, lookLimit, lookCause, rowNumbers, lookNumbers, lookReply}
 use Rattle.model.specs.Calls.{replyOf, ruleOf}
-use Rattle.model.proofs.Readings.{marked, sentences, unmarked, unmarked-answers}
-use Rattle.model.proofs.Scripts.{answers, case-a-script, case-a-answers, longer-script, longer-answers, refusals-script, refusals-answers, reading-script, reading-answers}
+use Rattle.model.proofs.Readings.{marked, sentences, unmarked, limits, shelved}
+use Rattle.model.proofs.Scripts.{answers, case-a-script, case-a-answers, longer-script, longer-answers, refusals-script, refusals-answers, reading-script, reading-answers, again-script, again-answers, broken-script, broken-answers}
 
 -- The ten marked readings pass, and each script is answered as it should be, answer by answer.
 pub record Computed : Type 0 where
   pub ten : marked ≡ replicate 10 true
-  pub texts : sentences ≡ replicate 3 true
-  pub others : unmarked ≡ unmarked-answers
+  pub texts : sentences ≡ replicate 4 true
+  pub others : unmarked ≡ replicate 5 true
+  pub at-limits : limits ≡ replicate 6 true
+  pub on-shelf : shelved ≡ replicate 2 true
   pub case-a : answers case-a-script (fresh (countsOf 2 2 2 1)) ≡ case-a-answers
   pub refusals : answers refusals-script (fresh (countsOf 2 2 1 2)) ≡ refusals-answers
   pub reading : answers reading-script (fresh (countsOf 2 2 2 1)) ≡ reading-answers
+  pub again : answers again-script (fresh (countsOf 2 2 1 1)) ≡ again-answers
+  pub broken : answers broken-script (fresh (countsOf 2 2 2 2)) ≡ broken-answers
   pub longer : answers longer-script (fresh (countsOf 3 2 2 2)) ≡ longer-answers
 
 pub computed : Computed
@@ -42,7 +46,7 @@ unfolding needsMet causalCut overlappingCut concurrent doneReads zeroRows versio
     anyBelow allBelow only foldBelow putAt upto blocks testBit withBit withIf maskBelow closure
     rounds round dominates present join between lacking held dependency supersedes larger merge
     draws drawSet fetchSet fetched unfetchable evictSet evicted pullSet pulled fresh planned
-    withMaster withLast withSites withCache withWriter withRun withState withSnapshot
+    withMaster withLast withSites withCache withCaches withWriter withRun withState withSnapshot
     withJobDone validJob answer refuse unless allowed runCause fetchCause fetchDone fetchRule
     evictCause evictDone evictRule listedJob listedCount listedJobs listValid openCause
     openedRun openDone openRule dropCause dropDone dropRule jobStart fetchReads preparedCaches
@@ -56,8 +60,12 @@ computed = record {
   ten = refl;
   texts = refl;
   others = refl;
+  at-limits = refl;
+  on-shelf = refl;
   case-a = refl;
   refusals = refl;
   reading = refl;
+  again = refl;
+  broken = refl;
   longer = refl;
 }

@@ -16,7 +16,7 @@ use Rattle.clock.proofs.Order.{present-mono}
 use Rattle.sizes.specs.declared.Counts.{Counts}
 use Rattle.model.specs.Algebra.{Place}
 use Rattle.model.specs.Version.{Version, unheld, zeroPast, held, merge}
-use Rattle.model.specs.Store.{Writer, Run, Site, Store, emptyPlace, withLast, withMaster, withSites, withCache, withWriter, withRun}
+use Rattle.model.specs.Store.{Writer, Run, Site, Store, emptyPlace, siteWith, withLast, withMaster, withSites, withCache, withCaches, withWriter, withRun}
 use Rattle.model.specs.Form.{zeroRows, versionFormed, placeFormed, runFormed, wellFormed}
 use Rattle.model.proofs.Merges.{merge-unheld-left, merge-held-left, merge-left}
 
@@ -135,10 +135,16 @@ module _ (s : Store) (F : Formed s) where
   unfolding withCache
   formed-cache o p G =
       let z = s .counts in
-      let x : Site = record { cache = p } in
+      let x = siteWith (s .site o) p in
       formed-sites (putAt (s .site) o x) (λ i h.
       putAt-cases (λ (x : Site). PlaceFormed z (x .cache)) (s .site) o x i (λ _. G)
       (λ _. F .cache i h))
+
+  pub formed-caches : (p : ℕ → Place Version)
+      → ((o : ℕ) → o < s .counts .sites → PlaceFormed (s .counts) (p o))
+      → Formed (withCaches s p)
+  unfolding withCaches
+  formed-caches p G = formed-sites (λ o. siteWith (s .site o) (p o)) G
 
   pub formed-writer : (w : ℕ) (x : Writer) → Formed (withWriter s w x)
   unfolding withWriter

@@ -1,5 +1,5 @@
 -- Document 01's "Readings that mislead" as tests: the ten marked ones as one list, and the others
--- on a store.
+-- on a store; then stores that no list of calls from new reaches.
 -- `Computed` proves that each of them passes.
 -- Assumes nothing.
 use mathlib.Core.Bool.{Bool, true, false, not, _&&_}
@@ -13,13 +13,14 @@ use Rattle.masks.specs.Mask.{testBit, maskBelow}
 use Rattle.clock.specs.Clock.{Clock, dominates, concurrent}
 use Rattle.sizes.specs.Bounds.{countsOf}
 use Rattle.model.specs.Algebra.{Place, causalCut, overlappingCut}
-use Rattle.model.specs.Version.{Version, unheld, dependency, supersedes, merge, versions}
+use Rattle.model.specs.Version.{Version, zeroPast, unheld, dependency, supersedes, merge, versions}
 use Rattle.model.specs.Sets.{evictSet}
-use Rattle.model.specs.Store.{Store, Job, noJob, fresh, withCache, withRun, withMaster}
+use Rattle.model.specs.Store.{Store, Job, emptyPlace, noJob, noJobs, fresh, withLast, withMaster, withCache, withWriter, withRun}
 use Rattle.model.specs.Form.{wellFormed}
 use Rattle.model.specs.Outcome.{answer}
+use Rattle.model.specs.Issue.{maxWord}
 use Rattle.model.specs.Look.{rowNumbers}
-use Rattle.model.specs.Calls.{openRun, step, ruleOf}
+use Rattle.model.specs.Calls.{StoreCall, openRun, fetch, step, issue, ask, look, ruleOf}
 use Rattle.model.proofs.Scripts.{ok₁, ok₃, broke, not-taken}
 
 -- ---- ways to write the examples
@@ -125,11 +126,13 @@ store-of read need =
       snapshot = place (version 1 (one-zero ∷ []) ∷ []);
     })
 
--- The step of job 1 on a store that is in form.
+-- A call on a store that is in form.
+abbrev pub answered : Store → StoreCall → List ℕ → Bool
+answered s c expected = wellFormed s && same (answer (ruleOf c s)) expected
+
+-- The step of job 1.
 abbrev pub stepping : ℕ → List ℕ → List ℕ → Bool
-stepping read need expected =
-    let s = store-of read need in
-    wellFormed s && same (answer (ruleOf (step 0 1) s)) expected
+stepping read need expected = answered (store-of read need) (step 0 1) expected
 
 -- "sheet 0 was read at (1,0). The shelf has 0 at (2,0), and 1 that needs 0 at (1,0). A job
 -- reading 1 goes through."
@@ -158,6 +161,12 @@ marked =
 abbrev pub concurrent-unmet : Bool
 concurrent-unmet = not (supersedes 2 0 (version 1 (one-zero ∷ [])) (clock zero-one))
 
+-- "(1,1) covers both": so it is no rival of (1,0).
+abbrev pub not-concurrent : Bool
+not-concurrent =
+    not (concurrent 2 (clock one-one) (clock one-zero))
+    && not (concurrent 2 (clock one-zero) (clock one-one))
+
 -- A causal cut: sixth's place is one, and without e it isn't one, nor with e older than u's need.
 abbrev pub cut : Bool
 cut =
@@ -172,18 +181,52 @@ overlap =
     && not (overlappingCut (versions 2) 3 (testBit 5) evicting)
 
 abbrev pub sentences : List Bool
-sentences = concurrent-unmet ∷ cut ∷ overlap ∷ []
+sentences = concurrent-unmet ∷ not-concurrent ∷ cut ∷ overlap ∷ []
 
 abbrev words : ℕ → List ℕ
 words zero = []
 words (suc n) = 0 ∷ 1 ∷ 0 ∷ words n
 
--- "Open takes 8 jobs; 9 give 5. Step 0 0 on a free run gives 4."
-abbrev pub unmarked : List (List ℕ)
+-- On a new store: "Open takes 8 jobs; 9 give 5. Step 0 0 on a free run gives 4." "list length not
+-- 3 per job" is 5 too, and a look at the card of a free run 8.
+abbrev pub unmarked : List Bool
 unmarked =
-    answer (ruleOf (openRun 0 (words 8)) (fresh (countsOf 2 2 1 1)))
-    ∷ answer (ruleOf (openRun 0 (words 9)) (fresh (countsOf 2 2 1 1)))
-    ∷ answer (ruleOf (step 0 0) (fresh (countsOf 2 2 1 1))) ∷ []
+    let s = fresh (countsOf 2 2 1 1) in
+    answered s (openRun 0 (words 8)) (ok₁ 8) ∷ answered s (openRun 0 (words 9)) (not-taken 5)
+    ∷ answered s (openRun 0 (0 ∷ 1 ∷ 0 ∷ 0 ∷ [])) (not-taken 5)
+    ∷ answered s (step 0 0) (not-taken 4) ∷ answered s (ask (look 2 0 0)) (not-taken 8) ∷ []
 
-abbrev pub unmarked-answers : List (List ℕ)
-unmarked-answers = ok₁ 8 ∷ not-taken 5 ∷ not-taken 4 ∷ []
+-- ---- stores that no list of calls from new reaches
+
+-- A last issue number and writer 0's count; run 0 is done, and has read nothing.
+abbrev counted-to : ℕ → ℕ → Store
+counted-to last count =
+    let s = withLast (fresh (countsOf 2 2 1 1)) last in
+    withRun (withWriter s 0 (record { count = count; past = zeroPast })) 0 (record {
+      state = 1;
+      jobs = 1;
+      done = 1;
+      read = 0;
+      job = noJobs;
+      snapshot = emptyPlace;
+    })
+
+-- "Issue with S not empty": 9 before 10, both where both are reached; neither with S empty, nor
+-- the count of another writer.
+abbrev pub limits : List Bool
+limits =
+    let top = maxWord in
+    let below : ℕ = 4294967294 in
+    answered (counted-to top top) (issue 0 0 1) (not-taken 9)
+    ∷ answered (counted-to top top) (issue 0 0 0) (ok₁ 0)
+    ∷ answered (counted-to top below) (issue 0 0 1) (not-taken 9)
+    ∷ answered (counted-to below top) (issue 0 0 1) (not-taken 10)
+    ∷ answered (counted-to below top) (issue 0 1 1) (ok₁ top)
+    ∷ answered (counted-to below below) (issue 0 0 1) (ok₁ top) ∷ []
+
+-- "A sheet to be fetched isn't held by the master", though the shelf has it; and if it is.
+abbrev pub shelved : List Bool
+shelved =
+    let p = place (version 1 (one-zero ∷ []) ∷ []) in
+    let s = withCache (fresh (countsOf 2 2 1 1)) 0 p in
+    answered s (fetch 0 0) (not-taken 7) ∷ answered (withMaster s p) (fetch 0 0) (ok₁ 1) ∷ []

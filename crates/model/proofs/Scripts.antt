@@ -1,7 +1,8 @@
--- Scripts of calls on a store, and their answers: case A of document 01 and a longer one.
+-- Scripts of calls on a store, and their answers: case A of document 01, and others by what they
+-- show.
 -- answers: of a list of calls carried out. case-a, longer ..: the scripts, and what they answer.
 -- Assumes nothing.
-use mathlib.Core.List.{List, [], _∷_}
+use mathlib.Core.List.{List, [], _∷_, _++_}
 use Prim.Native.Nat.{ℕ}
 use Rattle.model.specs.Store.{Store}
 use Rattle.model.specs.Outcome.{answer}
@@ -108,3 +109,36 @@ reading-script =
 abbrev pub reading-answers : List (List ℕ)
 reading-answers =
     ok₁ 1 ∷ ok₃ 0 0 0 ∷ ok₁ 1 ∷ ok₁ 1 ∷ ok₃ 0 0 1 ∷ ok₁ 2 ∷ ok₁ 3 ∷ ok₃ 2 0 1 ∷ ok₁ 3 ∷ []
+
+-- ---- after `new 2 2 1 1`: the shelf's 0 meets the need of the fetched 1 and counts as the
+-- ---- shelf's; later it doesn't, comes again through T and counts as the master's
+
+-- Writer 0, having read nothing, saves the sheets of S.
+abbrev pub saving : ℕ → List StoreCall
+saving S = openRun 0 (0 ∷ 0 ∷ 0 ∷ []) ∷ step 0 0 ∷ issue 0 0 S ∷ []
+
+abbrev pub again-script : List StoreCall
+again-script =
+    saving 1 ++ fetch 0 0 ∷ (saving 2 ++ openRun 0 (0 ∷ 3 ∷ 0 ∷ []) ∷ step 0 0 ∷ dropRun 0
+    ∷ evict 0 1 ∷ (saving 3 ++ openRun 0 (0 ∷ 3 ∷ 0 ∷ []) ∷ step 0 0 ∷ []))
+
+abbrev pub again-answers : List (List ℕ)
+again-answers =
+    ok₁ 1 ∷ ok₃ 0 0 0 ∷ ok₁ 1 ∷ ok₁ 1 ∷ ok₁ 1 ∷ ok₃ 0 0 0 ∷ ok₁ 2 ∷ ok₁ 1 ∷ ok₃ 0 1 2 ∷ ok₁ 0
+    ∷ ok₁ 2 ∷ ok₁ 1 ∷ ok₃ 0 0 0 ∷ ok₁ 3 ∷ ok₁ 1 ∷ ok₃ 0 0 3 ∷ []
+
+-- ---- after `new 2 2 2 2`: a broken run; its shelf is as before the step, and only drop is taken
+
+abbrev pub broken-script : List StoreCall
+broken-script =
+    saving 1 ++ openRun 0 (0 ∷ 1 ∷ 0 ∷ 1 ∷ 2 ∷ 0 ∷ []) ∷ step 0 0
+    ∷ openRun 1 (0 ∷ 1 ∷ 0 ∷ []) ∷ step 1 0 ∷ issue 1 0 3
+    ∷ step 0 1 ∷ ask (look 1 1 1) ∷ prepare 0 ∷ issue 0 0 1 ∷ issue 0 0 0 ∷ step 0 1 ∷ step 0 0
+    ∷ step 0 2 ∷ openRun 0 (0 ∷ 0 ∷ 0 ∷ []) ∷ dropRun 0 ∷ dropRun 0 ∷ []
+
+abbrev pub broken-answers : List (List ℕ)
+broken-answers =
+    ok₁ 1 ∷ ok₃ 0 0 0 ∷ ok₁ 1 ∷ ok₁ 2 ∷ ok₃ 0 0 1
+    ∷ ok₁ 1 ∷ ok₃ 0 1 0 ∷ ok₁ 2
+    ∷ broke 1 ∷ not-taken 8 ∷ not-taken 4 ∷ not-taken 4 ∷ not-taken 4 ∷ not-taken 4 ∷ not-taken 4
+    ∷ not-taken 3 ∷ not-taken 4 ∷ ok₁ 0 ∷ not-taken 4 ∷ []

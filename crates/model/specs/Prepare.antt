@@ -12,7 +12,7 @@ use Rattle.masks.specs.Mask.{testBit, maskBelow}
 use Rattle.model.specs.Algebra.{Algebra, Place, lacking}
 use Rattle.model.specs.Version.{Version, held, versions}
 use Rattle.model.specs.Sets.{fetched, unfetchable}
-use Rattle.model.specs.Store.{Job, Store, planned, withRun, withSites, withSnapshot}
+use Rattle.model.specs.Store.{Job, Store, planned, withCaches, withRun, withSnapshot}
 use Rattle.model.specs.Outcome.{Outcome, done, refuse, unless, prepareRow, runCause}
 
 module _ {A : Type 0} (alg : Algebra A) (K : ℕ) (master : Place A) (job : ℕ → Job) where
@@ -75,7 +75,7 @@ prepareSnapshot s r =
 unfoldable pub prepareDone : Store → ℕ → Outcome
 prepareDone s r =
     done (maskBelow (s .counts .keys) (λ k. held (prepareSnapshot s r k)) ∷ [])
-    (withRun (withSites s (λ o. record { cache = prepareCaches s r o })) r
+    (withRun (withCaches s (prepareCaches s r)) r
     (withSnapshot (s .run r) (prepareSnapshot s r)))
 
 unfoldable pub prepareRule : ℕ → Store → Outcome

@@ -65,9 +65,9 @@ noSite = record { cache = emptyPlace }
 abbrev pub freeRun : Run
 freeRun = record { state = 0; jobs = 0; done = 0; read = 0; job = noJobs; snapshot = emptyPlace }
 
--- "a fresh desk: nothing held, every run free, all counts zero"
-unfoldable pub fresh : Counts → Store
-fresh z = record {
+-- All zero behind the counts.
+abbrev pub zeroStore : Counts → Store
+zeroStore z = record {
   counts = z;
   last = 0;
   master = emptyPlace;
@@ -75,6 +75,11 @@ fresh z = record {
   writer = λ w. noWriter;
   run = λ r. freeRun;
 }
+
+-- "a fresh desk: nothing held, every run free, all counts zero": a word that isn't zero on it
+-- would be put into the zero store here.
+unfoldable pub fresh : Counts → Store
+fresh z = zeroStore z
 
 -- ---- what the jobs of a run read
 
@@ -118,8 +123,19 @@ withSites s f = record {
   run = s .run;
 }
 
+abbrev pub withSite : Store → ℕ → Site → Store
+withSite s o x = withSites s (putAt (s .site) o x)
+
+-- A site with another cache: its other words stay.
+abbrev pub siteWith : Site → Place Version → Site
+siteWith x p = record { cache = p }
+
 unfoldable pub withCache : Store → ℕ → Place Version → Store
-withCache s o p = withSites s (putAt (s .site) o (record { cache = p }))
+withCache s o p = withSite s o (siteWith (s .site o) p)
+
+-- Another cache for each site.
+unfoldable pub withCaches : Store → (ℕ → Place Version) → Store
+withCaches s cache = withSites s (λ o. siteWith (s .site o) (cache o))
 
 unfoldable pub withWriter : Store → ℕ → Writer → Store
 withWriter s w x = record {

@@ -1,0 +1,108 @@
+-- Form of buffers by examples: of each clause of "the buffer has 10 words and the total; counts,
+-- offsets and total are as above" a buffer that lacks it, beside the one that has it.
+-- right: a fresh store's words. put: with one word changed.
+-- Asked: what the calls answer on them. Buffers, buffers: what the test says of each.
+-- Assumes nothing.
+use mathlib.Core.Path.{_≡_, refl}
+use mathlib.Core.Bool.{Bool, true, false}
+use mathlib.Core.List.{List, [], _∷_, _++_, map}
+use Prim.Native.Nat.{ℕ}
+use lib.ListN.{take, replicate}
+use lib.Seq.{sets}
+use Rattle.words.specs.Tests.{anyBelow, allBelow}
+use Rattle.words.specs.Lists.{upto, blocks}
+use Rattle.clock.specs.Clock.{present}
+use Rattle.sizes.specs.Bounds.{countsOf, between, ranged, pastSize, versionSize, placeSize, siteSize, writerSize, runSize, masterAt, sitesAt, writersAt, runsAt, totalOf}
+use Rattle.model.specs.Version.{held}
+use Rattle.model.specs.Store.{fresh}
+use Rattle.model.specs.Form.{zeroRows, versionFormed, placeFormed, zeroJob, freeFormed, runFormed, wellFormed}
+use Rattle.model.specs.Outcome.{answer, refuse, unless, allowed, runCause}
+use Rattle.model.specs.Runs.{dropCause, dropDone, dropRule}
+use Rattle.model.specs.Calls.{dropRun, ruleOf}
+use Rattle.model.proofs.Scripts.{ok₁, not-taken}
+use Rattle.layout.specs.Words.{clockWords, pastWords, versionWords, placeWords, siteWords, sitesWords, writerWords, writersWords, jobWords, jobsWords, runWords, runsWords, headerWords, storeWords}
+use Rattle.layout.specs.Reading.{readClock, readPast, readVersion, readPlace, readSite, readWriter, readJob, readJobs, readRun, countsIn, storeOf}
+use Rattle.layout.specs.Buffer.{headerRight, shaped, inForm}
+use Rattle.layout.specs.Calls.{new, on, newCause, newOn, onStore, callOn}
+
+-- After `new 1 1 1 1`: 1 1 1 1 0, offsets 10 12 14 16, total 46.
+abbrev right : List ℕ
+right = storeWords (fresh (countsOf 1 1 1 1))
+
+abbrev put : ℕ → ℕ → List ℕ
+put i x = sets right i (x ∷ [])
+
+abbrev short : List ℕ
+short = take 45 right
+
+-- One more and one less in each of the four offsets and in the total.
+abbrev offsets : List Bool
+offsets =
+    map inForm (put 5 11 ∷ put 5 9 ∷ put 6 13 ∷ put 6 11 ∷ put 7 15 ∷ put 7 13 ∷ put 8 17
+    ∷ put 8 15 ∷ [])
+
+abbrev totals : List Bool
+totals = map inForm (put 9 47 ∷ put 9 45 ∷ [])
+
+-- Another count, its offsets as before; counts of 0 with the offsets that follow from them.
+abbrev counts : List Bool
+counts =
+    map inForm (put 0 2 ∷ put 1 2 ∷ put 2 2 ∷ put 3 2 ∷ put 0 0
+    ∷ (replicate 5 0 ++ replicate 5 10) ∷ [])
+
+-- "Buffer too short, or (not for new) desk not in form" is 1, before all else; "New tests 2 before
+-- 1", and takes a buffer that isn't in form.
+pub record Asked : Type 0 where
+  pub range : answer (callOn (on (dropRun 1)) right) ≡ not-taken 3
+  pub on-short : answer (callOn (on (dropRun 1)) short) ≡ not-taken 1
+  pub on-offset : answer (callOn (on (dropRun 1)) (put 7 15)) ≡ not-taken 1
+  pub on-total : answer (callOn (on (dropRun 1)) (put 9 47)) ≡ not-taken 1
+  pub new-short : answer (callOn (new 1 1 1 1) short) ≡ not-taken 1
+  pub new-range : answer (callOn (new 0 1 1 1) short) ≡ not-taken 2
+  pub new-taken : answer (callOn (new 1 1 1 1) (put 9 47)) ≡ ok₁ 46
+
+pub record Buffers : Type 0 where
+  pub whole : inForm right ≡ true
+  pub longer : inForm (right ++ 5 ∷ 5 ∷ []) ≡ true
+  pub one-short : inForm short ≡ false
+  pub header-only : inForm (take 10 right) ≡ false
+  pub nothing : inForm [] ≡ false
+  pub wrong-offset : offsets ≡ replicate 8 false
+  pub wrong-total : totals ≡ replicate 2 false
+  pub wrong-count : counts ≡ replicate 6 false
+  -- The last issue number and the writers are free; a master's version isn't.
+  pub free-words : map inForm (put 4 9 ∷ put 14 9 ∷ put 15 9 ∷ []) ≡ replicate 3 true
+  pub unheld-row : map inForm (put 11 1 ∷ put 10 1 ∷ []) ≡ replicate 2 false
+  pub held-row : inForm (sets right 10 (1 ∷ 1 ∷ [])) ≡ true
+  pub calls : Asked
+
+pub buffers : Buffers
+unfolding anyBelow allBelow upto blocks present between ranged pastSize versionSize placeSize
+    siteSize writerSize runSize masterAt sitesAt writersAt runsAt totalOf held fresh zeroRows
+    versionFormed placeFormed zeroJob freeFormed runFormed wellFormed clockWords pastWords
+    versionWords placeWords siteWords sitesWords writerWords writersWords jobWords jobsWords
+    runWords runsWords headerWords storeWords readClock readPast readVersion readPlace readSite
+    readWriter readJob readJobs readRun countsIn storeOf headerRight shaped inForm answer refuse
+    unless allowed runCause dropCause dropDone dropRule ruleOf newCause newOn onStore callOn
+buffers = record {
+  whole = refl;
+  longer = refl;
+  one-short = refl;
+  header-only = refl;
+  nothing = refl;
+  wrong-offset = refl;
+  wrong-total = refl;
+  wrong-count = refl;
+  free-words = refl;
+  unheld-row = refl;
+  held-row = refl;
+  calls = record {
+    range = refl;
+    on-short = refl;
+    on-offset = refl;
+    on-total = refl;
+    new-short = refl;
+    new-range = refl;
+    new-taken = refl;
+  };
+}

@@ -1,0 +1,198 @@
+-- Form by examples: for each clause of document 01's "in form" stores that lack just it, each
+-- beside a well formed one that differs in nothing else.
+-- formed: is a store with this run well formed? tells: the first of two is, the second isn't.
+-- placed: the same for a version, on the master, two shelves and a card.
+-- Clauses, clauses: each clause tells.
+-- Assumes nothing.
+use mathlib.Core.Path.{_≡_, refl}
+use mathlib.Core.Bool.{Bool, true, false, not, _&&_}
+use mathlib.Core.List.{List, [], _∷_}
+use Prim.Native.Nat.{ℕ}
+use lib.ListN.{getD, replicate}
+use Rattle.words.specs.Tests.{anyBelow, allBelow}
+use Rattle.words.specs.Lists.{putAt}
+use Rattle.masks.specs.Mask.{testBit, withBit, withIf, maskBelow}
+use Rattle.clock.specs.Clock.{present}
+use Rattle.sizes.specs.Bounds.{countsOf, between}
+use Rattle.model.specs.Algebra.{Place}
+use Rattle.model.specs.Version.{Version, unheld, held}
+use Rattle.model.specs.Store.{Job, Run, noJob, noJobs, emptyPlace, freeRun, fresh, planned, doneReads, withMaster, withSites, withCache, withRun}
+use Rattle.model.specs.Form.{zeroRows, versionFormed, placeFormed, validJob, zeroJob, freeFormed, jobsFormed, masksFormed, snapshotFormed, runFormed, wellFormed}
+use Rattle.model.proofs.Readings.{version, place}
+
+-- ---- a store with 2 sheets, 2 writers, 2 offices and 2 runs, the last of them given
+
+abbrev formed : Run → Bool
+formed a = wellFormed (withRun (fresh (countsOf 2 2 2 2)) 1 a)
+
+abbrev tells : Run → Run → Bool
+tells a b = formed a && not (formed b)
+
+abbrev job : ℕ → ℕ → ℕ → Job
+job o m u = record { site = o; reads = m; upstream = u }
+
+-- State, number of jobs, done mask, read mask, jobs, card.
+abbrev run : ℕ → ℕ → ℕ → ℕ → (ℕ → Job) → Place Version → Run
+run state n finished read jobs card = record {
+  state = state;
+  jobs = n;
+  done = finished;
+  read = read;
+  job = jobs;
+  snapshot = card;
+}
+
+-- An open run of n jobs, nothing done, all its words zero but for one job's.
+abbrev jobbed : ℕ → ℕ → Job → Run
+jobbed n i x = run 1 n 0 0 (putAt noJobs i x) emptyPlace
+
+-- Job 0 reads sheet 0, job 1 sheet 1.
+abbrev two : ℕ → Job
+two i = getD (job 0 1 0 ∷ job 1 2 0 ∷ []) i noJob
+
+-- Sheet 0 alone, sheet 1 alone, both.
+abbrev zeroth : Version
+zeroth = version 1 ((1 ∷ 0 ∷ []) ∷ [])
+
+abbrev other : Version
+other = version 1 ([] ∷ (1 ∷ 0 ∷ []) ∷ [])
+
+abbrev card-0 : Place Version
+card-0 = place (zeroth ∷ [])
+
+abbrev card-1 : Place Version
+card-1 = place (unheld ∷ other ∷ [])
+
+abbrev card-both : Place Version
+card-both = place (zeroth ∷ other ∷ [])
+
+-- ---- "an unheld version has only zero words and a held one a non-zero own row"
+
+-- Version v of sheet 1 on the master, on the first and the last shelf, and on the card of a run
+-- with a job that reads sheet 1.
+abbrev placed : Version → List Bool
+placed v =
+    let s = fresh (countsOf 2 2 2 2) in
+    let p = place (unheld ∷ v ∷ []) in
+    wellFormed (withMaster s p) ∷ wellFormed (withCache s 0 p) ∷ wellFormed (withCache s 1 p)
+    ∷ formed (run 1 1 0 0 (putAt noJobs 0 (job 0 2 0)) p) ∷ []
+
+pub record Versions : Type 0 where
+  pub nothing : placed unheld ≡ replicate 4 true
+  pub alone : placed (version 1 ([] ∷ (0 ∷ 1 ∷ []) ∷ [])) ≡ replicate 4 true
+  pub needing : placed (version 1 ((0 ∷ 1 ∷ []) ∷ (0 ∷ 1 ∷ []) ∷ [])) ≡ replicate 4 true
+  -- Unheld with a count in its own row, in another row; held with no own row.
+  pub own-word : placed (version 0 ([] ∷ (0 ∷ 1 ∷ []) ∷ [])) ≡ replicate 4 false
+  pub need-word : placed (version 0 ((0 ∷ 1 ∷ []) ∷ [])) ≡ replicate 4 false
+  pub no-row : placed (version 1 ((0 ∷ 1 ∷ []) ∷ [])) ≡ replicate 4 false
+
+-- ---- "a free run is all zero": each word but the state, which is 0
+
+abbrev free-jobs : List Bool
+free-jobs =
+    tells freeRun (run 0 1 0 0 noJobs emptyPlace) ∷ tells freeRun (run 0 0 1 0 noJobs emptyPlace)
+    ∷ tells freeRun (run 0 0 0 1 noJobs emptyPlace)
+    ∷ tells freeRun (run 0 0 0 0 (putAt noJobs 0 (job 1 0 0)) emptyPlace)
+    ∷ tells freeRun (run 0 0 0 0 (putAt noJobs 0 (job 0 1 0)) emptyPlace)
+    ∷ tells freeRun (run 0 0 0 0 (putAt noJobs 7 (job 0 0 1)) emptyPlace) ∷ []
+
+-- Its card: a version, a count of an unheld one.
+abbrev free-card : List Bool
+free-card =
+    tells freeRun (run 0 0 0 0 noJobs card-1)
+    ∷ tells freeRun (run 0 0 0 0 noJobs (place (version 0 ([] ∷ (0 ∷ 1 ∷ []) ∷ []) ∷ []))) ∷ []
+
+-- ---- "any other run is in state 1 or 2 and has 1..8 jobs, zero words beyond them, valid jobs"
+
+abbrev state : List Bool
+state =
+    tells (run 1 1 0 0 noJobs emptyPlace) (run 3 1 0 0 noJobs emptyPlace)
+    ∷ tells (run 2 1 0 0 noJobs emptyPlace) (run 0 1 0 0 noJobs emptyPlace) ∷ []
+
+abbrev number : List Bool
+number =
+    tells (jobbed 1 0 noJob) (jobbed 0 0 noJob) ∷ tells (jobbed 8 0 noJob) (jobbed 9 0 noJob) ∷ []
+
+abbrev beyond : List Bool
+beyond =
+    tells (jobbed 2 1 (job 1 0 0)) (jobbed 1 1 (job 1 0 0))
+    ∷ tells (jobbed 2 1 (job 0 3 0)) (jobbed 1 1 (job 0 3 0))
+    ∷ tells (jobbed 2 1 (job 0 0 1)) (jobbed 1 1 (job 0 0 1))
+    ∷ tells (jobbed 8 7 (job 1 0 0)) (jobbed 7 7 (job 1 0 0)) ∷ []
+
+-- "A valid job has an office below N, reads among K sheets (0 allowed), and upstream bits only of
+-- lower job numbers."
+abbrev valid : List Bool
+valid =
+    tells (jobbed 1 0 (job 1 0 0)) (jobbed 1 0 (job 2 0 0))
+    ∷ tells (jobbed 1 0 (job 0 3 0)) (jobbed 1 0 (job 0 4 0))
+    ∷ tells (jobbed 1 0 (job 0 0 0)) (jobbed 1 0 (job 0 0 1))
+    ∷ tells (jobbed 3 2 (job 0 0 3)) (jobbed 3 2 (job 0 0 4))
+    ∷ tells (jobbed 8 7 (job 0 0 127)) (jobbed 8 7 (job 0 0 128)) ∷ []
+
+-- ---- "a done mask below 2^jobs, a read mask that is just the done jobs' reads"
+
+abbrev finished : List Bool
+finished =
+    tells (run 1 1 1 0 noJobs emptyPlace) (run 1 1 2 0 noJobs emptyPlace)
+    ∷ tells (run 1 2 3 0 noJobs emptyPlace) (run 1 2 4 0 noJobs emptyPlace) ∷ []
+
+-- Job 0 is done: too many, too few, the other one; then both.
+abbrev read : List Bool
+read =
+    tells (run 1 2 1 1 two card-both) (run 1 2 1 3 two card-both)
+    ∷ tells (run 1 2 1 1 two card-both) (run 1 2 1 0 two card-both)
+    ∷ tells (run 1 2 1 1 two card-both) (run 1 2 1 2 two card-both)
+    ∷ tells (run 1 2 3 3 two card-both) (run 1 2 3 1 two card-both) ∷ []
+
+-- ---- "carried sheets among the plan's sheets, each read sheet on the card"
+
+abbrev carried : List Bool
+carried =
+    tells (jobbed 1 0 (job 0 1 0)) (run 1 1 0 0 (putAt noJobs 0 (job 0 1 0)) card-1)
+    ∷ tells (run 1 1 0 0 (putAt noJobs 0 (job 0 1 0)) card-0)
+    (run 1 1 0 0 (putAt noJobs 0 (job 0 1 0)) card-both) ∷ []
+
+abbrev on-card : List Bool
+on-card =
+    tells (run 1 2 1 1 two card-0) (run 1 2 1 1 two emptyPlace)
+    ∷ tells (run 1 2 1 1 two card-0) (run 1 2 1 1 two card-1)
+    ∷ tells (run 1 2 2 2 two card-1) (run 1 2 2 2 two card-0) ∷ []
+
+pub record Clauses : Type 0 where
+  pub of-version : Versions
+  pub of-free : free-jobs ≡ replicate 6 true
+  pub of-free-card : free-card ≡ replicate 2 true
+  pub of-state : state ≡ replicate 2 true
+  pub of-number : number ≡ replicate 2 true
+  pub of-beyond : beyond ≡ replicate 4 true
+  pub of-valid : valid ≡ replicate 5 true
+  pub of-finished : finished ≡ replicate 2 true
+  pub of-read : read ≡ replicate 4 true
+  pub of-carried : carried ≡ replicate 2 true
+  pub of-card : on-card ≡ replicate 3 true
+
+pub clauses : Clauses
+unfolding anyBelow allBelow putAt testBit withBit withIf maskBelow present between held fresh
+    planned doneReads withMaster withSites withCache withRun zeroRows versionFormed placeFormed
+    validJob zeroJob freeFormed jobsFormed masksFormed snapshotFormed runFormed wellFormed
+clauses = record {
+  of-version = record {
+    nothing = refl;
+    alone = refl;
+    needing = refl;
+    own-word = refl;
+    need-word = refl;
+    no-row = refl;
+  };
+  of-free = refl;
+  of-free-card = refl;
+  of-state = refl;
+  of-number = refl;
+  of-beyond = refl;
+  of-valid = refl;
+  of-finished = refl;
+  of-read = refl;
+  of-carried = refl;
+  of-card = refl;
+}
