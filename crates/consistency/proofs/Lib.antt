@@ -20,4 +20,5 @@ pub mod Cutting
 pub mod Finished
 pub mod Points
 pub mod Theorem
+pub mod Framing
 pub mod Lasting

@@ -1,6 +1,6 @@
 -- Demand 3: one claim about a whole list of calls on the buffer that an accepted new left.
--- PastIsBefore ("stands behind"), Counted (b), Snapshot (c), Pick, Works, BreakExact (d), Holds (all
--- of it at one point of the list), Consistent.
+-- PastIsBefore ("stands behind"), Counted (b), Snapshot (c), Pick, Works, BreakExact (d), Holds
+-- (all of it at one point of the list), Consistent.
 -- Assumes nothing.
 use mathlib.Core.Path.{_≡_}
 use mathlib.Core.Bool.{Bool, true, false, cond, So}

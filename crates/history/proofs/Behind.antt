@@ -165,7 +165,8 @@ past-before K W (t ∷ h) s i d j e l p q =
     (past-before K W h (sound-low s) i d j e z (past-low K t h i d j z ∙˙ p)
     (saved-low t h e i z ∙˙ q)))
 
--- For the write of key e in issue i: the past of issue i has that write and what happens before it.
+-- For the write of key e in issue i: the past of issue i has that write and what happens before
+-- it.
 pub past-is-before : {K W : ℕ} {h : History} → Sound K W h → (d j e i : ℕ) → So (saved h e i)
     → So (inPast K h i d j) ↔ (((d ≡ e) × (j ≡ i)) ⊎ HappensBefore h d j e i)
 past-is-before {K} {W} {h} s d j e i q = (forth, back)
