@@ -1,8 +1,8 @@
 -- A call that is not on a run leaves it.
--- rule-framed: on a store. left-store: the store in the buffer after an outcome. framed: the claim.
+-- rule-framed: on a store. left-store: the store in the buffer after it. framed: the claim.
 -- Assumes nothing.
-use mathlib.Core.Path.{_≡_, refl, ap, _∙_}
-use mathlib.Core.Bool.{false, cond}
+use mathlib.Core.Path.{_≡_, refl}
+use mathlib.Core.Bool.{false}
 use mathlib.Core.List.{List}
 use Prim.Native.Nat.{ℕ}
 use lib.Dec.{eqb}

@@ -29,7 +29,7 @@ use Rattle.layout.proofs.Readings.{counts-in}
 use Rattle.layout.proofs.Follow.{Fine, form-fine}
 use Rattle.layout.proofs.Forms.{form-rule}
 use Rattle.layout.proofs.Rules.{rule-kept}
-use Rattle.consistency.specs.Lasting.{Role, opening, working, freeing, elsewhere, roleOf, onRole, opensRole, freesRole, onRun, opens, frees, Lasts, Lasting}
+use Rattle.consistency.specs.Lasting.{Role, opening, working, freeing, elsewhere, roleOf, onRole, opensRole, freesRole, onRun, frees, Lasts, Lasting}
 use Rattle.consistency.proofs.Framing.{rule-framed, left-store}
 
 -- ---- a run that goes on

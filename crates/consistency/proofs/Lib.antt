@@ -1,3 +1,6 @@
+pub mod Rows
+pub mod Uses
+pub mod Excluded
 pub mod Simulation
 pub mod SimulationPrepare
 pub mod Closing

@@ -1,7 +1,7 @@
 -- "Issue and drop alone free a run, new aside; a freed run is all zero. A run lasts from its open
 -- until it is freed."
--- roleOf: what a call is to a run; onRun, opens, frees. GoesOn: a run after a call. Lasts: one call.
--- Lasting: every call. Framed: every call that is not on a run leaves it.
+-- roleOf: what a call is to a run; onRun, opens, frees. GoesOn: a run after a call. Lasts: one
+-- call. Lasting: every call. Framed: a call that is not on a run leaves it.
 -- Assumes nothing.
 use mathlib.Core.Path.{_≡_}
 use mathlib.Core.Bool.{Bool, false, So, _&&_}
