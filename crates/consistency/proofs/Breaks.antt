@@ -2,9 +2,9 @@
 -- Ready: what is asked of the store. works-unmoved: with a choice that works C has no read key.
 -- unmoved-works: where C has none, what the step leaves is a choice that works. breaks-exact.
 -- Assumes nothing.
-use mathlib.Core.Path.{_≡_, refl, ap, _∙_}
-use mathlib.Core.Bool.{false, cond, So, true≢false}
-use mathlib.Core.Logic.{inl, inr, _≢_}
+use mathlib.Core.Path.{_≡_, refl, sym, ap, _∙_}
+use mathlib.Core.Bool.{false, cond, So, true≢false, false≢true}
+use mathlib.Core.Logic.{inl, inr, _↔_, _≢_}
 use Prim.Native.Nat.{ℕ, _<_}
 use Rattle.words.specs.Tests.{Items, anyBelow}
 use Rattle.words.proofs.Bools.{test, clash, _∙˙_, and-left, and-right, and-cases}
@@ -18,7 +18,7 @@ use Rattle.model.specs.Algebra.{Place, needsMet, causalCut, overlappingCut, lac
 use Rattle.model.specs.Version.{Version, held, unheld, versions}
 use Rattle.model.specs.Sets.{draws, pulled}
 use Rattle.model.specs.Store.{Store}
-use Rattle.model.specs.Outcome.{unless}
+use Rattle.model.specs.Outcome.{Outcome, refused, broken, done, unless}
 use Rattle.model.specs.Step.{stepRule, stepReads, stepCache, stepPlan, stepPull, stepSnapshot, stepMoved, stepCause, stepBroken, stepDone}
 use Rattle.model.proofs.Outcomes.{unless-cases}
 use Rattle.model.proofs.Merges.{merge-right}
@@ -26,7 +26,8 @@ use Rattle.model.proofs.Needs.{dependency-mono, supersedes-iff, supersedes-tran
 use Rattle.model.proofs.Cuts.{needsMet-at, needsMet-intro, overlappingCut-within, overlappingCut-at}
 use Rattle.model.proofs.Draws.{lacking-iff, draws-iff, pullSet-reached}
 use Rattle.model.proofs.Steps.{Accepted, accepted, step-planned, step-cached, stepSnapshot-out, stepSnapshot-held, stepSnapshot-overlaps}
-use Rattle.consistency.specs.Claim.{Pick, Pick.ofSnapshot, Pick.ofCache, Pick.merged, Pick.neither, pickOf, chosen, Works, isRefused, isBroken, BreakExact}
+use Rattle.layout.specs.Calls.{isOk}
+use Rattle.consistency.specs.Claim.{Pick, Pick.ofSnapshot, Pick.ofCache, Pick.merged, Pick.neither, pickOf, chosen, Works, isRefused, isBroken, Choice, BreakExact}
 
 -- At a step of run r's job j: the snapshot is an overlapping cut for the plan, the cache after the
 -- fetch a causal cut, and each read key is on the snapshot.
@@ -47,6 +48,13 @@ pick-above W ofSnapshot a b h f g e = absurd (f refl)
 pick-above W ofCache a b h f g e = dominates-refl W (b .past e)
 pick-above W merged a b h f g e = merge-right W e a b g
 pick-above W neither a b h f g e = clash h refl
+
+-- An outcome that is ok is no refusal and no break.
+ok-out : (x : Outcome) → So (isOk x) → (isRefused x ≡ false) × (isBroken x ≡ false)
+unfolding isOk isRefused isBroken
+ok-out (refused n) p = absurd (false≢true p)
+ok-out (broken m t) p = absurd (false≢true p)
+ok-out (done a t) p = (refl, refl)
 
 module _ (s : Store) (r j : ℕ) where
   abbrev W : ℕ
@@ -186,18 +194,31 @@ module _ (s : Store) (r j : ℕ) where
   broken-moved e = rw e (test (anyBelow K (stepMoved s r j)) (λ y. rw y) (λ n. rw n))
 
   -- The store need be ready only where the step is accepted.
-  pub breaks-exact : (Accepted s r j → Ready s r j) → BreakExact s r j
+  pub breaks-exact : (Accepted s r j → Ready s r j) → BreakExact (stepRule r j s) s r j
   unfolding stepMoved
-  breaks-exact f e =
-      let c = not-refused e in
-      let a = accepted s r j c in
-      let moved = stepMoved s r j in (
-        λ p w.
-            let m = any-some K moved (broken-moved c ∙˙ p) in
-            let pull = stepPull s r j (m .0) in
-            let read = testBit (s .run r .read) (m .0) in
-            clash (and-right pull read (m .2))
-            (works-unmoved (w .0) a (w .1) (m .0) (m .1) (and-left pull read (m .2))),
-        λ g. broken-moved c ∙ test (anyBelow K moved) (λ y. y)
-            (λ n. absurd (g (merging, unmoved-works a (f a) n))),
-      )
+  breaks-exact f = record { exactly = exactly; works = works }
+    where
+      moved : Items
+      moved = stepMoved s r j
+
+      exactly : isRefused (stepRule r j s) ≡ false
+          → So (isBroken (stepRule r j s)) ↔ ¬ (Choice s r j)
+      exactly e =
+          let c = not-refused e in
+          let a = accepted s r j c in (
+            λ p w.
+                let m = any-some K moved (broken-moved c ∙˙ p) in
+                let pull = stepPull s r j (m .0) in
+                let read = testBit (s .run r .read) (m .0) in
+                clash (and-right pull read (m .2))
+                (works-unmoved (w .0) a (w .1) (m .0) (m .1) (and-left pull read (m .2))),
+            λ g. broken-moved c ∙ test (anyBelow K moved) (λ y. y)
+                (λ n. absurd (g (merging, unmoved-works a (f a) n))),
+          )
+
+      works : So (isOk (stepRule r j s)) → Choice s r j
+      works p =
+          let out = ok-out (stepRule r j s) p in
+          let c = not-refused (out .0) in
+          let a = accepted s r j c in
+          (merging, unmoved-works a (f a) (sym (broken-moved c) ∙ out .1))

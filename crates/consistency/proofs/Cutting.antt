@@ -8,7 +8,7 @@ use Prim.Native.Nat.{ℕ, _<_}
 use Rattle.model.specs.Algebra.{causalCut, overlappingCut}
 use Rattle.model.specs.Version.{versions}
 use Rattle.model.specs.Store.{Store, planned}
-use Rattle.model.specs.Step.{stepPlan, stepCache}
+use Rattle.model.specs.Step.{stepPlan, stepCache, stepRule}
 use Rattle.model.proofs.Steps.{Accepted}
 use Rattle.layout.proofs.KeptStep.{was}
 use Rattle.layout.proofs.Follow.{Fine}
@@ -48,5 +48,5 @@ module _ {s : Store} {b : Book} (F : Follows s b) where
     on-snapshot = was s r j fine a .snapshot .has;
   }
 
-  pub breaks : Fine s → (r j : ℕ) → BreakExact s r j
+  pub breaks : Fine s → (r j : ℕ) → BreakExact (stepRule r j s) s r j
   breaks fine r j = breaks-exact s r j (step-ready fine r j)

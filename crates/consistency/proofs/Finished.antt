@@ -1,4 +1,5 @@
--- Part (c) of demand 3: two finished jobs of one run share one causal snapshot.
+-- What finished jobs have read: each version is its copy counted, and part (c) of demand 3: two of
+-- one run share one causal snapshot.
 -- Assumes nothing.
 use mathlib.Core.Path.{sym, ap, _∙_}
 use mathlib.Core.Bool.{Bool, So}
@@ -10,6 +11,7 @@ use Rattle.words.proofs.Tests.{below-or-not}
 use Rattle.masks.specs.Mask.{testBit}
 use Rattle.model.specs.Store.{Run, Store, planned}
 use Rattle.history.specs.History.{History}
+use Rattle.history.specs.Copies.{counted}
 use Rattle.history.specs.Book.{Book, BookRun}
 use Rattle.history.proofs.Notions.{Sound}
 use Rattle.history.proofs.Behind.{before-past}
@@ -17,7 +19,7 @@ use Rattle.layout.proofs.Follow.{Fine}
 use Rattle.model.proofs.Formed.{well-out}
 use Rattle.model.proofs.Plans.{read-planned}
 use Rattle.consistency.specs.Trace.{ReadSet}
-use Rattle.consistency.specs.Claim.{Snapshot, Among}
+use Rattle.consistency.specs.Claim.{ReadCounted, Snapshot, Among}
 use Rattle.consistency.proofs.Invariant.{RunFollows, ReadAs, Inv}
 
 module _ (K W : ℕ) (h : History) (a : Run) (c : BookRun) (sound : Sound K W h)
@@ -39,14 +41,27 @@ module _ (K W : ℕ) (h : History) (a : Run) (c : BookRun) (sound : Sound K W h)
         ap (λ (s : ℕ → Bool). s j) (sym (Y .copy d ld q)) ∙˙ got;
   }
 
-pub shared : (s : Store) (b : Book) (f : ℕ → List ReadSet) → Fine s → Inv s b f
-    → (r : ℕ) (x y : ReadSet) → Among x (f r) → Among y (f r)
-    → Snapshot (s .counts .keys) (b .history) x y
-shared s b f F I r x y p q =
-    ⊎-elim
-    (λ l. share (s .counts .keys) (s .counts .writers) (b .history) (s .run r) (b .run r)
-    (I .follows .sound) (I .follows .run r l)
-    (read-planned (s .counts) (s .run r) (well-out s (F .formed) .run r l))
-    x y (I .reads r l x p) (I .reads r l y q))
-    (λ l. absurd (I .no-run r l x p))
-    (below-or-not r (s .counts .runs))
+module _ (s : Store) (b : Book) (f : ℕ → List ReadSet) (I : Inv s b f) where
+  -- Only runs within the count have finished jobs.
+  run-in : (r : ℕ) (x : ReadSet) → Among x (f r) → r < s .counts .runs
+  run-in r x p =
+      ⊎-elim (λ l. l) (λ l. absurd (I .no-run r l x p)) (below-or-not r (s .counts .runs))
+
+  -- What a finished job has read is counted, as the snapshot is.
+  pub read-counted : (r : ℕ) (x : ReadSet) → Among x (f r)
+      → ReadCounted (s .counts .keys) (b .history) x
+  read-counted r x p k h q =
+      let l = run-in r x p in
+      let X = I .reads r l x p in
+      X .version k h q
+      ∙ I .follows .run r l .snapshot k h
+      ∙ ap (counted (s .counts .keys) (b .history)) (sym (X .copy k h q))
+
+  pub shared : Fine s → (r : ℕ) (x y : ReadSet) → Among x (f r) → Among y (f r)
+      → Snapshot (s .counts .keys) (b .history) x y
+  shared F r x y p q =
+      let l = run-in r x p in
+      share (s .counts .keys) (s .counts .writers) (b .history) (s .run r) (b .run r)
+      (I .follows .sound) (I .follows .run r l)
+      (read-planned (s .counts) (s .run r) (well-out s (F .formed) .run r l))
+      x y (I .reads r l x p) (I .reads r l y q)

@@ -1,3 +1,6 @@
+pub mod Rows
+pub mod Uses
+pub mod Excluded
 pub mod Simulation
 pub mod SimulationPrepare
 pub mod Closing
@@ -20,4 +23,5 @@ pub mod Cutting
 pub mod Finished
 pub mod Points
 pub mod Theorem
+pub mod Framing
 pub mod Lasting

@@ -10,7 +10,9 @@ use Rattle.layout.specs.Reading.{storeOf}
 use Rattle.layout.specs.Buffer.{inForm}
 use Rattle.layout.proofs.Whole.{store-back}
 use Rattle.layout.proofs.Follow.{Fine, fine-form}
+use Rattle.layout.proofs.Forms.{form-rule}
 use Rattle.history.specs.Book.{Book}
+use Rattle.history.proofs.Behind.{past-is-before}
 use Rattle.consistency.specs.Trace.{ReadSet, Trace}
 use Rattle.consistency.specs.Claim.{Holds, HoldsAt, Demand3}
 use Rattle.consistency.proofs.Invariant.{Inv}
@@ -20,7 +22,7 @@ use Rattle.consistency.proofs.MovesPrepare.{prepare-moves}
 use Rattle.consistency.proofs.MovesStep.{step-moves}
 use Rattle.consistency.proofs.MovesIssue.{issue-moves}
 use Rattle.consistency.proofs.Cutting.{cuts, overlaps, breaks}
-use Rattle.consistency.proofs.Finished.{shared}
+use Rattle.consistency.proofs.Finished.{read-counted, shared}
 use Rattle.consistency.proofs.Points.{CallsMove, At, start-at, follow-at}
 
 -- Every call keeps the invariant.
@@ -41,22 +43,29 @@ inv-holds s b f F I =
     let G = I .follows in
     record {
       counts = G .counts;
+      behind = past-is-before (G .sound);
       cuts = cuts G;
       master = G .master;
       caches = G .cache;
       snapshots = λ r l. G .run r l .snapshot;
-      shared = shared s b f F I;
-      breaks = breaks G F;
+      reads = read-counted s b f I;
+      shared = shared s b f I F;
       overlaps = overlaps G;
       every-save = λ k i. G .every k i;
     }
 
 pub point-holds : (t : Trace) → At t → HoldsAt t
+unfolding ruleOf
 point-holds t A =
-    let back = ap storeOf (A .holds) ∙ store-back (A .store) (A .base) (A .fine .fits) in
+    let s = A .store in
+    let back = ap storeOf (A .holds) ∙ store-back s (A .base) (A .fine .fits) in
+    let form = sym (ap inForm (A .holds)) ∙˙ fine-form s (A .base) (A .fine) in
     record {
-      formed = sym (ap inForm (A .holds)) ∙˙ fine-form (A .store) (A .base) (A .fine);
-      holds = rw back (inv-holds (A .store) (t .book) (t .finished) (A .fine) (A .inv));
+      formed = form;
+      holds = rw back (inv-holds s (t .book) (t .finished) (A .fine) (A .inv));
+      breaks = λ r j.
+          rw (form-rule (step r j) (t .buffer) form, back)
+          (breaks (A .inv .follows) (A .fine) r j);
     }
 
 pub demand-3 : Demand3

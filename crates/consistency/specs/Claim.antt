@@ -1,10 +1,10 @@
 -- Demand 3: one claim about a whole list of calls on the buffer that an accepted new left.
--- Counted (b), Snapshot (c), Pick, Works, BreakExact (d), Holds (all of it at one point of the
--- list), Consistent.
+-- PastIsBefore ("stands behind"), Counted (b), Snapshot (c), Pick, Works, BreakExact (d), Holds
+-- (all of it at one point of the list), Consistent.
 -- Assumes nothing.
 use mathlib.Core.Path.{_≡_}
 use mathlib.Core.Bool.{Bool, true, false, cond, So}
-use mathlib.Core.Logic.{_↔_}
+use mathlib.Core.Logic.{_↔_, _⊎_}
 use mathlib.Core.List.{List, _∷_, _++_}
 use Prim.Native.Nat.{ℕ, _<_}
 use Rattle.masks.specs.Mask.{testBit}
@@ -13,19 +13,33 @@ use Rattle.model.specs.Algebra.{Place, needsMet, causalCut, overlappingCut}
 use Rattle.model.specs.Version.{Version, held, merge, unheld, versions}
 use Rattle.model.specs.Store.{Store, planned}
 use Rattle.model.specs.Outcome.{Outcome, refused, broken, done}
-use Rattle.model.specs.Step.{stepRule, stepReads, stepCache, stepPlan}
+use Rattle.model.specs.Calls.{step}
+use Rattle.model.specs.Step.{stepReads, stepCache, stepPlan}
 use Rattle.layout.specs.Reading.{storeOf}
 use Rattle.layout.specs.Buffer.{inForm}
-use Rattle.layout.specs.Calls.{Call, newOn, isOk}
-use Rattle.history.specs.History.{History, HappensBefore, saved}
+use Rattle.layout.specs.Calls.{Call, on, callOn, newOn, isOk}
+use Rattle.history.specs.History.{History, HappensBefore, saved, inPast}
 use Rattle.history.specs.Copies.{Copy, counted}
 use Rattle.history.specs.Book.{Book}
 use Rattle.consistency.specs.Trace.{ReadSet, Trace, start, follow}
+
+-- ---- "Save s stands behind save t": what the book computes is the paper's four clauses
+
+-- For every save, that of key e in issue i: the past of issue i has that save and those that stand
+-- behind it, and no other.
+abbrev pub PastIsBefore : ℕ → History → Type 0
+PastIsBefore K h =
+    (d j e i : ℕ) → So (saved h e i)
+    → So (inPast K h i d j) ↔ (((d ≡ e) × (j ≡ i)) ⊎ HappensBefore h d j e i)
 
 -- ---- (b) "each version on master, shelves and cards is the one that document 01's book gives"
 
 abbrev pub Counted : ℕ → History → Place Version → Place Copy → Type 0
 Counted K h p c = (k : ℕ) → k < K → p k ≡ counted K h (c k)
+
+-- The same of the keys that a finished job has read.
+abbrev pub ReadCounted : ℕ → History → ReadSet → Type 0
+ReadCounted K h x = (k : ℕ) → k < K → So (x .keys k) → x .version k ≡ counted K h (x .copy k)
 
 -- ---- (c) "two finished jobs of one run, at one office or two, share one causal snapshot"
 
@@ -82,16 +96,21 @@ isBroken (refused n) = false
 isBroken (broken m s) = true
 isBroken (done a s) = false
 
--- Of a step made now.
-abbrev pub BreakExact : Store → ℕ → ℕ → Type 0
-BreakExact s r j =
-    isRefused (stepRule r j s) ≡ false
-    → (So (isBroken (stepRule r j s)) ↔ ¬ ((pick : ℕ → Pick) × Works s r j pick))
+abbrev pub Choice : Store → ℕ → ℕ → Type 0
+Choice s r j = (pick : ℕ → Pick) × Works s r j pick
+
+-- Of what a step of run r's job j on the store s came to.
+pub record BreakExact (x : Outcome) (s : Store) (r j : ℕ) : Type 0 where
+  -- "that is not turned down breaks its run exactly if no choice .."
+  pub exactly : isRefused x ≡ false → So (isBroken x) ↔ ¬ (Choice s r j)
+  -- and one that is done has a choice that works.
+  pub works : So (isOk x) → Choice s r j
 
 -- ---- all of it, at one point of the list: store, book, and what finished jobs have read
 
 pub record Holds (s : Store) (b : Book) (finished : ℕ → List ReadSet) : Type 0 where
   pub counts : s .counts ≡ b .counts
+  pub behind : PastIsBefore (s .counts .keys) (b .history)
   -- (a) "each shelf is a causal cut"
   pub cuts : (o : ℕ) → o < s .counts .sites
       → So (causalCut (versions (s .counts .writers)) (s .counts .keys) (s .site o .cache))
@@ -101,11 +120,11 @@ pub record Holds (s : Store) (b : Book) (finished : ℕ → List ReadSet) : Type
       → Counted (s .counts .keys) (b .history) (s .site o .cache) (b .cache o)
   pub snapshots : (r : ℕ) → r < s .counts .runs
       → Counted (s .counts .keys) (b .history) (s .run r .snapshot) (b .run r .snapshot)
+  pub reads : (r : ℕ) (x : ReadSet) → Among x (finished r)
+      → ReadCounted (s .counts .keys) (b .history) x
   -- (c)
   pub shared : (r : ℕ) (x y : ReadSet) → Among x (finished r) → Among y (finished r)
       → Snapshot (s .counts .keys) (b .history) x y
-  -- (d)
-  pub breaks : (r j : ℕ) → BreakExact s r j
   -- Besides: each card is a keyset-overlapping cut for its plan, and the master holds every save.
   pub overlaps : (r : ℕ) → r < s .counts .runs
       → So (overlappingCut (versions (s .counts .writers)) (s .counts .keys)
@@ -114,10 +133,12 @@ pub record Holds (s : Store) (b : Book) (finished : ℕ → List ReadSet) : Type
       → So (b .master k i)
 
 -- At a point: the buffer is in form too, so that a store that spoils itself and then refuses all
--- won't do.
+-- won't do. (d) is about the step as a call on that buffer.
 pub record HoldsAt (t : Trace) : Type 0 where
   pub formed : So (inForm (t .buffer))
   pub holds : Holds (storeOf (t .buffer)) (t .book) (t .finished)
+  pub breaks : (r j : ℕ)
+      → BreakExact (callOn (on (step r j)) (t .buffer)) (storeOf (t .buffer)) r j
 
 -- ---- the claim about the list: it holds at each of its points, the first and the last included
 

@@ -1,5 +1,5 @@
 -- The computed past is what happens before (document 01: "stands behind").
--- before-past, past-before: the two ways; past-is-before: both, for two writes that differ.
+-- before-past, past-before: the two ways; past-is-before: both.
 -- before-order: no later. before-grow, before-settled: an issue more changes nothing below it.
 -- Assumes nothing.
 use mathlib.Core.Path.{_≡_}
@@ -165,20 +165,27 @@ past-before K W (t ∷ h) s i d j e l p q =
     (past-before K W h (sound-low s) i d j e z (past-low K t h i d j z ∙˙ p)
     (saved-low t h e i z ∙˙ q)))
 
--- For the write of key e in issue i and any other one, of key d in issue j, the two say the same.
--- (An issue's past has its own writes, though a write alone in its issue isn't before itself.)
+-- For the write of key e in issue i: the past of issue i has that write and what happens before
+-- it.
 pub past-is-before : {K W : ℕ} {h : History} → Sound K W h → (d j e i : ℕ) → So (saved h e i)
-    → ¬ ((d ≡ e) × (j ≡ i)) → So (inPast K h i d j) ↔ HappensBefore h d j e i
-past-is-before {K} {W} {h} s d j e i q other = (forth, before-past s)
+    → So (inPast K h i d j) ↔ (((d ≡ e) × (j ≡ i)) ⊎ HappensBefore h d j e i)
+past-is-before {K} {W} {h} s d j e i q = (forth, back)
   where
     l : i < length h
     l = saved-below h e i q
 
-    forth : So (inPast K h i d j) → HappensBefore h d j e i
+    forth : So (inPast K h i d j) → ((d ≡ e) × (j ≡ i)) ⊎ HappensBefore h d j e i
     forth p =
         elim (past-before K W h s i d j e l p q) [
           | inl z ↦
               let sd = past-laws K h .bound i d j l p .1 in
-              rw z (together {d = d} {e = e} {i = i} l (rw z at sd) q (λ y. other (y, z)))
-          | inr b ↦ b
+              elim (ℕ-discrete d e) [
+                | yes y ↦ inl (y, z)
+                | no y ↦ inr (rw z (together {d = d} {e = e} {i = i} l (rw z at sd) q y))
+              ]
+          | inr b ↦ inr b
         ]
+
+    back : ((d ≡ e) × (j ≡ i)) ⊎ HappensBefore h d j e i → So (inPast K h i d j)
+    back (inl z) = rw (z .0, z .1) (past-laws K h .own i e l q)
+    back (inr b) = before-past s b

@@ -1,0 +1,166 @@
+-- What the claim excludes: pairs of reads that are no snapshot, choices that don't work; and what
+-- finished jobs have read, computed for a script of two jobs.
+-- Assumes nothing.
+use mathlib.Core.Path.{_≡_, refl, ap}
+use mathlib.Core.Bool.{So, cond, false≢true}
+use mathlib.Core.List.{List, [], _∷_, _++_, map}
+use Prim.Native.Nat.{ℕ, zero, suc, _<_}
+use native.Mathlib.Omega.{arith}
+use lib.Dec.{eqb}
+use lib.ListN.{replicate}
+use Rattle.words.specs.Tests.{none, anyBelow, allBelow, only}
+use Rattle.words.specs.Numbers.{foldBelow, countBelow, largest, when}
+use Rattle.words.specs.Lists.{putAt, upto, blocks}
+use Rattle.masks.specs.Mask.{testBit, withBit, withIf, maskBelow}
+use Rattle.reach.specs.Closure.{closure, rounds, round}
+use Rattle.clock.specs.Clock.{dominates, present, join}
+use Rattle.sizes.specs.Bounds.{countsOf, between, ranged, pastSize, versionSize, placeSize, siteSize, writerSize, runSize, masterAt, sitesAt, writersAt, runsAt, totalOf}
+use Rattle.model.specs.Algebra.{lacking, needsMet}
+use Rattle.model.specs.Version.{held, dependency, supersedes, larger, merge}
+use Rattle.model.specs.Sets.{draws, drawSet, fetchSet, fetched, unfetchable, evictSet, evicted, pullSet, pulled}
+use Rattle.model.specs.Store.{Store, fresh, planned, doneReads, withMaster, withLast, withSites, withCache, withWriter, withRun, withState, withSnapshot, withJobDone}
+use Rattle.model.specs.Form.{zeroRows, versionFormed, placeFormed, validJob, zeroJob, freeFormed, jobsFormed, masksFormed, snapshotFormed, runFormed, wellFormed}
+use Rattle.model.specs.Outcome.{answer, refuse, unless, allowed, runCause}
+use Rattle.model.specs.Runs.{listedJob, listedCount, listedJobs, listValid, openCause, openedRun, openDone, openRule, dropCause, dropDone, dropRule}
+use Rattle.model.specs.Step.{readStart, stepSite, stepReads, stepStart, stepFetch, stepCache, stepPlan, stepPull, stepSnapshot, stepMoved, jobLimit, notReady, jobCause, stepCause, stepBroken, stepDone, stepRule}
+use Rattle.model.specs.Issue.{raiseCause, issueCause, takenIn, rowsSet, newPast, newVersion, issuedMaster, issuedWriter, savedStore, issuedStore, issuedNumber, issueDone, issueRule}
+use Rattle.model.specs.Calls.{openRun, step, issue, dropRun, ruleOf}
+use Rattle.layout.specs.Words.{clockWords, pastWords, versionWords, placeWords, siteWords, sitesWords, writerWords, writersWords, jobWords, jobsWords, runWords, runsWords, headerWords, storeWords}
+use Rattle.layout.specs.Reading.{readClock, readPast, readVersion, readPlace, readSite, readWriter, readJob, readJobs, readRun, countsIn, storeOf}
+use Rattle.layout.specs.Buffer.{written, headerRight, shaped, inForm}
+use Rattle.layout.specs.Calls.{Call, on, newCause, newOn, onStore, callOn, leaves, isOk}
+use Rattle.history.specs.History.{History, writerOf, saved, leads, inPast, HappensBefore.together}
+use Rattle.history.specs.Copies.{Copy, reaches, heldCopy, needsCopy, meetsCopy, union, lastIn, byWriter, counted}
+use Rattle.history.specs.Book.{freshBook, withBookCaches, withBookRun, bookOpen, bookStepJob, entry, bookIssue, bookIssued, bookRule, bookOk, bookStep}
+use Rattle.consistency.specs.Trace.{ReadSet, Trace, start, readNow, finish, advance, follow}
+use Rattle.consistency.specs.Claim.{Snapshot, Pick, Pick.ofSnapshot, Pick.ofCache, pickOf, chosen, Works}
+
+-- ---- a script of two jobs, after `new 2 1 1 2`
+
+-- Run 1, which has read nothing, saves the sheets of S.
+abbrev saving : ℕ → List Call
+saving S = on (openRun 1 (0 ∷ 0 ∷ 0 ∷ [])) ∷ on (step 1 0) ∷ on (issue 1 0 S) ∷ []
+
+-- Sheet 0 is saved, and job 0 of run 0 reads it; then the sheets of S are saved.
+abbrev before : ℕ → Trace
+before S =
+    let jobs = on (openRun 0 (0 ∷ 1 ∷ 0 ∷ 0 ∷ 2 ∷ 0 ∷ [])) in
+    follow (saving 1 ++ (jobs ∷ on (step 0 0) ∷ saving S))
+    (start (countsOf 2 1 1 2) (replicate 93 0))
+
+-- Job 1 of run 0 reads sheet 1.
+abbrev after-job : ℕ → Trace
+after-job S = follow (on (step 0 1) ∷ []) (before S)
+
+-- The store at which it is stepped, and a choice: the card's sheet 0, the shelf's sheet 1.
+abbrev store : ℕ → Store
+store S = storeOf (before S .buffer)
+
+abbrev older : ℕ → Pick
+older k = cond (eqb k 0) ofSnapshot ofCache
+
+-- The sheets read, then for each of the two sheets the issue number and the copy, as a mask.
+abbrev seen : ReadSet → List ℕ
+seen x =
+    maskBelow 2 (x .keys) ∷ x .version 0 .issue ∷ maskBelow 2 (x .copy 0)
+    ∷ x .version 1 .issue ∷ maskBelow 2 (x .copy 1) ∷ []
+
+-- A choice of the card's version.
+card-kept : (s : Store) (r j : ℕ) (pick : ℕ → Pick) (k : ℕ) → So (stepPlan s r j k)
+    → pick k ≡ ofSnapshot → chosen s r j pick k ≡ s .run r .snapshot k
+unfolding chosen pickOf
+card-kept s r j pick k p e = rw (p, e)
+
+pub record Computed : Type 0 where
+  -- Each job has read its sheets as its own step left the card, the last one first.
+  pub both : map seen (after-job 2 .finished 0)
+      ≡ (2 ∷ 1 ∷ 1 ∷ 2 ∷ 2 ∷ []) ∷ (1 ∷ 1 ∷ 1 ∷ 0 ∷ 0 ∷ []) ∷ []
+  -- A step that breaks its run has read nothing.
+  pub breaks : answer (callOn (on (step 0 1)) (before 3 .buffer)) ≡ 1 ∷ 1 ∷ []
+  pub one : map seen (after-job 3 .finished 0) ≡ (1 ∷ 1 ∷ 1 ∷ 0 ∷ 0 ∷ []) ∷ []
+  -- A run that was freed has no finished jobs.
+  pub issued : map seen (after-job 2 .finished 1) ≡ []
+  pub dropped : map seen (follow (on (dropRun 0) ∷ []) (after-job 2) .finished 0) ≡ []
+  -- After sheet 1 alone was saved that choice works. After both were, sheet 1 needs the newer
+  -- sheet 0: the choice leaves this need unmet, one moves the sheet that was read, one lacks a
+  -- read.
+  pub works : Works (store 2) 0 1 older
+  pub unmet : ¬ (Works (store 3) 0 1 older)
+  pub moves : ¬ (Works (store 3) 0 1 (λ k. ofCache))
+  pub lacks : ¬ (Works (store 3) 0 1 (λ k. ofSnapshot))
+
+pub computed : Computed
+unfolding anyBelow allBelow only foldBelow countBelow largest when putAt upto blocks testBit
+    withBit withIf maskBelow closure rounds round dominates present join between ranged pastSize
+    versionSize placeSize siteSize writerSize runSize masterAt sitesAt writersAt runsAt totalOf
+    lacking held dependency supersedes larger merge draws drawSet fetchSet fetched unfetchable
+    evictSet evicted pullSet pulled fresh planned doneReads withMaster withLast withSites
+    withCache withWriter withRun withState withSnapshot withJobDone zeroRows versionFormed
+    placeFormed validJob zeroJob freeFormed jobsFormed masksFormed snapshotFormed runFormed
+    wellFormed answer refuse unless allowed runCause listedJob listedCount listedJobs listValid
+    openCause openedRun openDone openRule dropCause dropDone dropRule readStart stepSite
+    stepReads stepStart stepFetch stepCache stepPlan stepPull stepSnapshot stepMoved jobLimit
+    notReady jobCause stepCause stepBroken stepDone stepRule raiseCause issueCause takenIn rowsSet
+    newPast newVersion issuedMaster issuedWriter savedStore issuedStore issuedNumber issueDone
+    issueRule ruleOf clockWords pastWords versionWords placeWords siteWords sitesWords
+    writerWords writersWords jobWords jobsWords runWords runsWords headerWords storeWords
+    readClock readPast readVersion readPlace readSite readWriter readJob readJobs readRun
+    countsIn storeOf written headerRight shaped inForm newCause newOn onStore callOn leaves isOk
+    writerOf leads inPast reaches heldCopy needsCopy meetsCopy union lastIn byWriter counted
+    freshBook withBookCaches withBookRun bookOpen bookStepJob entry bookIssue bookIssued
+    bookRule bookOk bookStep start readNow finish advance follow needsMet pickOf chosen
+computed = record {
+  both = refl;
+  breaks = refl;
+  one = refl;
+  issued = refl;
+  dropped = refl;
+  works = record { holds = holds; keeps = keeps; meets = refl };
+  unmet = λ w. false≢true (w .meets);
+  moves = λ w.
+      let low : 0 < 2 = omega arith in
+      let e : _≡_ {A = ℕ} 2 1 = ap (λ v. v .issue) (w .keeps 0 low refl) in
+      absurd (omega (arith, e));
+  lacks = λ w.
+      let low : 1 < 2 = omega arith in
+      false≢true (w .holds 1 low refl);
+}
+  where
+    holds : (k : ℕ) → k < 2 → So (stepReads (store 2) 0 1 k)
+        → So (held (chosen (store 2) 0 1 older k))
+    holds zero l p = absurd (false≢true p)
+    holds (suc zero) l p = refl
+    holds (suc (suc k)) l p = absurd (omega (arith, l))
+
+    keeps : (k : ℕ) → k < 2 → So (testBit (store 2 .run 0 .read) k)
+        → chosen (store 2) 0 1 older k ≡ store 2 .run 0 .snapshot k
+    keeps zero l p = card-kept (store 2) 0 1 older 0 refl refl
+    keeps (suc zero) l p = absurd (false≢true p)
+    keeps (suc (suc k)) l p = absurd (omega (arith, l))
+
+-- ---- two pairs of reads
+
+-- By one writer: sheet 0, then sheets 0 and 1.
+abbrev two-issues : History
+two-issues =
+    record { writer = 0; keys = testBit 3; read = λ d. none }
+    ∷ record { writer = 0; keys = testBit 1; read = λ d. none } ∷ []
+
+-- A job that has read the sheets of the mask S, each in the version of copy c.
+abbrev having-read : ℕ → Copy → ReadSet
+having-read S c =
+    record { keys = testBit S; version = λ k. counted 2 two-issues c; copy = λ k. c }
+
+-- One sheet in two versions: sheet 0 as the first issue left it, and as the second did.
+pub two-versions : ¬ (Snapshot 2 two-issues (having-read 1 (only 0)) (having-read 1 (testBit 3)))
+unfolding testBit only largest when lastIn counted
+two-versions x =
+    let e : _≡_ {A = ℕ} 1 2 = ap (λ v. v .issue) (x .one-version 0 (omega arith) refl refl) in
+    absurd (omega (arith, e))
+
+-- Sheet 1 of the second issue, and by another job alone sheet 0 without that issue's save.
+pub missing-save : ¬ (Snapshot 2 two-issues (having-read 2 (only 1)) (having-read 1 (only 0)))
+unfolding testBit only saved
+missing-save x =
+    false≢true (x .included 1 1 0 1 (omega arith) (omega arith) refl refl refl
+    (together {d = 0} {e = 1} {i = 1} (omega arith) refl refl (λ e. omega (arith, e))))

@@ -1,0 +1,221 @@
+-- What a reader takes out of the claims of specs/Claim and specs/Lasting.
+-- Nothing here knows how they are proved: a claim that says less is refused here.
+-- At a point: form, shelves, versions, reads, steps. Lists: each point of one, two in a row. Runs.
+-- Assumes nothing.
+use mathlib.Core.Path.{_≡_, refl, sym, ap, _∙_}
+use mathlib.Core.Bool.{false, So, false≢true}
+use mathlib.Core.Logic.{_⊎_, inr, _≢_}
+use mathlib.Core.List.{List, [], _∷_, _++_, append-nil}
+use Prim.Native.Nat.{ℕ, _<_}
+use Rattle.words.proofs.Bools.{eqb-eq, eq-eqb, ne-eqb, and-intro, and-left, and-right}
+use Rattle.sizes.specs.declared.Counts.{Counts}
+use Rattle.model.specs.Version.{held, dependency, supersedes, versions}
+use Rattle.model.specs.Store.{Run, Store, freeRun, planned}
+use Rattle.model.specs.Outcome.{refused, broken, done, freeState}
+use Rattle.model.specs.Calls.{StoreCall, openRun, fetch, evict, prepare, step, issue, dropRun, look}
+use Rattle.model.proofs.Cuts.{causalCut-at, overlappingCut-within, overlappingCut-at}
+use Rattle.layout.specs.Reading.{countsIn, storeOf}
+use Rattle.layout.specs.Buffer.{inForm}
+use Rattle.layout.specs.Calls.{Call, on, newOn, callOn, leaves, isOk, after}
+use Rattle.history.specs.History.{History, HappensBefore, saved, inPast}
+use Rattle.history.specs.Copies.{counted}
+use Rattle.consistency.specs.Trace.{ReadSet, Trace, start, follow}
+use Rattle.consistency.specs.Claim.{Among, Choice, isRefused, isBroken, HoldsAt, Consistent, Demand3}
+use Rattle.consistency.specs.Lasting.{roleOf, onRole, opensRole, freesRole, opens, Lasting, Framed}
+use Rattle.consistency.proofs.Rows.{after-append, follow-append, follow-buffer}
+
+-- ---- an outcome is refused, broken or done, and one of them alone
+
+pub outcomes-differ : (n m : ℕ) (a : List ℕ) (s : Store)
+    → So (isRefused (refused n)) × (isRefused (broken m s) ≡ false)
+    × (isRefused (done a s) ≡ false) × (isBroken (refused n) ≡ false)
+    × So (isBroken (broken m s)) × (isBroken (done a s) ≡ false)
+unfolding isRefused isBroken
+outcomes-differ n m a s = (refl, refl, refl, refl, refl, refl)
+
+-- ---- at a point
+
+module _ (t : Trace) (H : HoldsAt t) where
+  abbrev s : Store
+  s = storeOf (t .buffer)
+
+  abbrev K : ℕ
+  K = s .counts .keys
+
+  abbrev W : ℕ
+  W = s .counts .writers
+
+  abbrev h : History
+  h = t .book .history
+
+  pub form : So (inForm (t .buffer))
+  form = H .formed
+
+  -- The book counts keys, writers, sites and runs as the store does.
+  pub counts : s .counts ≡ t .book .counts
+  counts = H .holds .counts
+
+  -- "every need of every held version is met by a held version", on each shelf
+  pub shelf-meets : (o : ℕ) → o < s .counts .sites → (k d : ℕ) → k < K → d < K
+      → So (held (s .site o .cache k)) → So (dependency W k (s .site o .cache k) d)
+      → So (supersedes W d (s .site o .cache d) (s .site o .cache k .past d))
+  shelf-meets o l = causalCut-at (versions W) K (s .site o .cache) (H .holds .cuts o l)
+
+  -- "only those sheets are held, and every need among them is met", on each card
+  pub card-within : (r : ℕ) → r < s .counts .runs → (k : ℕ) → k < K
+      → So (held (s .run r .snapshot k)) → So (planned (s .run r .jobs) (s .run r .job) k)
+  card-within r l = overlappingCut-within (versions W) K _ _ (H .holds .overlaps r l)
+
+  pub card-meets : (r : ℕ) → r < s .counts .runs → (k d : ℕ) → k < K → d < K
+      → So (planned (s .run r .jobs) (s .run r .job) d) → So (held (s .run r .snapshot k))
+      → So (dependency W k (s .run r .snapshot k) d)
+      → So (supersedes W d (s .run r .snapshot d) (s .run r .snapshot k .past d))
+  card-meets r l = overlappingCut-at (versions W) K _ _ (H .holds .overlaps r l)
+
+  -- "A version on the desk is its copy counted": master, shelves, cards, what jobs have read
+  pub master-counted : (k : ℕ) → k < K → s .master k ≡ counted K h (t .book .master k)
+  master-counted = H .holds .master
+
+  pub shelf-counted : (o : ℕ) → o < s .counts .sites → (k : ℕ) → k < K
+      → s .site o .cache k ≡ counted K h (t .book .cache o k)
+  shelf-counted = H .holds .caches
+
+  pub card-counted : (r : ℕ) → r < s .counts .runs → (k : ℕ) → k < K
+      → s .run r .snapshot k ≡ counted K h (t .book .run r .snapshot k)
+  card-counted = H .holds .snapshots
+
+  pub read-counted : (r : ℕ) (x : ReadSet) → Among x (t .finished r) → (k : ℕ) → k < K
+      → So (x .keys k) → x .version k ≡ counted K h (x .copy k)
+  read-counted = H .holds .reads
+
+  pub master-has : (k i : ℕ) → k < K → So (saved h k i) → So (t .book .master k i)
+  master-has = H .holds .every-save
+
+  -- "Save s stands behind save t": in the past of t's issue, and nothing else is but t itself
+  pub behind-past : (d j e i : ℕ) → So (saved h e i) → HappensBefore h d j e i
+      → So (inPast K h i d j)
+  behind-past d j e i p b = H .holds .behind d j e i p .1 (inr b)
+
+  pub past-behind : (d j e i : ℕ) → So (saved h e i) → So (inPast K h i d j)
+      → ((d ≡ e) × (j ≡ i)) ⊎ HappensBefore h d j e i
+  past-behind d j e i p = H .holds .behind d j e i p .0
+
+  -- Two finished jobs of a run, either of them first: "a sheet that both read is one version",
+  pub one-version : (r : ℕ) (x y : ReadSet) → Among x (t .finished r) → Among y (t .finished r)
+      → (k : ℕ) → k < K → So (x .keys k) → So (y .keys k) → x .version k ≡ y .version k
+  one-version r x y p q = H .holds .shared r x y p q .one-version
+
+  -- and what stands behind anything that either read is included in what either read.
+  pub either-includes : (r : ℕ) (x y : ReadSet) → Among x (t .finished r)
+      → Among y (t .finished r) → (e i d j : ℕ) → e < K → d < K → HappensBefore h d j e i
+      → (So (x .keys e) → So (x .copy e i) → So (y .keys d) → So (y .copy d j))
+      × (So (y .keys e) → So (y .copy e i) → So (x .keys d) → So (x .copy d j))
+  either-includes r x y p q e i d j le ld b = (
+    λ u v w. H .holds .shared r x y p q .included e i d j le ld u v w b,
+    λ u v w. H .holds .shared r y x q p .included e i d j le ld u v w b,
+  )
+
+  -- The step of run r's job j as a call on the buffer: a done one has a choice that works,
+  pub done-works : (r j : ℕ) (a : List ℕ) (u : Store)
+      → callOn (on (step r j)) (t .buffer) ≡ done a u → Choice s r j
+  unfolding isOk
+  done-works r j a u e = H .breaks r j .works (rw e refl)
+
+  -- a broken one has none,
+  pub broken-none : (r j m : ℕ) (u : Store) → callOn (on (step r j)) (t .buffer) ≡ broken m u
+      → ¬ (Choice s r j)
+  unfolding isRefused isBroken
+  broken-none r j m u e = H .breaks r j .exactly (rw e refl) .0 (rw e refl)
+
+  -- and one that is not refused is broken if there is none.
+  pub none-broken : (r j : ℕ) → isRefused (callOn (on (step r j)) (t .buffer)) ≡ false
+      → ¬ (Choice s r j) → So (isBroken (callOn (on (step r j)) (t .buffer)))
+  none-broken r j n g = H .breaks r j .exactly n .1 g
+
+-- ---- lists
+
+module _ (claim : Demand3) (l : List ℕ) (z : Counts) (ok : So (isOk (newOn l z))) where
+  -- After the first calls of a list, with more to come; after all of it; before any.
+  pub point : (sofar : List Call) (c : Call) (rest : List Call)
+      → HoldsAt (follow sofar (start z l))
+  point sofar c rest = claim l z ok (sofar ++ (c ∷ rest)) sofar (c ∷ rest) refl
+
+  pub end : (cs : List Call) → HoldsAt (follow cs (start z l))
+  end cs = claim l z ok cs cs [] (sym (append-nil cs))
+
+  pub beginning : (cs : List Call) → HoldsAt (start z l)
+  unfolding follow
+  beginning cs = claim l z ok cs [] cs refl
+
+  -- Calls ds made m′ of the buffer m that calls cs had left, calls es made m″ of it: that is one
+  -- list, and the claim holds of it.
+  pub in-a-row : (cs ds es : List Call) (m m′ m″ : List ℕ) → m ≡ follow cs (start z l) .buffer
+      → m′ ≡ after ds m → m″ ≡ after es m′
+      → (m″ ≡ follow (cs ++ (ds ++ es)) (start z l) .buffer)
+      × Consistent (cs ++ (ds ++ es)) (start z l)
+  in-a-row cs ds es m m′ m″ p q r = (made, claim l z ok (cs ++ (ds ++ es)))
+    where
+      made : m″ ≡ follow (cs ++ (ds ++ es)) (start z l) .buffer
+      made =
+          r ∙ ap (after es) (q ∙ ap (after ds) p)
+          ∙ sym (after-append ds es (follow cs (start z l) .buffer))
+          ∙ sym (follow-buffer (ds ++ es) (follow cs (start z l)))
+          ∙ sym (ap (λ t. t .buffer) (follow-append cs (ds ++ es) (start z l)))
+
+-- ---- runs
+
+-- An opening of run r is an open of run r, and nothing else is.
+pub opening-open : (r : ℕ) (c : StoreCall) → So (opens r c) → (ws : List ℕ) × (c ≡ openRun r ws)
+unfolding roleOf opensRole
+opening-open r (openRun x ws) p = (ws, ap (λ y. openRun y ws) (sym (eqb-eq r x p)))
+opening-open r (fetch o k) p = absurd (false≢true p)
+opening-open r (evict o k) p = absurd (false≢true p)
+opening-open r (prepare x) p = absurd (false≢true p)
+opening-open r (step x j) p = absurd (false≢true p)
+opening-open r (issue x w S) p = absurd (false≢true p)
+opening-open r (dropRun x) p = absurd (false≢true p)
+opening-open r (look p i k) q = absurd (false≢true q)
+
+pub open-opening : (r : ℕ) (ws : List ℕ) → So (opens r (openRun r ws))
+unfolding roleOf opensRole
+open-opening r ws = eq-eqb r r refl
+
+module _ (lasting : Lasting) (l : List ℕ) (r : ℕ) (F : So (inForm l))
+    (low : r < countsIn l .runs) where
+  -- Run r after a call.
+  abbrev next : StoreCall → Run
+  next c = storeOf (leaves (callOn (on c) l) l) .run r
+
+  -- A run that was free and isn't after a call was opened by it.
+  pub begun-open : (c : StoreCall) → storeOf l .run r .state ≡ freeState
+      → next c .state ≢ freeState
+      → ((ws : List ℕ) × (c ≡ openRun r ws)) × So (isOk (callOn (on c) l))
+  begun-open c a b =
+      let p = lasting l c r F low .begun a b in
+      (opening-open r c (and-left (opens r c) _ p), and-right (opens r c) _ p)
+
+  -- An accepted drop leaves it all zero,
+  pub drop-frees : So (isOk (callOn (on (dropRun r)) l)) → next (dropRun r) ≡ freeRun
+  unfolding roleOf freesRole
+  drop-frees p = lasting l (dropRun r) r F low .freed (and-intro (eq-eqb r r refl) p)
+
+  -- and a step leaves it in use, with its jobs.
+  pub step-goes-on : (j : ℕ) → storeOf l .run r .state ≢ freeState
+      → (next (step r j) .state ≢ freeState) × (next (step r j) .jobs ≡ storeOf l .run r .jobs)
+  unfolding roleOf freesRole
+  step-goes-on j u =
+      let G = lasting l (step r j) r F low .lasts u refl in
+      (G .used, G .jobs)
+
+-- Fetch, evict and look leave every run, and a step every other one.
+pub others-stay : Framed → (l : List ℕ) (r : ℕ) → So (inForm l) → (o k p i x j : ℕ) → r ≢ x
+    → let after-it : StoreCall → Run = λ c. storeOf (leaves (callOn (on c) l) l) .run r in
+    (after-it (fetch o k) ≡ storeOf l .run r) × (after-it (evict o k) ≡ storeOf l .run r)
+    × (after-it (look p i k) ≡ storeOf l .run r) × (after-it (step x j) ≡ storeOf l .run r)
+unfolding roleOf onRole
+others-stay framed l r F o k p i x j n = (
+  framed l (fetch o k) r F refl,
+  framed l (evict o k) r F refl,
+  framed l (look p i k) r F refl,
+  framed l (step x j) r F (ne-eqb r x n),
+)
