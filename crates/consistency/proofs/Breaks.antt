@@ -18,7 +18,7 @@ use Rattle.model.specs.Algebra.{Place, needsMet, causalCut, overlappingCut, lac
 use Rattle.model.specs.Version.{Version, held, unheld, versions}
 use Rattle.model.specs.Sets.{draws, pulled}
 use Rattle.model.specs.Store.{Store}
-use Rattle.model.specs.Outcome.{Outcome, refused, broken, done, unless}
+use Rattle.model.specs.Outcome.{Outcome, refused, broken, done, told, unless}
 use Rattle.model.specs.Step.{stepRule, stepReads, stepCache, stepPlan, stepPull, stepSnapshot, stepMoved, stepCause, stepBroken, stepDone}
 use Rattle.model.proofs.Outcomes.{unless-cases}
 use Rattle.model.proofs.Merges.{merge-right}
@@ -55,6 +55,7 @@ unfolding isOk isRefused isBroken
 ok-out (refused n) p = absurd (false≢true p)
 ok-out (broken m t) p = absurd (false≢true p)
 ok-out (done a t) p = (refl, refl)
+ok-out (told w a) p = (refl, refl)
 
 module _ (s : Store) (r j : ℕ) where
   abbrev W : ℕ

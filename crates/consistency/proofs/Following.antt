@@ -12,7 +12,7 @@ use Rattle.masks.proofs.Bits.{test-none}
 use Rattle.sizes.specs.declared.Counts.{Counts}
 use Rattle.model.specs.Algebra.{Place}
 use Rattle.model.specs.Version.{Version, versions}
-use Rattle.model.specs.Store.{Job, Run, Site, Store, emptyPlace, noJobs, freeRun, planned, withSites, withCache, withRun}
+use Rattle.model.specs.Store.{Job, Run, Site, Store, emptyPlace, noJobs, freeRun, planned, withSites, siteWith, withCache, withRun}
 use Rattle.history.specs.History.{History}
 use Rattle.history.specs.Copies.{Copy, copies}
 use Rattle.history.specs.Book.{BookRun, Book, noCopies, noRun, withBookCaches, withBookRun}
@@ -120,7 +120,7 @@ module _ {s : Store} {b : Book} (F : Follows s b) where
       → Follows (withCache s o p) (withBookCaches b (putAt (b .cache) o q))
   unfolding withCache
   follows-cache o p q c d =
-      let x : Site = record { cache = p } in
+      let x = siteWith (s .site o) p in
       let K = s .counts .keys in
       follows-caches (putAt (s .site) o x) (putAt (b .cache) o q) (λ i l.
       putAt-both (λ (x : Site) (q : Place Copy). Counted K (b .history) (x .cache) q

@@ -1,7 +1,7 @@
 -- A call that is not on a run leaves it.
 -- rule-framed: on a store. left-store: the store in the buffer after it. framed: the claim.
 -- Assumes nothing.
-use mathlib.Core.Path.{_≡_, refl}
+use mathlib.Core.Path.{_≡_, refl, ap}
 use mathlib.Core.Bool.{false}
 use mathlib.Core.List.{List}
 use Prim.Native.Nat.{ℕ}
@@ -10,16 +10,15 @@ use Rattle.words.specs.Tests.{anyBelow}
 use Rattle.words.specs.Lists.{putAt}
 use Rattle.words.proofs.Bools.{test, eqb-ne}
 use Rattle.words.proofs.Lists.{putAt-other}
-use Rattle.model.specs.Store.{Run, Store, withRun, withSites, withCache, withLast, withMaster, withWriter}
-use Rattle.model.specs.Outcome.{Outcome, refused, broken, done, unless}
+use Rattle.model.specs.Store.{Run, Store, withRun, withCaches, withSites, withCache, withLast, withMaster, withWriter}
+use Rattle.model.specs.Outcome.{Outcome, refused, broken, done, told, unless}
 use Rattle.model.specs.Runs.{openCause, openDone, openRule, dropCause, dropDone, dropRule}
 use Rattle.model.specs.Caches.{fetchCause, fetchDone, fetchRule, evictCause, evictDone, evictRule}
 use Rattle.model.specs.Prepare.{prepareCause, prepareDone, prepareRule}
 use Rattle.model.specs.Step.{stepCause, stepBroken, stepDone, stepRule, stepMoved}
 use Rattle.model.specs.Issue.{issueCause, savedStore, issuedStore, issueDone, issueRule}
-use Rattle.model.specs.Look.{lookCause, lookDone, lookRule}
-use Rattle.model.specs.Calls.{StoreCall, openRun, fetch, evict, prepare, step, issue, dropRun, look, ruleOf}
-use Rattle.model.proofs.Outcomes.{unless-cases, nextStore}
+use Rattle.model.specs.Calls.{StoreCall, openRun, fetch, evict, prepare, step, issue, dropRun, ask, replyOf, ruleOf}
+use Rattle.model.proofs.Outcomes.{unless-cases, nextStore, replied-next}
 use Rattle.layout.specs.Reading.{storeOf}
 use Rattle.layout.specs.Calls.{leaves}
 use Rattle.layout.proofs.Whole.{store-back}
@@ -43,7 +42,7 @@ module _ (s : Store) (r : ℕ) where
   pub rule-framed : (c : StoreCall) → onRun r c ≡ false → Same (ruleOf c s)
   unfolding roleOf onRole ruleOf openRule openDone fetchRule fetchDone evictRule evictDone
       prepareRule prepareDone stepRule stepBroken stepDone issueRule issueDone issuedStore
-      savedStore dropRule dropDone lookRule lookDone withRun withSites withCache withLast
+      savedStore dropRule dropDone withRun withSites withCache withCaches withLast
       withMaster withWriter
   rule-framed (openRun x l) n = accepted (openCause s x l) (openDone s x l) (other x _ n)
   rule-framed (fetch o k) n = accepted (fetchCause s o k) (fetchDone s o k) refl
@@ -56,7 +55,7 @@ module _ (s : Store) (r : ℕ) where
       accepted (issueCause s x w S) (issueDone s x w S)
       (test (eqb S 0) (λ e. rw e (other x _ n)) (λ e. rw e (other x _ n)))
   rule-framed (dropRun x) n = accepted (dropCause s x) (dropDone s x) (other x _ n)
-  rule-framed (look p i k) n = accepted (lookCause s p i k) (lookDone s p i k) refl
+  rule-framed (ask q) n = ap (λ (t : Store). t .run r) (replied-next (replyOf q s) s)
 
 -- ---- on a buffer
 
@@ -66,6 +65,7 @@ unfolding leaves
 left-store (refused n) l F = refl
 left-store (broken m t) l F = store-back t l (F .fits)
 left-store (done a t) l F = store-back t l (F .fits)
+left-store (told w a) l F = refl
 
 pub framed : Framed
 framed l c r F n =

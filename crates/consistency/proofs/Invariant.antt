@@ -3,19 +3,20 @@
 -- Inv: all of it. Moves: after an outcome.
 -- Assumes nothing.
 use mathlib.Core.Path.{_≡_}
-use mathlib.Core.Bool.{So}
+use mathlib.Core.Bool.{So, cond}
 use mathlib.Core.List.{List}
 use Prim.Native.Nat.{ℕ, _≤_, _<_}
+use lib.Dec.{eqb}
 use lib.ListN.{length}
 use Rattle.words.specs.Numbers.{countBelow}
 use Rattle.masks.specs.Mask.{testBit}
 use Rattle.model.specs.Store.{Run, Store, planned}
-use Rattle.model.specs.Outcome.{Outcome, refused, broken, done}
+use Rattle.model.specs.Outcome.{Outcome, refused, broken, done, told}
 use Rattle.model.specs.Calls.{StoreCall}
 use Rattle.layout.specs.Calls.{on}
 use Rattle.history.specs.History.{History, saved}
 use Rattle.history.specs.Copies.{byWriter, counted}
-use Rattle.history.specs.Book.{Book, BookRun, bookRule}
+use Rattle.history.specs.Book.{Book, BookRun, bookRule, bookStep}
 use Rattle.history.proofs.Notions.{Sound, ClosedIn, ClosedAll}
 use Rattle.consistency.specs.Trace.{ReadSet, finish}
 use Rattle.consistency.specs.Claim.{Counted, Among}
@@ -69,3 +70,6 @@ abbrev pub Moves : StoreCall → Store → Book → (ℕ → List ReadSet) → O
 Moves c s b f (refused n) = Inv s b f
 Moves c s b f (broken m t) = Inv t b f
 Moves c s b f (done a t) = Inv t (bookRule c b) (finish (on c) t (bookRule c b) f)
+Moves c s b f (told w a) =
+    let after = bookStep (on c) (eqb w 0) b in
+    Inv s after (cond (eqb w 0) (finish (on c) s after f) f)

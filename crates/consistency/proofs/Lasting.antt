@@ -13,13 +13,13 @@ use Rattle.words.specs.Tests.{anyBelow}
 use Rattle.words.specs.Lists.{putAt}
 use Rattle.words.proofs.Bools.{test, clash, and-intro, and-false-right, eqb-eq, eq-eqb}
 use Rattle.words.proofs.Lists.{putAt-same}
-use Rattle.model.specs.Store.{Run, Store, freeRun, withSnapshot, withState, withJobDone, withRun, withSites, withCache, withLast, withMaster, withWriter}
+use Rattle.model.specs.Store.{Run, Store, freeRun, withSnapshot, withState, withJobDone, withRun, withCaches, withSites, withCache, withLast, withMaster, withWriter}
 use Rattle.model.specs.Outcome.{Outcome, refused, unless, allowed, stepRow, freeState, runCause}
 use Rattle.model.specs.Runs.{openCause, openDone, openRule, openedRun, dropCause, dropDone, dropRule}
 use Rattle.model.specs.Prepare.{prepareCause, prepareDone, prepareRule}
 use Rattle.model.specs.Step.{jobCause, stepCause, stepBroken, stepDone, stepRule, stepMoved}
 use Rattle.model.specs.Issue.{issueCause, savedStore, issuedStore, issueDone, issueRule}
-use Rattle.model.specs.Calls.{StoreCall, openRun, fetch, evict, prepare, step, issue, dropRun, look, ruleOf}
+use Rattle.model.specs.Calls.{StoreCall, openRun, fetch, evict, prepare, step, issue, dropRun, ask, ruleOf}
 use Rattle.model.proofs.Outcomes.{no-cause, no-lack, allowed-used, free-state, unless-cases, nextStore}
 use Rattle.model.proofs.Formed.{well-out}
 use Rattle.model.proofs.Plans.{state-low}
@@ -75,7 +75,7 @@ module _ (s : Store) (F : Fine s) (r : ℕ) (h : r < s .counts .runs) where
   put c x b L = rw (putAt-same (s .run) r b) L
 
   prepare-lasts : Now (prepare r) (prepareRule r s)
-  unfolding prepareRule prepareDone withRun withSites withSnapshot roleOf freesRole
+  unfolding prepareRule prepareDone withRun withCaches withSites withSnapshot roleOf freesRole
   prepare-lasts =
       by-cause (prepare r) (prepareCause s r) (prepareDone s r) (λ _.
       put (prepare r) (prepareDone s r) _
@@ -164,7 +164,7 @@ module _ (s : Store) (F : Fine s) (r : ℕ) (h : r < s .counts .runs) where
   on-lasts (step x j) p = rw (← (eqb-eq r x p)) (step-lasts j)
   on-lasts (issue x w S) p = rw (← (eqb-eq r x p)) (issue-lasts w S)
   on-lasts (dropRun x) p = rw (← (eqb-eq r x p)) drop-lasts
-  on-lasts (look p i k) q = absurd (false≢true q)
+  on-lasts (ask q) p = absurd (false≢true p)
 
   rule-lasts : (c : StoreCall) → Now c (ruleOf c s)
   rule-lasts c =

@@ -8,7 +8,7 @@ use mathlib.Core.List.{List}
 use Prim.Native.Nat.{ℕ, _<_}
 use Rattle.words.proofs.Bools.{clash}
 use Rattle.model.specs.Algebra.{Place}
-use Rattle.model.specs.Store.{Run, Site, Store, planned, withSites, withSnapshot}
+use Rattle.model.specs.Store.{Run, Site, Store, planned, siteWith, withCaches, withSites, withSnapshot}
 use Rattle.model.specs.Prepare.{preparedCaches, usesSite, sitesMerged, siteCaches, prepareCause, prepareCaches, prepareSnapshot, prepareDone, prepareRule}
 use Rattle.model.specs.Calls.{prepare}
 use Rattle.model.proofs.Plans.{valid-out}
@@ -126,11 +126,11 @@ none-read {s} {b} {f} {r} fine v A a x i =
 
 done-moves : {s : Store} {b : Book} {f : ℕ → List ReadSet} {r : ℕ} → Fine s → Inv s b f
     → Accepted s r → Moves (prepare r) s b f (prepareDone s r)
-unfolding prepareDone bookRule finish withSites withBookCaches
+unfolding prepareDone bookRule finish withCaches withSites withBookCaches
 done-moves {s} {b} {f} {r} fine v A =
     let F = v .follows in
     let after = withSnapshot (s .run r) (prepareSnapshot s r) in
-    let sites : ℕ → Site = λ o. record { cache = prepareCaches s r o } in
+    let sites : ℕ → Site = λ o. siteWith (s .site o) (prepareCaches s r o) in
     let w = inv-caches v sites (copyCaches s b r)
     (λ o l. (λ k h. caches-related fine F A o l k h .0, caches-cuts fine F A o l .0)) in
     rw (book-prepare s b r F (A .run))

@@ -1,17 +1,17 @@
--- Open, drop and look keep the invariant of demand 3.
+-- Open, drop and the calls that only answer keep the invariant of demand 3.
 -- Assumes nothing.
 use mathlib.Core.List.{List}
 use Prim.Native.Nat.{ℕ}
 use native.Mathlib.Omega.{arith}
-use Rattle.words.proofs.Bools.{leb-gt}
+use lib.Dec.{eqb}
+use Rattle.words.proofs.Bools.{test, leb-gt}
 use Rattle.model.specs.Store.{Store, freeRun}
-use Rattle.model.specs.Outcome.{openState, runCause}
-use Rattle.model.specs.Calls.{openRun, dropRun, look}
+use Rattle.model.specs.Outcome.{openState, runCause, replied}
+use Rattle.model.specs.Calls.{Query, openRun, dropRun, ask, replyOf}
 use Rattle.model.specs.Runs.{listedCount, listedJobs, openCause, openedRun, openDone, openRule, dropCause, dropDone, dropRule}
-use Rattle.model.specs.Look.{lookCause, lookDone, lookRule}
-use Rattle.model.proofs.Outcomes.{no-cause}
+use Rattle.model.proofs.Outcomes.{no-cause, replied-cases}
 use Rattle.layout.proofs.Follow.{Fine}
-use Rattle.history.specs.Book.{Book, noRun, bookOpen, bookRule}
+use Rattle.history.specs.Book.{Book, noRun, bookOpen, bookRule, bookOk, bookStep}
 use Rattle.consistency.specs.Trace.{ReadSet, finish}
 use Rattle.consistency.proofs.Invariant.{Inv, Moves}
 use Rattle.consistency.proofs.Following.{empty-follows, free-follows}
@@ -34,8 +34,11 @@ drop-moves r s b f _ v =
     inv-anew v r freeRun noRun (free-follows (s .counts .keys) (b .history))
     (leb-gt _ _ (no-cause _ 3 _ (omega arith) e .0)))
 
-pub look-moves : (p i k : ℕ) (s : Store) (b : Book) (f : ℕ → List ReadSet) → Fine s → Inv s b f
-    → Moves (look p i k) s b f (lookRule p i k s)
-unfolding lookRule lookDone bookRule finish
-look-moves p i k s b f _ v =
-    unless-moves (look p i k) s b f (lookCause s p i k) (lookDone s p i k) v (λ _. v)
+-- A call that only answers: the book and what has been read stay, whatever its first word.
+pub ask-moves : (q : Query) (s : Store) (b : Book) (f : ℕ → List ReadSet) → Fine s → Inv s b f
+    → Moves (ask q) s b f (replied (replyOf q s))
+unfolding bookStep bookOk bookRule finish
+ask-moves q s b f _ v =
+    let a = replyOf q s in
+    replied-cases (Moves (ask q) s b f) a
+    (test (eqb (a .word) 0) (λ y. rw y v) (λ n. rw n v)) v

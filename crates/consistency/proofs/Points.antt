@@ -9,7 +9,7 @@ use native.Mathlib.Decide.{ℕ-discrete}
 use Rattle.sizes.specs.Bounds.{countsOf}
 use Rattle.sizes.specs.declared.Counts.{Counts}
 use Rattle.model.specs.Store.{Store, fresh}
-use Rattle.model.specs.Outcome.{Outcome, refused, broken, done}
+use Rattle.model.specs.Outcome.{Outcome, refused, broken, done, told}
 use Rattle.model.specs.Calls.{StoreCall, ruleOf}
 use Rattle.model.proofs.Outcomes.{nextStore}
 use Rattle.layout.specs.Reading.{storeOf}
@@ -52,6 +52,10 @@ module _ (c : StoreCall) (t : Trace) (s : Store) (l : List ℕ) (e : t .buffer �
       let back : storeOf (leaves (done a u) (t .buffer)) ≡ u =
       ap storeOf q ∙ store-back u l (F .fits) in
       rw p (record { store = u; base = l; holds = q; fine = F; inv = rw back m })
+  outcome-at (told w a) p q F m =
+      let back : storeOf (leaves (told w a) (t .buffer)) ≡ s =
+      ap storeOf q ∙ store-back s l (F .fits) in
+      rw p (record { store = s; base = l; holds = q; fine = F; inv = rw back m })
 
   call-at : CallsMove → Fine s → Inv s (t .book) (t .finished) → At (advance (on c) t)
   call-at moves F I =

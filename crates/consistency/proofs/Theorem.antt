@@ -5,7 +5,7 @@ use mathlib.Core.List.{List}
 use Prim.Native.Nat.{ℕ}
 use Rattle.words.proofs.Bools.{_∙˙_}
 use Rattle.model.specs.Store.{Store}
-use Rattle.model.specs.Calls.{openRun, fetch, evict, prepare, step, issue, dropRun, look, ruleOf}
+use Rattle.model.specs.Calls.{openRun, fetch, evict, prepare, step, issue, dropRun, ask, ruleOf}
 use Rattle.layout.specs.Reading.{storeOf}
 use Rattle.layout.specs.Buffer.{inForm}
 use Rattle.layout.proofs.Whole.{store-back}
@@ -17,7 +17,7 @@ use Rattle.consistency.specs.Trace.{ReadSet, Trace}
 use Rattle.consistency.specs.Claim.{Holds, HoldsAt, Demand3}
 use Rattle.consistency.proofs.Invariant.{Inv}
 use Rattle.consistency.proofs.MovesCaches.{fetch-moves, evict-moves}
-use Rattle.consistency.proofs.MovesRuns.{open-moves, drop-moves, look-moves}
+use Rattle.consistency.proofs.MovesRuns.{open-moves, drop-moves, ask-moves}
 use Rattle.consistency.proofs.MovesPrepare.{prepare-moves}
 use Rattle.consistency.proofs.MovesStep.{step-moves}
 use Rattle.consistency.proofs.MovesIssue.{issue-moves}
@@ -35,7 +35,7 @@ calls-move (prepare r) s b f F I = prepare-moves r s b f F I
 calls-move (step r j) s b f F I = step-moves r j s b f F I
 calls-move (issue r w S) s b f F I = issue-moves r w S s b f F I
 calls-move (dropRun r) s b f F I = drop-moves r s b f F I
-calls-move (look p i k) s b f F I = look-moves p i k s b f F I
+calls-move (ask q) s b f F I = ask-moves q s b f F I
 
 -- The claim, read off the invariant.
 pub inv-holds : (s : Store) (b : Book) (f : ℕ → List ReadSet) → Fine s → Inv s b f → Holds s b f

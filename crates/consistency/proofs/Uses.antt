@@ -12,7 +12,7 @@ use Rattle.sizes.specs.declared.Counts.{Counts}
 use Rattle.model.specs.Version.{held, dependency, supersedes, versions}
 use Rattle.model.specs.Store.{Run, Store, freeRun, planned}
 use Rattle.model.specs.Outcome.{refused, broken, done, freeState}
-use Rattle.model.specs.Calls.{StoreCall, openRun, fetch, evict, prepare, step, issue, dropRun, look}
+use Rattle.model.specs.Calls.{StoreCall, openRun, fetch, evict, prepare, step, issue, dropRun, Query, ask}
 use Rattle.model.proofs.Cuts.{causalCut-at, overlappingCut-within, overlappingCut-at}
 use Rattle.layout.specs.Reading.{countsIn, storeOf}
 use Rattle.layout.specs.Buffer.{inForm}
@@ -174,7 +174,7 @@ opening-open r (prepare x) p = absurd (false≢true p)
 opening-open r (step x j) p = absurd (false≢true p)
 opening-open r (issue x w S) p = absurd (false≢true p)
 opening-open r (dropRun x) p = absurd (false≢true p)
-opening-open r (look p i k) q = absurd (false≢true q)
+opening-open r (ask q) p = absurd (false≢true p)
 
 pub open-opening : (r : ℕ) (ws : List ℕ) → So (opens r (openRun r ws))
 unfolding roleOf opensRole
@@ -207,15 +207,15 @@ module _ (lasting : Lasting) (l : List ℕ) (r : ℕ) (F : So (inForm l))
       let G = lasting l (step r j) r F low .lasts u refl in
       (G .used, G .jobs)
 
--- Fetch, evict and look leave every run, and a step every other one.
-pub others-stay : Framed → (l : List ℕ) (r : ℕ) → So (inForm l) → (o k p i x j : ℕ) → r ≢ x
+-- Fetch, evict and the calls that only answer leave every run, and a step every other one.
+pub others-stay : Framed → (l : List ℕ) (r : ℕ) → So (inForm l) → (o k x j : ℕ) (q : Query) → r ≢ x
     → let after-it : StoreCall → Run = λ c. storeOf (leaves (callOn (on c) l) l) .run r in
     (after-it (fetch o k) ≡ storeOf l .run r) × (after-it (evict o k) ≡ storeOf l .run r)
-    × (after-it (look p i k) ≡ storeOf l .run r) × (after-it (step x j) ≡ storeOf l .run r)
+    × (after-it (ask q) ≡ storeOf l .run r) × (after-it (step x j) ≡ storeOf l .run r)
 unfolding roleOf onRole
-others-stay framed l r F o k p i x j n = (
+others-stay framed l r F o k x j q n = (
   framed l (fetch o k) r F refl,
   framed l (evict o k) r F refl,
-  framed l (look p i k) r F refl,
+  framed l (ask q) r F refl,
   framed l (step x j) r F (ne-eqb r x n),
 )

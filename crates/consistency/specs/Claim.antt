@@ -12,7 +12,7 @@ use Rattle.sizes.specs.declared.Counts.{Counts}
 use Rattle.model.specs.Algebra.{Place, needsMet, causalCut, overlappingCut}
 use Rattle.model.specs.Version.{Version, held, merge, unheld, versions}
 use Rattle.model.specs.Store.{Store, planned}
-use Rattle.model.specs.Outcome.{Outcome, refused, broken, done}
+use Rattle.model.specs.Outcome.{Outcome, refused, broken, done, told}
 use Rattle.model.specs.Calls.{step}
 use Rattle.model.specs.Step.{stepReads, stepCache, stepPlan}
 use Rattle.layout.specs.Reading.{storeOf}
@@ -90,11 +90,13 @@ unfoldable pub isRefused : Outcome → Bool
 isRefused (refused n) = true
 isRefused (broken m s) = false
 isRefused (done a s) = false
+isRefused (told w a) = false
 
 unfoldable pub isBroken : Outcome → Bool
 isBroken (refused n) = false
 isBroken (broken m s) = true
 isBroken (done a s) = false
+isBroken (told w a) = false
 
 abbrev pub Choice : Store → ℕ → ℕ → Type 0
 Choice s r j = (pick : ℕ → Pick) × Works s r j pick

@@ -11,7 +11,7 @@ use Prim.Native.Nat.{ℕ, _<_}
 use lib.Dec.{eqb}
 use Rattle.model.specs.Store.{Run, freeRun}
 use Rattle.model.specs.Outcome.{Outcome, freeState}
-use Rattle.model.specs.Calls.{StoreCall, openRun, fetch, evict, prepare, step, issue, dropRun, look}
+use Rattle.model.specs.Calls.{StoreCall, openRun, fetch, evict, prepare, step, issue, dropRun, ask}
 use Rattle.layout.specs.Reading.{countsIn, storeOf}
 use Rattle.layout.specs.Buffer.{inForm}
 use Rattle.layout.specs.Calls.{on, callOn, leaves, isOk}
@@ -31,7 +31,7 @@ roleOf (prepare r) = working r
 roleOf (step r j) = working r
 roleOf (issue r w S) = freeing r
 roleOf (dropRun r) = freeing r
-roleOf (look p i k) = elsewhere
+roleOf (ask q) = elsewhere
 
 unfoldable pub onRole : ℕ → Role → Bool
 onRole r (opening x) = eqb r x

@@ -12,7 +12,7 @@ use Rattle.sizes.specs.declared.Counts.{Counts}
 use Rattle.model.specs.Algebra.{Place}
 use Rattle.model.specs.Version.{Version}
 use Rattle.model.specs.Store.{Store}
-use Rattle.model.specs.Calls.{openRun, fetch, evict, prepare, step, issue, dropRun, look}
+use Rattle.model.specs.Calls.{openRun, fetch, evict, prepare, step, issue, dropRun, ask}
 use Rattle.layout.specs.Reading.{storeOf}
 use Rattle.layout.specs.Calls.{Call, new, on, callOn, leaves, isOk, newOn}
 use Rattle.history.specs.Copies.{Copy}
@@ -54,7 +54,7 @@ finish (on (prepare r)) s b f = f
 finish (on (step r j)) s b f = putAt f r (readNow r j s b ∷ f r)
 finish (on (issue r w S)) s b f = putAt f r []
 finish (on (dropRun r)) s b f = putAt f r []
-finish (on (look p i k)) s b f = f
+finish (on (ask q)) s b f = f
 
 -- One call. The book gets the call, and whether it was answered ok.
 unfoldable pub advance : Call → Trace → Trace
