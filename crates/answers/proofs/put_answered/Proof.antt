@@ -1,6 +1,5 @@
 -- `put_answered` puts the words of each case.
 -- Assumes nothing.
-use mathlib.Core.Path.{sym, subst}
 use borrow.Author.Needs.{needs}
 use Rattle.answers.specs.Answers.{answeredWords}
 use Rattle.answers.proofs.put_answered.Statement.{statement}
@@ -23,14 +22,18 @@ same-length c = search needs
 
 returns : tie.Need-returns
 unfolding answeredWords
-returns c = rw (c .before .before .before .before .before .r .given .1) (c .before .before .put-two .ensures)
+returns c =
+    let place = c .before .before in
+    rw (place .before .before .before .r .given .1) (place .put-two .ensures)
 
 same-length-2 : tie.Need-same-length-2
 same-length-2 c = search needs
 
 returns-2 : tie.Need-returns-2
 unfolding answeredWords
-returns-2 c = rw (c .before .before .before .before .before .r2 .given .1) (c .before .before .put-two2 .ensures)
+returns-2 c =
+    let place = c .before .before in
+    rw (place .before .before .before .r2 .given .1) (place .put-two2 .ensures)
 
 pub put-answered-spec : {M : Type 1} → statement M
 put-answered-spec =

@@ -18,10 +18,12 @@ same-length : tie.Need-same-length
 same-length c = search needs
 
 returns : tie.Need-returns
-returns c = record {
-  laid = over-two (c .args .answer .now) (c .args .first) (c .args .number) (omega (arith, c .pre));
-  count = refl;
-}
+returns c =
+    let a = c .args in
+    record {
+      laid = over-two (a .answer .now) (a .first) (a .number) (omega (arith, c .pre));
+      count = refl;
+    }
 
 pub put-two-spec : {M : Type 1} → statement M
 put-two-spec = tie.close (tie.spec slice-write-answer slice-write-answer-2 same-length returns)
