@@ -19,8 +19,8 @@ use Rattle.clock.specs.Clock.{dominates, present, join}
 use Rattle.sizes.specs.Bounds.{countsOf, between, ranged, pastSize, versionSize, placeSize, siteSize, writerSize, runSize, masterAt, sitesAt, writersAt, runsAt, totalOf}
 use Rattle.model.specs.Algebra.{Place, lacking, needsMet}
 use Rattle.model.specs.Version.{Version, held, dependency, supersedes, larger, merge, versions}
-use Rattle.model.specs.Sets.{draws, drawSet, fetchSet, fetched, unfetchable, evictSet, evicted, pullSet, pulled}
-use Rattle.model.specs.Store.{Store, fresh, planned, doneReads, withMaster, withLast, withSites, withCache, withWriter, withRun, withState, withSnapshot, withJobDone}
+use Rattle.model.specs.Sets.{draws, drawSet, fetchSet, fetched, unfetchable, pullSet, pulled}
+use Rattle.model.specs.Store.{Store, fresh, planned, doneReads, withMaster, withLast, withSites, withCache, withWriter, withRun, withState, withJobDone}
 use Rattle.model.specs.Form.{zeroRows, versionFormed, placeFormed, validJob, zeroJob, freeFormed, jobsFormed, masksFormed, snapshotFormed, runFormed, wellFormed}
 use Rattle.model.specs.Outcome.{answer, refuse, unless, allowed, runCause}
 use Rattle.model.specs.Runs.{listedJob, listedCount, listedJobs, listValid, openCause, openedRun, openDone, openRule, dropCause, dropDone, dropRule}
@@ -75,10 +75,10 @@ module _ (s : Store) (r j : ℕ) (pick : ℕ → Pick) where
       clash (needsMet-at (versions W) K (stepPlan s r j) choice (w .meets) k d lk ld pk pd h n) u
 
   -- A choice of the card's version.
-  card-kept : (k : ℕ) → So (stepPlan s r j k) → pick k ≡ ofSnapshot
+  snapshot-kept : (k : ℕ) → So (stepPlan s r j k) → pick k ≡ ofSnapshot
       → choice k ≡ s .run r .snapshot k
   unfolding chosen pickOf
-  card-kept k p e = rw (p, e)
+  snapshot-kept k p e = rw (p, e)
 
 -- ---- a script of two jobs, after `new 2 1 1 2`
 
@@ -133,8 +133,8 @@ unfolding anyBelow allBelow only foldBelow countBelow largest when putAt upto bl
     withBit withIf maskBelow closure rounds round dominates present join between ranged pastSize
     versionSize placeSize siteSize writerSize runSize masterAt sitesAt writersAt runsAt totalOf
     lacking held dependency supersedes larger merge draws drawSet fetchSet fetched unfetchable
-    evictSet evicted pullSet pulled fresh planned doneReads withMaster withLast withSites
-    withCache withWriter withRun withState withSnapshot withJobDone zeroRows versionFormed
+    pullSet pulled fresh planned doneReads withMaster withLast withSites
+    withCache withWriter withRun withState withJobDone zeroRows versionFormed
     placeFormed validJob zeroJob freeFormed jobsFormed masksFormed snapshotFormed runFormed
     wellFormed answer refuse unless allowed runCause listedJob listedCount listedJobs listValid
     openCause openedRun openDone openRule dropCause dropDone dropRule readStart stepSite
@@ -155,16 +155,16 @@ computed = record {
   issued = refl;
   dropped = refl;
   works = works-by (store 2) 0 1 older holds keeps refl;
-  unmet = unmet-fails (store 3) 0 1 older 1 0 one zero-low refl refl refl refl refl;
-  moves = moving-fails (store 3) 0 1 (λ k. ofCache) 0 zero-low refl (λ e. two-one e);
-  lacks = lacking-fails (store 3) 0 1 (λ k. ofSnapshot) 1 one refl refl;
+  unmet = unmet-fails (store 3) 0 1 older 1 0 one-low zero-low refl refl refl refl refl;
+  moves = moving-fails (store 3) 0 1 (λ k. ofCache) 0 zero-low refl two-one;
+  lacks = lacking-fails (store 3) 0 1 (λ k. ofSnapshot) 1 one-low refl refl;
 }
   where
     zero-low : 0 < 2
     zero-low = omega arith
 
-    one : 1 < 2
-    one = omega arith
+    one-low : 1 < 2
+    one-low = omega arith
 
     two-one : _≡_ {A = ℕ} 2 1 → ⊥
     two-one e = absurd (omega (arith, e))
@@ -177,7 +177,7 @@ computed = record {
 
     keeps : (k : ℕ) → k < 2 → So (testBit (store 2 .run 0 .read) k)
         → chosen (store 2) 0 1 older k ≡ store 2 .run 0 .snapshot k
-    keeps zero l p = card-kept (store 2) 0 1 older 0 refl refl
+    keeps zero l p = snapshot-kept (store 2) 0 1 older 0 refl refl
     keeps (suc zero) l p = absurd (false≢true p)
     keeps (suc (suc k)) l p = absurd (omega (arith, l))
 
@@ -202,8 +202,8 @@ two-versions x =
     absurd (omega (arith, e))
 
 -- Sheet 1 of the second issue, and by another job alone sheet 0 without that issue's save.
-pub missing-save : ¬ (Snapshot 2 two-issues (having-read 2 (only 1)) (having-read 1 (only 0)))
+pub missing-write : ¬ (Snapshot 2 two-issues (having-read 2 (only 1)) (having-read 1 (only 0)))
 unfolding testBit only saved
-missing-save x =
+missing-write x =
     false≢true (x .included 1 1 0 1 (omega arith) (omega arith) refl refl refl
     (together {d = 0} {e = 1} {i = 1} (omega arith) refl refl (λ e. omega (arith, e))))
