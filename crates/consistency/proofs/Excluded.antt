@@ -2,7 +2,8 @@
 -- finished jobs have read, computed for a script of two jobs.
 -- Assumes nothing.
 use mathlib.Core.Path.{_≡_, refl, ap}
-use mathlib.Core.Bool.{So, cond, false≢true}
+use mathlib.Core.Bool.{false, So, cond, false≢true}
+use mathlib.Core.Logic.{_≢_}
 use mathlib.Core.List.{List, [], _∷_, _++_, map}
 use Prim.Native.Nat.{ℕ, zero, suc, _<_}
 use native.Mathlib.Omega.{arith}
@@ -11,20 +12,22 @@ use lib.ListN.{replicate}
 use Rattle.words.specs.Tests.{none, anyBelow, allBelow, only}
 use Rattle.words.specs.Numbers.{foldBelow, countBelow, largest, when}
 use Rattle.words.specs.Lists.{putAt, upto, blocks}
+use Rattle.words.proofs.Bools.{clash}
 use Rattle.masks.specs.Mask.{testBit, withBit, withIf, maskBelow}
 use Rattle.reach.specs.Closure.{closure, rounds, round}
 use Rattle.clock.specs.Clock.{dominates, present, join}
 use Rattle.sizes.specs.Bounds.{countsOf, between, ranged, pastSize, versionSize, placeSize, siteSize, writerSize, runSize, masterAt, sitesAt, writersAt, runsAt, totalOf}
-use Rattle.model.specs.Algebra.{lacking, needsMet}
-use Rattle.model.specs.Version.{held, dependency, supersedes, larger, merge}
-use Rattle.model.specs.Sets.{draws, drawSet, fetchSet, fetched, unfetchable, evictSet, evicted, pullSet, pulled}
-use Rattle.model.specs.Store.{Store, fresh, planned, doneReads, withMaster, withLast, withSites, withCache, withWriter, withRun, withState, withSnapshot, withJobDone}
+use Rattle.model.specs.Algebra.{Place, lacking, needsMet}
+use Rattle.model.specs.Version.{Version, held, dependency, supersedes, larger, merge, versions}
+use Rattle.model.specs.Sets.{draws, drawSet, fetchSet, fetched, unfetchable, pullSet, pulled}
+use Rattle.model.specs.Store.{Store, fresh, planned, doneReads, withMaster, withLast, withSites, withCache, withWriter, withRun, withState, withJobDone}
 use Rattle.model.specs.Form.{zeroRows, versionFormed, placeFormed, validJob, zeroJob, freeFormed, jobsFormed, masksFormed, snapshotFormed, runFormed, wellFormed}
 use Rattle.model.specs.Outcome.{answer, refuse, unless, allowed, runCause}
 use Rattle.model.specs.Runs.{listedJob, listedCount, listedJobs, listValid, openCause, openedRun, openDone, openRule, dropCause, dropDone, dropRule}
 use Rattle.model.specs.Step.{readStart, stepSite, stepReads, stepStart, stepFetch, stepCache, stepPlan, stepPull, stepSnapshot, stepMoved, jobLimit, notReady, jobCause, stepCause, stepBroken, stepDone, stepRule}
 use Rattle.model.specs.Issue.{raiseCause, issueCause, takenIn, rowsSet, newPast, newVersion, issuedMaster, issuedWriter, savedStore, issuedStore, issuedNumber, issueDone, issueRule}
 use Rattle.model.specs.Calls.{openRun, step, issue, dropRun, ruleOf}
+use Rattle.model.proofs.Cuts.{needsMet-at}
 use Rattle.layout.specs.Words.{clockWords, pastWords, versionWords, placeWords, siteWords, sitesWords, writerWords, writersWords, jobWords, jobsWords, runWords, runsWords, headerWords, storeWords}
 use Rattle.layout.specs.Reading.{readClock, readPast, readVersion, readPlace, readSite, readWriter, readJob, readJobs, readRun, countsIn, storeOf}
 use Rattle.layout.specs.Buffer.{written, headerRight, shaped, inForm}
@@ -34,6 +37,48 @@ use Rattle.history.specs.Copies.{Copy, reaches, heldCopy, needsCopy, meetsCopy,
 use Rattle.history.specs.Book.{freshBook, withBookCaches, withBookRun, bookOpen, bookStepJob, entry, bookIssue, bookIssued, bookRule, bookOk, bookStep}
 use Rattle.consistency.specs.Trace.{ReadSet, Trace, start, readNow, finish, advance, follow}
 use Rattle.consistency.specs.Claim.{Snapshot, Pick, Pick.ofSnapshot, Pick.ofCache, pickOf, chosen, Works}
+
+-- ---- choices: which work, and which don't
+
+module _ (s : Store) (r j : ℕ) (pick : ℕ → Pick) where
+  abbrev K : ℕ
+  K = s .counts .keys
+
+  abbrev W : ℕ
+  W = s .counts .writers
+
+  abbrev choice : Place Version
+  choice = chosen s r j pick
+
+  -- It "holds all that the job reads, leaves the sheets already read as they were and meets every
+  -- need among the plan's sheets".
+  pub works-by : ((k : ℕ) → k < K → So (stepReads s r j k) → So (held (choice k)))
+      → ((k : ℕ) → k < K → So (testBit (s .run r .read) k) → choice k ≡ s .run r .snapshot k)
+      → So (needsMet (versions W) K (stepPlan s r j) choice) → Works s r j pick
+  works-by h k m = record { holds = h; keeps = k; meets = m }
+
+  -- One that lacks a read doesn't work,
+  pub lacking-fails : (k : ℕ) → k < K → So (stepReads s r j k) → held (choice k) ≡ false
+      → ¬ (Works s r j pick)
+  lacking-fails k l p n w = clash (w .holds k l p) n
+
+  -- nor one that moves a sheet that was read,
+  pub moving-fails : (k : ℕ) → k < K → So (testBit (s .run r .read) k)
+      → choice k .issue ≢ s .run r .snapshot k .issue → ¬ (Works s r j pick)
+  moving-fails k l p n w = n (ap (λ v. v .issue) (w .keeps k l p))
+
+  -- nor one that leaves a need among the plan's sheets unmet.
+  pub unmet-fails : (k d : ℕ) → k < K → d < K → So (stepPlan s r j k) → So (stepPlan s r j d)
+      → So (held (choice k)) → So (dependency W k (choice k) d)
+      → supersedes W d (choice d) (choice k .past d) ≡ false → ¬ (Works s r j pick)
+  unmet-fails k d lk ld pk pd h n u w =
+      clash (needsMet-at (versions W) K (stepPlan s r j) choice (w .meets) k d lk ld pk pd h n) u
+
+  -- A choice of the card's version.
+  snapshot-kept : (k : ℕ) → So (stepPlan s r j k) → pick k ≡ ofSnapshot
+      → choice k ≡ s .run r .snapshot k
+  unfolding chosen pickOf
+  snapshot-kept k p e = rw (p, e)
 
 -- ---- a script of two jobs, after `new 2 1 1 2`
 
@@ -65,12 +110,6 @@ seen x =
     maskBelow 2 (x .keys) ∷ x .version 0 .issue ∷ maskBelow 2 (x .copy 0)
     ∷ x .version 1 .issue ∷ maskBelow 2 (x .copy 1) ∷ []
 
--- A choice of the card's version.
-card-kept : (s : Store) (r j : ℕ) (pick : ℕ → Pick) (k : ℕ) → So (stepPlan s r j k)
-    → pick k ≡ ofSnapshot → chosen s r j pick k ≡ s .run r .snapshot k
-unfolding chosen pickOf
-card-kept s r j pick k p e = rw (p, e)
-
 pub record Computed : Type 0 where
   -- Each job has read its sheets as its own step left the card, the last one first.
   pub both : map seen (after-job 2 .finished 0)
@@ -94,8 +133,8 @@ unfolding anyBelow allBelow only foldBelow countBelow largest when putAt upto bl
     withBit withIf maskBelow closure rounds round dominates present join between ranged pastSize
     versionSize placeSize siteSize writerSize runSize masterAt sitesAt writersAt runsAt totalOf
     lacking held dependency supersedes larger merge draws drawSet fetchSet fetched unfetchable
-    evictSet evicted pullSet pulled fresh planned doneReads withMaster withLast withSites
-    withCache withWriter withRun withState withSnapshot withJobDone zeroRows versionFormed
+    pullSet pulled fresh planned doneReads withMaster withLast withSites
+    withCache withWriter withRun withState withJobDone zeroRows versionFormed
     placeFormed validJob zeroJob freeFormed jobsFormed masksFormed snapshotFormed runFormed
     wellFormed answer refuse unless allowed runCause listedJob listedCount listedJobs listValid
     openCause openedRun openDone openRule dropCause dropDone dropRule readStart stepSite
@@ -115,17 +154,21 @@ computed = record {
   one = refl;
   issued = refl;
   dropped = refl;
-  works = record { holds = holds; keeps = keeps; meets = refl };
-  unmet = λ w. false≢true (w .meets);
-  moves = λ w.
-      let low : 0 < 2 = omega arith in
-      let e : _≡_ {A = ℕ} 2 1 = ap (λ v. v .issue) (w .keeps 0 low refl) in
-      absurd (omega (arith, e));
-  lacks = λ w.
-      let low : 1 < 2 = omega arith in
-      false≢true (w .holds 1 low refl);
+  works = works-by (store 2) 0 1 older holds keeps refl;
+  unmet = unmet-fails (store 3) 0 1 older 1 0 one-low zero-low refl refl refl refl refl;
+  moves = moving-fails (store 3) 0 1 (λ k. ofCache) 0 zero-low refl two-one;
+  lacks = lacking-fails (store 3) 0 1 (λ k. ofSnapshot) 1 one-low refl refl;
 }
   where
+    zero-low : 0 < 2
+    zero-low = omega arith
+
+    one-low : 1 < 2
+    one-low = omega arith
+
+    two-one : _≡_ {A = ℕ} 2 1 → ⊥
+    two-one e = absurd (omega (arith, e))
+
     holds : (k : ℕ) → k < 2 → So (stepReads (store 2) 0 1 k)
         → So (held (chosen (store 2) 0 1 older k))
     holds zero l p = absurd (false≢true p)
@@ -134,7 +177,7 @@ computed = record {
 
     keeps : (k : ℕ) → k < 2 → So (testBit (store 2 .run 0 .read) k)
         → chosen (store 2) 0 1 older k ≡ store 2 .run 0 .snapshot k
-    keeps zero l p = card-kept (store 2) 0 1 older 0 refl refl
+    keeps zero l p = snapshot-kept (store 2) 0 1 older 0 refl refl
     keeps (suc zero) l p = absurd (false≢true p)
     keeps (suc (suc k)) l p = absurd (omega (arith, l))
 
@@ -159,8 +202,8 @@ two-versions x =
     absurd (omega (arith, e))
 
 -- Sheet 1 of the second issue, and by another job alone sheet 0 without that issue's save.
-pub missing-save : ¬ (Snapshot 2 two-issues (having-read 2 (only 1)) (having-read 1 (only 0)))
+pub missing-write : ¬ (Snapshot 2 two-issues (having-read 2 (only 1)) (having-read 1 (only 0)))
 unfolding testBit only saved
-missing-save x =
+missing-write x =
     false≢true (x .included 1 1 0 1 (omega arith) (omega arith) refl refl refl
     (together {d = 0} {e = 1} {i = 1} (omega arith) refl refl (λ e. omega (arith, e))))

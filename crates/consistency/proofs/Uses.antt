@@ -56,33 +56,33 @@ module _ (t : Trace) (H : HoldsAt t) where
   counts = H .holds .counts
 
   -- "every need of every held version is met by a held version", on each shelf
-  pub shelf-meets : (o : ℕ) → o < s .counts .sites → (k d : ℕ) → k < K → d < K
+  pub cache-meets : (o : ℕ) → o < s .counts .sites → (k d : ℕ) → k < K → d < K
       → So (held (s .site o .cache k)) → So (dependency W k (s .site o .cache k) d)
       → So (supersedes W d (s .site o .cache d) (s .site o .cache k .past d))
-  shelf-meets o l = causalCut-at (versions W) K (s .site o .cache) (H .holds .cuts o l)
+  cache-meets o l = causalCut-at (versions W) K (s .site o .cache) (H .holds .cuts o l)
 
   -- "only those sheets are held, and every need among them is met", on each card
-  pub card-within : (r : ℕ) → r < s .counts .runs → (k : ℕ) → k < K
+  pub snapshot-within : (r : ℕ) → r < s .counts .runs → (k : ℕ) → k < K
       → So (held (s .run r .snapshot k)) → So (planned (s .run r .jobs) (s .run r .job) k)
-  card-within r l = overlappingCut-within (versions W) K _ _ (H .holds .overlaps r l)
+  snapshot-within r l = overlappingCut-within (versions W) K _ _ (H .holds .overlaps r l)
 
-  pub card-meets : (r : ℕ) → r < s .counts .runs → (k d : ℕ) → k < K → d < K
+  pub snapshot-meets : (r : ℕ) → r < s .counts .runs → (k d : ℕ) → k < K → d < K
       → So (planned (s .run r .jobs) (s .run r .job) d) → So (held (s .run r .snapshot k))
       → So (dependency W k (s .run r .snapshot k) d)
       → So (supersedes W d (s .run r .snapshot d) (s .run r .snapshot k .past d))
-  card-meets r l = overlappingCut-at (versions W) K _ _ (H .holds .overlaps r l)
+  snapshot-meets r l = overlappingCut-at (versions W) K _ _ (H .holds .overlaps r l)
 
   -- "A version on the desk is its copy counted": master, shelves, cards, what jobs have read
   pub master-counted : (k : ℕ) → k < K → s .master k ≡ counted K h (t .book .master k)
   master-counted = H .holds .master
 
-  pub shelf-counted : (o : ℕ) → o < s .counts .sites → (k : ℕ) → k < K
+  pub cache-counted : (o : ℕ) → o < s .counts .sites → (k : ℕ) → k < K
       → s .site o .cache k ≡ counted K h (t .book .cache o k)
-  shelf-counted = H .holds .caches
+  cache-counted = H .holds .caches
 
-  pub card-counted : (r : ℕ) → r < s .counts .runs → (k : ℕ) → k < K
+  pub snapshot-counted : (r : ℕ) → r < s .counts .runs → (k : ℕ) → k < K
       → s .run r .snapshot k ≡ counted K h (t .book .run r .snapshot k)
-  card-counted = H .holds .snapshots
+  snapshot-counted = H .holds .snapshots
 
   pub read-counted : (r : ℕ) (x : ReadSet) → Among x (t .finished r) → (k : ℕ) → k < K
       → So (x .keys k) → x .version k ≡ counted K h (x .copy k)
