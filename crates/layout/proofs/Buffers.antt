@@ -12,7 +12,7 @@ use lib.Seq.{sets}
 use Rattle.words.specs.Tests.{anyBelow, allBelow}
 use Rattle.words.specs.Lists.{upto, blocks}
 use Rattle.clock.specs.Clock.{present}
-use Rattle.sizes.specs.Bounds.{countsOf, between, ranged, pastSize, versionSize, placeSize, siteSize, writerSize, runSize, masterAt, sitesAt, writersAt, runsAt, totalOf}
+use Rattle.sizes.specs.Bounds.{countsOf, between, ranged, pastSize, versionSize, placeSize, siteSize, writerSize, runSize, masterAt, sitesAt, writersAt, runsAt, tailSize, tailAt, totalOf}
 use Rattle.model.specs.Version.{held}
 use Rattle.model.specs.Store.{fresh}
 use Rattle.model.specs.Form.{zeroRows, versionFormed, placeFormed, zeroJob, freeFormed, runFormed, wellFormed}
@@ -20,8 +20,8 @@ use Rattle.model.specs.Outcome.{answer, refuse, unless, allowed, runCause}
 use Rattle.model.specs.Runs.{dropCause, dropDone, dropRule}
 use Rattle.model.specs.Calls.{dropRun, ruleOf}
 use Rattle.model.proofs.Scripts.{ok₁, not-taken}
-use Rattle.layout.specs.Words.{clockWords, pastWords, versionWords, placeWords, siteWords, sitesWords, writerWords, writersWords, jobWords, jobsWords, runWords, runsWords, headerWords, storeWords}
-use Rattle.layout.specs.Reading.{readClock, readPast, readVersion, readPlace, readSite, readWriter, readJob, readJobs, readRun, countsIn, storeOf}
+use Rattle.layout.specs.Words.{clockWords, pastWords, versionWords, placeWords, siteWords, sitesWords, writerWords, writersWords, jobWords, jobsWords, runWords, runsWords, tailWords, headerWords, storeWords}
+use Rattle.layout.specs.Reading.{readClock, readPast, readVersion, readPlace, readSite, readWriter, readJob, readJobs, readRun, readTail, countsIn, storeOf}
 use Rattle.layout.specs.Buffer.{headerRight, shaped, inForm}
 use Rattle.layout.specs.Calls.{new, on, newCause, newOn, onStore, callOn}
 
@@ -78,12 +78,13 @@ pub record Buffers : Type 0 where
 
 pub buffers : Buffers
 unfolding anyBelow allBelow upto blocks present between ranged pastSize versionSize placeSize
-    siteSize writerSize runSize masterAt sitesAt writersAt runsAt totalOf held fresh zeroRows
-    versionFormed placeFormed zeroJob freeFormed runFormed wellFormed clockWords pastWords
-    versionWords placeWords siteWords sitesWords writerWords writersWords jobWords jobsWords
-    runWords runsWords headerWords storeWords readClock readPast readVersion readPlace readSite
-    readWriter readJob readJobs readRun countsIn storeOf headerRight shaped inForm answer refuse
-    unless allowed runCause dropCause dropDone dropRule ruleOf newCause newOn onStore callOn
+    siteSize writerSize runSize masterAt sitesAt writersAt runsAt tailSize tailAt totalOf held
+    fresh zeroRows versionFormed placeFormed zeroJob freeFormed runFormed wellFormed clockWords
+    pastWords versionWords placeWords siteWords sitesWords writerWords writersWords jobWords
+    jobsWords runWords runsWords tailWords headerWords storeWords readClock readPast readVersion
+    readPlace readSite readWriter readJob readJobs readRun readTail countsIn storeOf headerRight
+    shaped inForm answer refuse unless allowed runCause dropCause dropDone dropRule ruleOf
+    newCause newOn onStore callOn
 buffers = record {
   whole = refl;
   longer = refl;

@@ -2,9 +2,11 @@ pub mod Buffers
 pub mod Scripted
 pub mod Codec
 pub mod Parts
+pub mod Tail
 pub mod Shapes
 pub mod Whole
 pub mod Fit
+pub mod Views
 pub mod Updates
 pub mod Windows
 pub mod Places
