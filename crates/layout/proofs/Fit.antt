@@ -39,7 +39,7 @@ fit-free z = record {
   snapshot = fit-empty z;
 }
 
-pub fit-no-site : (z : Counts) → FitSite z noSite
+fit-no-site : (z : Counts) → FitSite z noSite
 fit-no-site z = record { cache = fit-empty z }
 
 zero-fits : (z : Counts) → FitStore (zeroStore z)
