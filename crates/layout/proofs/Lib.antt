@@ -20,5 +20,4 @@ pub mod KeptPrepare
 pub mod KeptStep
 pub mod KeptIssue
 pub mod Rules
-pub mod Calls
 pub mod Forms
