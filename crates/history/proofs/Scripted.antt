@@ -15,7 +15,7 @@ use Rattle.words.specs.Lists.{putAt, upto, blocks}
 use Rattle.masks.specs.Mask.{testBit, withBit, withIf, maskBelow}
 use Rattle.reach.specs.Closure.{closure, rounds, round}
 use Rattle.clock.specs.Clock.{dominates, present, join}
-use Rattle.sizes.specs.Bounds.{countsOf, between, pastSize, versionSize, placeSize, siteSize, writerSize, runSize, masterAt, sitesAt, writersAt, runsAt, totalOf}
+use Rattle.sizes.specs.Bounds.{countsOf, between, pastSize, versionSize, placeSize, siteSize, writerSize, runSize, masterAt, sitesAt, writersAt, runsAt, tailSize, tailAt, totalOf}
 use Rattle.sizes.specs.declared.Counts.{Counts}
 use Rattle.model.specs.Algebra.{Place, lacking}
 use Rattle.model.specs.Version.{Version, held, dependency, supersedes, larger, merge}
@@ -32,8 +32,8 @@ use Rattle.model.specs.Look.{lookPlace, lookLimit, lookCause, rowNumbers, lookN
 use Rattle.model.specs.Calls.{StoreCall, fetch, replyOf, ruleOf}
 use Rattle.model.proofs.Outcomes.{nextStore}
 use Rattle.model.proofs.Scripts.{saving, case-a-script, longer-script, reading-script}
-use Rattle.layout.specs.Words.{clockWords, pastWords, versionWords, placeWords, siteWords, sitesWords, writerWords, writersWords, jobWords, jobsWords, runWords, runsWords, headerWords, storeWords}
-use Rattle.layout.specs.Reading.{readClock, readPast, readVersion, readPlace, readSite, readWriter, readJob, readJobs, readRun, countsIn, storeOf}
+use Rattle.layout.specs.Words.{clockWords, pastWords, versionWords, placeWords, siteWords, sitesWords, writerWords, writersWords, jobWords, jobsWords, runWords, runsWords, tailWords, headerWords, storeWords}
+use Rattle.layout.specs.Reading.{readClock, readPast, readVersion, readPlace, readSite, readWriter, readJob, readJobs, readRun, readTail, countsIn, storeOf}
 use Rattle.layout.specs.Calls.{on, isOk}
 use Rattle.history.specs.History.{Issue, writerOf, leads, inPast}
 use Rattle.history.specs.Copies.{Copy, reaches, heldCopy, needsCopy, meetsCopy, union, lastIn, byWriter, counted}
@@ -137,22 +137,23 @@ pub record Scripted : Type 0 where
 pub scripted : Scripted
 unfolding anyBelow allBelow only foldBelow countBelow largest when putAt upto blocks testBit
     withBit withIf maskBelow closure rounds round dominates present join between pastSize
-    versionSize placeSize siteSize writerSize runSize masterAt sitesAt writersAt runsAt totalOf
-    lacking held dependency supersedes larger merge draws drawSet fetchSet fetched unfetchable
-    evictSet evicted pullSet pulled fresh planned withMaster withLast withSites withCache
-    withCaches withWriter withRun withState withSnapshot withJobDone validJob refuse unless
-    allowed runCause fetchCause fetchDone fetchRule evictCause evictDone evictRule listedJob
-    listedCount listedJobs listValid openCause openedRun openDone openRule dropCause dropDone
-    dropRule jobStart fetchReads preparedCaches unpreparable usesSite sitesMerged siteCaches
-    prepareCause prepareCaches prepareSnapshot prepareDone prepareRule readStart stepSite
-    stepReads stepStart stepFetch stepCache stepPlan stepPull stepSnapshot stepMoved jobLimit
-    notReady jobCause stepCause stepBroken stepDone stepRule raiseCause issueCause takenIn
-    rowsSet newPast newVersion issuedMaster issuedWriter savedStore issuedStore issuedNumber
-    issueDone issueRule lookPlace lookLimit lookCause rowNumbers lookNumbers lookReply replied
-    replyOf ruleOf clockWords pastWords versionWords placeWords siteWords sitesWords writerWords
-    writersWords jobWords jobsWords runWords runsWords headerWords storeWords readClock readPast
-    readVersion readPlace readSite readWriter readJob readJobs readRun countsIn storeOf isOk
-    writerOf leads inPast reaches heldCopy needsCopy meetsCopy union lastIn byWriter counted
-    freshBook withBookCaches withBookRun bookOpen bookFetch bookEvict bookPrepare bookStepJob
-    entry bookIssue bookIssued bookRule bookOk bookStep
+    versionSize placeSize siteSize writerSize runSize masterAt sitesAt writersAt runsAt tailSize
+    tailAt totalOf lacking held dependency supersedes larger merge draws drawSet fetchSet
+    fetched unfetchable evictSet evicted pullSet pulled fresh planned withMaster withLast
+    withSites withCache withCaches withWriter withRun withState withSnapshot withJobDone
+    validJob refuse unless allowed runCause fetchCause fetchDone fetchRule evictCause evictDone
+    evictRule listedJob listedCount listedJobs listValid openCause openedRun openDone openRule
+    dropCause dropDone dropRule jobStart fetchReads preparedCaches unpreparable usesSite
+    sitesMerged siteCaches prepareCause prepareCaches prepareSnapshot prepareDone prepareRule
+    readStart stepSite stepReads stepStart stepFetch stepCache stepPlan stepPull stepSnapshot
+    stepMoved jobLimit notReady jobCause stepCause stepBroken stepDone stepRule raiseCause
+    issueCause takenIn rowsSet newPast newVersion issuedMaster issuedWriter savedStore
+    issuedStore issuedNumber issueDone issueRule lookPlace lookLimit lookCause rowNumbers
+    lookNumbers lookReply replied replyOf ruleOf clockWords pastWords versionWords placeWords
+    siteWords sitesWords writerWords writersWords jobWords jobsWords runWords runsWords
+    tailWords headerWords storeWords readClock readPast readVersion readPlace readSite
+    readWriter readJob readJobs readRun readTail countsIn storeOf isOk writerOf leads inPast
+    reaches heldCopy needsCopy meetsCopy union lastIn byWriter counted freshBook withBookCaches
+    withBookRun bookOpen bookFetch bookEvict bookPrepare bookStepJob entry bookIssue bookIssued
+    bookRule bookOk bookStep
 scripted = record { later = refl; reading = refl; case-a = refl; longer = refl }

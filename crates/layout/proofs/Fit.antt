@@ -39,7 +39,7 @@ fit-free z = record {
   snapshot = fit-empty z;
 }
 
-pub fit-no-site : (z : Counts) → FitSite z noSite
+fit-no-site : (z : Counts) → FitSite z noSite
 fit-no-site z = record { cache = fit-empty z }
 
 zero-fits : (z : Counts) → FitStore (zeroStore z)
@@ -51,6 +51,7 @@ zero-fits z = record {
     rest = λ w h. refl;
   };
   run = record { each = λ r h. fit-free z; rest = λ r h. refl };
+  tail = record {};
 }
 
 pub fresh-fits : (z : Counts) → FitStore (fresh z)
@@ -132,15 +133,33 @@ fit-site-with z x p F G = record { cache = G }
 module _ (s : Store) (F : FitStore s) where
   pub fit-last : (n : ℕ) → FitStore (withLast s n)
   unfolding withLast
-  fit-last n = record { master = F .master; site = F .site; writer = F .writer; run = F .run }
+  fit-last n = record {
+    master = F .master;
+    site = F .site;
+    writer = F .writer;
+    run = F .run;
+    tail = F .tail;
+  }
 
   pub fit-master : (p : Place Version) → FitPlace (s .counts) p → FitStore (withMaster s p)
   unfolding withMaster
-  fit-master p G = record { master = G; site = F .site; writer = F .writer; run = F .run }
+  fit-master p G = record {
+    master = G;
+    site = F .site;
+    writer = F .writer;
+    run = F .run;
+    tail = F .tail;
+  }
 
   pub fit-sites : (f : ℕ → Site) → FitSites (s .counts) f → FitStore (withSites s f)
   unfolding withSites
-  fit-sites f G = record { master = F .master; site = G; writer = F .writer; run = F .run }
+  fit-sites f G = record {
+    master = F .master;
+    site = G;
+    writer = F .writer;
+    run = F .run;
+    tail = F .tail;
+  }
 
   pub fit-cache : (o : ℕ) (p : Place Version) → o < s .counts .sites → FitPlace (s .counts) p
       → FitStore (withCache s o p)
@@ -169,6 +188,7 @@ module _ (s : Store) (F : FitStore s) where
     site = F .site;
     writer = fit-put (s .writer) w x (F .writer) h G;
     run = F .run;
+    tail = F .tail;
   }
 
   pub fit-run : (r : ℕ) (x : Run) → r < s .counts .runs → FitRun (s .counts) x
@@ -179,4 +199,5 @@ module _ (s : Store) (F : FitStore s) where
     site = F .site;
     writer = F .writer;
     run = fit-put (s .run) r x (F .run) h G;
+    tail = F .tail;
   }

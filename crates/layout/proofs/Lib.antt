@@ -2,9 +2,11 @@ pub mod Buffers
 pub mod Scripted
 pub mod Codec
 pub mod Parts
+pub mod Tail
 pub mod Shapes
 pub mod Whole
 pub mod Fit
+pub mod Views
 pub mod Updates
 pub mod Windows
 pub mod Places
@@ -18,5 +20,4 @@ pub mod KeptPrepare
 pub mod KeptStep
 pub mod KeptIssue
 pub mod Rules
-pub mod Calls
 pub mod Forms

@@ -1,77 +1,31 @@
 -- A store of words into one part of a written store, as a change of the store.
--- put-..-part: within one site, writer or run. put-..: a whole part, or some words of it.
+-- put-..-part: within one site, writer or run, or the tail. put-..: a whole part, or some words
+-- of it.
 -- run-twice, phase: one change after another.
 -- Assumes nothing.
 use mathlib.Core.Path.{_≡_, refl, sym, ap, _∙_, fun-ext}
 use mathlib.Core.Bool.{Bool, true, false, cond}
-use mathlib.Core.List.{List, [], _∷_, _++_, append-assoc}
+use mathlib.Core.List.{List, [], _∷_, _++_}
 use Prim.Native.Nat.{ℕ, _+_, _*_, _≤_, _<_}
 use native.Mathlib.Nat.{add-zero}
 use native.Mathlib.Omega.{arith}
 use lib.Dec.{eqb}
-use lib.ListN.{length, drop, set, length-append}
+use lib.ListN.{length, set}
 use lib.Seq.{sets}
 use Rattle.words.specs.Lists.{putAt}
-use Rattle.words.proofs.Stores.{sets-left, sets-behind, sets-all}
-use Rattle.sizes.specs.Bounds.{doneOffset, snapshotOffset, siteSize, writerSize, runSize, masterAt, sitesAt, writersAt, runsAt, totalOf, siteAt, writerAt, runAt, snapshotAt}
+use Rattle.words.proofs.Stores.{sets-behind, sets-all}
+use Rattle.sizes.specs.Bounds.{doneOffset, snapshotOffset, siteSize, writerSize, runSize, tailSize, masterAt, sitesAt, writersAt, runsAt, tailAt, siteAt, writerAt, runAt, snapshotAt}
 use Rattle.model.specs.Algebra.{Place}
 use Rattle.model.specs.Version.{Version}
-use Rattle.model.specs.Store.{Writer, Run, Site, Store, withLast, withMaster, withSites, withSite, siteWith, withCache, withWriter, withRun, withState, withSnapshot, withJobDone}
-use Rattle.layout.specs.Words.{headerWords, placeWords, siteWords, sitesWords, writerWords, writersWords, jobsWords, runWords, runsWords, storeWords}
+use Rattle.model.specs.Store.{Writer, Run, Site, Tail, Store, withLast, withMaster, withSites, withSite, siteWith, withCache, withWriter, withRun, withTail, withState, withSnapshot, withJobDone}
+use Rattle.layout.specs.Words.{headerWords, placeWords, siteWords, sitesWords, writerWords, writersWords, jobsWords, runWords, runsWords, tailWords, storeWords}
 use Rattle.layout.specs.Buffer.{written}
 use Rattle.layout.specs.Reading.{storeOf}
 use Rattle.layout.proofs.Codec.{many-part, many-room}
 use Rattle.layout.proofs.Parts.{place-laws, site-laws, writer-laws, jobs-laws, run-laws}
-use Rattle.layout.proofs.Whole.{FitStore, store-back, written-twice, toMaster, toSites, toWriters, header-long, master-long, sites-long, writers-long}
-
--- A store into the middle one of three lists.
-sets-area : (a b c x : List ℕ) (at i : ℕ) → length a ≡ at → i + length x ≤ length b
-    → sets (a ++ b ++ c) (at + i) x ≡ a ++ sets b i x ++ c
-sets-area a b c x at i e h =
-    rw (← e)
-    (sets-left x (a ++ b) c (length a + i) (rw length-append (omega arith))
-    ∙ ap (λ (t : List ℕ). t ++ c) (sets-behind a b x i h))
-
--- The same where it makes b into d.
-area-to : (a b c d x : List ℕ) (at i : ℕ) → length a ≡ at → i + length x ≤ length b
-    → sets b i x ≡ d → sets (a ++ b ++ c) (at + i) x ≡ a ++ d ++ c
-area-to a b c d x at i e h f =
-    sets-area a b c x at i e h ∙ ap (λ (t : List ℕ). a ++ t ++ c) f
-
--- ---- each area between what stands before and after it
-
-afterRuns : Store → List ℕ → List ℕ
-afterRuns s l = drop (totalOf (s .counts)) l
-
-afterWriters : Store → List ℕ → List ℕ
-afterWriters s l = runsWords (s .counts) (s .run) ++ afterRuns s l
-
-afterSites : Store → List ℕ → List ℕ
-afterSites s l = writersWords (s .counts) (s .writer) ++ afterWriters s l
-
-afterMaster : Store → List ℕ → List ℕ
-afterMaster s l = sitesWords (s .counts) (s .site) ++ afterSites s l
-
-view-master : (s : Store) (l : List ℕ)
-    → written s l
-    ≡ headerWords (s .counts) (s .last) ++ placeWords (s .counts) (s .master) ++ afterMaster s l
-unfolding written storeWords afterMaster afterSites afterWriters afterRuns
-view-master s l = simp append-assoc
-
-view-sites : (s : Store) (l : List ℕ)
-    → written s l ≡ toMaster s ++ sitesWords (s .counts) (s .site) ++ afterSites s l
-unfolding written storeWords toMaster afterSites afterWriters afterRuns
-view-sites s l = simp append-assoc
-
-view-writers : (s : Store) (l : List ℕ)
-    → written s l ≡ toSites s ++ writersWords (s .counts) (s .writer) ++ afterWriters s l
-unfolding written storeWords toMaster toSites afterWriters afterRuns
-view-writers s l = simp append-assoc
-
-view-runs : (s : Store) (l : List ℕ)
-    → written s l ≡ toWriters s ++ runsWords (s .counts) (s .run) ++ afterRuns s l
-unfolding written storeWords toMaster toSites toWriters afterRuns
-view-runs s l = refl
+use Rattle.layout.proofs.Whole.{FitStore, store-back, written-twice, toMaster, toSites, toWriters, toRuns, header-long, master-long, sites-long, writers-long, runs-long}
+use Rattle.layout.proofs.Tail.{tail-laws}
+use Rattle.layout.proofs.Views.{area-to, afterTail, afterRuns, afterWriters, afterSites, afterMaster, view-master, view-sites, view-writers, view-runs, view-tail}
 
 -- ---- the last number and the master
 
@@ -82,7 +36,7 @@ put-last s l n = refl
 pub put-master : (s : Store) (l : List ℕ) (p : Place Version)
     → sets (written s l) (masterAt (s .counts)) (placeWords (s .counts) p)
     ≡ written (withMaster s p) l
-unfolding withMaster afterMaster afterSites afterWriters afterRuns
+unfolding withMaster afterMaster afterSites afterWriters afterRuns afterTail
 put-master s l p =
     let z = s .counts in
     let words = placeWords z p in
@@ -101,7 +55,7 @@ pub put-site-part : (s : Store) (l : List ℕ) (o i : ℕ) (x : List ℕ) (y : S
     → o < s .counts .sites → i + length x ≤ siteSize (s .counts)
     → sets (siteWords (s .counts) (s .site o)) i x ≡ siteWords (s .counts) y
     → sets (written s l) (siteAt (s .counts) o + i) x ≡ written (withSite s o y) l
-unfolding withSites siteAt toMaster afterSites afterWriters afterRuns sitesWords
+unfolding withSites siteAt toMaster afterSites afterWriters afterRuns afterTail sitesWords
 put-site-part s l o i x y h j e =
     let z = s .counts in
     let L = site-laws z in
@@ -117,7 +71,7 @@ pub put-writer-part : (s : Store) (l : List ℕ) (w i : ℕ) (x : List ℕ) (y :
     → w < s .counts .writers → i + length x ≤ writerSize (s .counts)
     → sets (writerWords (s .counts) (s .writer w)) i x ≡ writerWords (s .counts) y
     → sets (written s l) (writerAt (s .counts) w + i) x ≡ written (withWriter s w y) l
-unfolding withWriter writerAt toMaster toSites afterWriters afterRuns writersWords
+unfolding withWriter writerAt toMaster toSites afterWriters afterRuns afterTail writersWords
 put-writer-part s l w i x y h j e =
     let z = s .counts in
     let L = writer-laws z in
@@ -133,7 +87,7 @@ pub put-run-part : (s : Store) (l : List ℕ) (r i : ℕ) (x : List ℕ) (y : Ru
     → r < s .counts .runs → i + length x ≤ runSize (s .counts)
     → sets (runWords (s .counts) (s .run r)) i x ≡ runWords (s .counts) y
     → sets (written s l) (runAt (s .counts) r + i) x ≡ written (withRun s r y) l
-unfolding withRun runAt toMaster toSites toWriters afterRuns runsWords
+unfolding withRun runAt toMaster toSites toWriters afterRuns afterTail runsWords
 put-run-part s l r i x y h j e =
     let z = s .counts in
     let L = run-laws z in
@@ -144,6 +98,21 @@ put-run-part s l r i x y h j e =
     (writers-long s) (many-room (z .runs) L (s .run) r i x h j)
     (many-part (z .runs) L (s .run) r i x y h j e)
     ∙ sym (view-runs (withRun s r y) l))
+
+-- The tail.
+pub put-tail-part : (s : Store) (l : List ℕ) (i : ℕ) (x : List ℕ) (y : Tail)
+    → i + length x ≤ tailSize (s .counts)
+    → sets (tailWords (s .counts) (s .tail)) i x ≡ tailWords (s .counts) y
+    → sets (written s l) (tailAt (s .counts) + i) x ≡ written (withTail s y) l
+unfolding withTail toMaster toSites toWriters toRuns afterTail
+put-tail-part s l i x y j e =
+    let z = s .counts in
+    let room : i + length x ≤ length (tailWords z (s .tail)) =
+    rw (tail-laws z .long (s .tail)) j in
+    ap (λ (t : List ℕ). sets t (tailAt z + i) x) (view-tail s l)
+    ∙ area-to (toRuns s) (tailWords z (s .tail)) (afterTail s l) _ x (tailAt z) i (runs-long s)
+    room e
+    ∙ sym (view-tail (withTail s y) l)
 
 -- ---- whole parts
 
@@ -233,6 +202,7 @@ run-twice s r x y = ap storeWith (fun-ext (λ i. last (eqb i r) i))
       site = s .site;
       writer = s .writer;
       run = f;
+      tail = s .tail;
     }
 
     last : (b : Bool) (i : ℕ) → cond b y (cond b x (s .run i)) ≡ cond b y (s .run i)

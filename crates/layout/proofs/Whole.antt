@@ -13,14 +13,15 @@ use lib.Seq.{drop-at}
 use Rattle.words.specs.Lists.{window}
 use Rattle.words.proofs.Lists.{append-same, window-add, window-all, window-front}
 use Rattle.sizes.specs.declared.Counts.{Counts}
-use Rattle.sizes.specs.Bounds.{Ranged, masterAt, sitesAt, writersAt, runsAt, totalOf}
+use Rattle.sizes.specs.Bounds.{Ranged, masterAt, sitesAt, writersAt, runsAt, tailAt, totalOf}
 use Rattle.model.specs.Algebra.{Place}
 use Rattle.model.specs.Version.{Version}
-use Rattle.model.specs.Store.{Writer, Run, Site, Store}
-use Rattle.layout.specs.Words.{headerWords, placeWords, sitesWords, writersWords, runsWords, storeWords}
+use Rattle.model.specs.Store.{Writer, Run, Site, Tail, Store}
+use Rattle.layout.specs.Words.{headerWords, placeWords, sitesWords, writersWords, runsWords, tailWords, storeWords}
 use Rattle.layout.specs.Reading.{readWord, countsIn, storeOf}
 use Rattle.layout.specs.Buffer.{written, shaped}
 use Rattle.layout.proofs.Parts.{FitPlace, FitSites, FitWriters, FitRuns, place-laws, sites-laws, writers-laws, runs-laws}
+use Rattle.layout.proofs.Tail.{FitTail, tail-laws}
 use Rattle.layout.proofs.Shapes.{shaped-out, shaped-in}
 
 pub record FitStore (s : Store) : Type 0 where
@@ -28,6 +29,7 @@ pub record FitStore (s : Store) : Type 0 where
   pub site : FitSites (s .counts) (s .site)
   pub writer : FitWriters (s .counts) (s .writer)
   pub run : FitRuns (s .counts) (s .run)
+  pub tail : FitTail (s .counts) (s .tail)
 
 -- ---- all words
 
@@ -41,8 +43,11 @@ toSites s = toMaster s ++ sitesWords (s .counts) (s .site)
 unfoldable pub toWriters : Store → List ℕ
 toWriters s = toSites s ++ writersWords (s .counts) (s .writer)
 
-store-parts : (s : Store) → storeWords s ≡ toWriters s ++ runsWords (s .counts) (s .run)
-unfolding storeWords toWriters toSites toMaster
+unfoldable pub toRuns : Store → List ℕ
+toRuns s = toWriters s ++ runsWords (s .counts) (s .run)
+
+store-parts : (s : Store) → storeWords s ≡ toRuns s ++ tailWords (s .counts) (s .tail)
+unfolding storeWords toRuns toWriters toSites toMaster
 store-parts s = refl
 
 -- Each of them is as long as the offset of the area behind it.
@@ -73,12 +78,18 @@ writers-long s =
     joined (toSites s) (writersWords z (s .writer)) _ _ (sites-long s)
     (writers-laws z .long (s .writer))
 
+pub runs-long : (s : Store) → length (toRuns s) ≡ tailAt (s .counts)
+unfolding toRuns tailAt
+runs-long s =
+    let z = s .counts in
+    joined (toWriters s) (runsWords z (s .run)) _ _ (writers-long s) (runs-laws z .long (s .run))
+
 pub store-long : (s : Store) → length (storeWords s) ≡ totalOf (s .counts)
 unfolding totalOf
 store-long s =
     let z = s .counts in
     ap length (store-parts s)
-    ∙ joined (toWriters s) (runsWords z (s .run)) _ _ (writers-long s) (runs-laws z .long (s .run))
+    ∙ joined (toRuns s) (tailWords z (s .tail)) _ _ (runs-long s) (tail-laws z .long (s .tail))
 
 -- ---- words, read and written again
 
@@ -91,6 +102,7 @@ store-fits l =
       site = sites-laws z .fits l (sitesAt z);
       writer = writers-laws z .fits l (writersAt z);
       run = runs-laws z .fits l (runsAt z);
+      tail = tail-laws z .fits l (tailAt z);
     }
 
 -- One area more of a window that begins at 0.
@@ -103,13 +115,14 @@ next l x y m n p q =
 -- Where the header is right, the words of the store that is read are the first words.
 round : (l : List ℕ) → headerWords (countsIn l) (readWord l 4) ≡ window l 0 10
     → storeWords (storeOf l) ≡ window l 0 (totalOf (countsIn l))
-unfolding storeWords storeOf totalOf runsAt writersAt sitesAt masterAt
+unfolding storeWords storeOf totalOf tailAt runsAt writersAt sitesAt masterAt
 round l h =
     let z = countsIn l in
     let master = next l _ _ 10 _ h (place-laws z .round l _) in
     let sites = next l _ _ _ _ master (sites-laws z .round l _) in
     let writers = next l _ _ _ _ sites (writers-laws z .round l _) in
-    next l _ _ _ _ writers (runs-laws z .round l _)
+    let runs = next l _ _ _ _ writers (runs-laws z .round l _) in
+    next l _ _ _ _ runs (tail-laws z .round l _)
 
 pub store-kept : (l : List ℕ) → So (shaped l) → written (storeOf l) l ≡ l
 unfolding written storeOf
@@ -121,9 +134,10 @@ store-kept l p =
 -- ---- a store, written and read again
 
 -- A store by its parts.
-abbrev storeWith : Counts → ℕ → Place Version → (ℕ → Site) → (ℕ → Writer) → (ℕ → Run) → Store
-storeWith z n m o w r =
-    record { counts = z; last = n; master = m; site = o; writer = w; run = r }
+abbrev storeWith : Counts → ℕ → Place Version → (ℕ → Site) → (ℕ → Writer) → (ℕ → Run) → Tail
+    → Store
+storeWith z n m o w r t =
+    record { counts = z; last = n; master = m; site = o; writer = w; run = r; tail = t }
 
 same-last : (z : Counts) (a b : ℕ) → headerWords z a ≡ headerWords z b → a ≡ b
 unfolding headerWords
@@ -131,16 +145,17 @@ same-last z a b e = ap (λ (l : List ℕ). getD l 4 0) e
 
 -- Stores in range that have the same counts and words are one.
 alike : (z : Counts) (n₁ n₂ : ℕ) (m₁ m₂ : Place Version) (o₁ o₂ : ℕ → Site) (w₁ w₂ : ℕ → Writer)
-    (r₁ r₂ : ℕ → Run)
-    → FitStore (storeWith z n₁ m₁ o₁ w₁ r₁) → FitStore (storeWith z n₂ m₂ o₂ w₂ r₂)
-    → storeWords (storeWith z n₁ m₁ o₁ w₁ r₁) ≡ storeWords (storeWith z n₂ m₂ o₂ w₂ r₂)
-    → storeWith z n₁ m₁ o₁ w₁ r₁ ≡ storeWith z n₂ m₂ o₂ w₂ r₂
-unfolding toWriters toSites toMaster
-alike z n₁ n₂ m₁ m₂ o₁ o₂ w₁ w₂ r₁ r₂ F G e =
-    let s = storeWith z n₁ m₁ o₁ w₁ r₁ in
-    let t = storeWith z n₂ m₂ o₂ w₂ r₂ in
+    (r₁ r₂ : ℕ → Run) (t₁ t₂ : Tail)
+    → let s = storeWith z n₁ m₁ o₁ w₁ r₁ t₁ in let t = storeWith z n₂ m₂ o₂ w₂ r₂ t₂ in
+    FitStore s → FitStore t → storeWords s ≡ storeWords t → s ≡ t
+unfolding toRuns toWriters toSites toMaster
+alike z n₁ n₂ m₁ m₂ o₁ o₂ w₁ w₂ r₁ r₂ t₁ t₂ F G e =
+    let s = storeWith z n₁ m₁ o₁ w₁ r₁ t₁ in
+    let t = storeWith z n₂ m₂ o₂ w₂ r₂ t₂ in
+    let g = append-same (toRuns s) (tailWords z t₁) (toRuns t) (tailWords z t₂)
+    (runs-long s ∙ sym (runs-long t)) (sym (store-parts s) ∙ e ∙ store-parts t) in
     let a = append-same (toWriters s) (runsWords z r₁) (toWriters t) (runsWords z r₂)
-    (writers-long s ∙ sym (writers-long t)) (sym (store-parts s) ∙ e ∙ store-parts t) in
+    (writers-long s ∙ sym (writers-long t)) (g .0) in
     let b = append-same (toSites s) (writersWords z w₁) (toSites t) (writersWords z w₂)
     (sites-long s ∙ sym (sites-long t)) (a .0) in
     let c = append-same (toMaster s) (sitesWords z o₁) (toMaster t) (sitesWords z o₂)
@@ -152,7 +167,8 @@ alike z n₁ n₂ m₁ m₂ o₁ o₂ w₁ w₂ r₁ r₂ F G e =
     let q = sites-laws z .same o₁ o₂ (F .site) (G .site) (c .1) in
     let u = writers-laws z .same w₁ w₂ (F .writer) (G .writer) (b .1) in
     let v = runs-laws z .same r₁ r₂ (F .run) (G .run) (a .1) in
-    λ i. storeWith z (n i) (p i) (q i) (u i) (v i)
+    let y = tail-laws z .same t₁ t₂ (F .tail) (G .tail) (g .1) in
+    λ i. storeWith z (n i) (p i) (q i) (u i) (v i) (y i)
 
 header-back : (s : Store) (l : List ℕ)
     → headerWords (countsIn (written s l)) (readWord (written s l) 4) ≡ window (written s l) 0 10
@@ -179,7 +195,8 @@ unfolding storeOf countsIn written storeWords headerWords
 store-back s l F =
     let t = storeOf (written s l) in
     alike (s .counts) (t .last) (s .last) (t .master) (s .master) (t .site) (s .site)
-    (t .writer) (s .writer) (t .run) (s .run) (store-fits (written s l)) F (words-back s l)
+    (t .writer) (s .writer) (t .run) (s .run) (t .tail) (s .tail) (store-fits (written s l)) F
+    (words-back s l)
 
 -- ---- what a written store leaves
 

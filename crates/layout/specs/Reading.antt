@@ -6,11 +6,11 @@ use Prim.Native.Nat.{ℕ, _+_, _*_}
 use lib.ListN.{getD}
 use Rattle.words.specs.Lists.{upto}
 use Rattle.clock.specs.Clock.{Clock}
-use Rattle.sizes.specs.Bounds.{maxJobs, jobSize, readsOffset, upstreamOffset, jobsOffset, doneOffset, readOffset, planOffset, snapshotOffset, versionSize, siteSize, writerSize, runSize, masterAt, sitesAt, writersAt, runsAt}
+use Rattle.sizes.specs.Bounds.{maxJobs, jobSize, readsOffset, upstreamOffset, jobsOffset, doneOffset, readOffset, planOffset, snapshotOffset, versionSize, siteSize, writerSize, runSize, masterAt, sitesAt, writersAt, runsAt, tailAt}
 use Rattle.sizes.specs.declared.Counts.{Counts}
 use Rattle.model.specs.Algebra.{Place}
 use Rattle.model.specs.Version.{Version, unheld}
-use Rattle.model.specs.Store.{Writer, Job, Run, Site, Store, noWriter, noJob, noSite, freeRun}
+use Rattle.model.specs.Store.{Writer, Job, Run, Site, Tail, Store, noWriter, noJob, noSite, freeRun}
 
 abbrev pub readWord : List ℕ → ℕ → ℕ
 readWord l at = getD l at 0
@@ -53,6 +53,9 @@ readRun z l at = record {
   snapshot = readPlace z l (at + snapshotOffset);
 }
 
+unfoldable pub readTail : Counts → List ℕ → ℕ → Tail
+readTail z l at = record {}
+
 -- The counts in the header.
 unfoldable pub countsIn : List ℕ → Counts
 countsIn l = record {
@@ -73,4 +76,5 @@ storeOf l =
       site = upto (z .sites) noSite (λ o. readSite z l (sitesAt z + o * siteSize z));
       writer = upto (z .writers) noWriter (λ w. readWriter z l (writersAt z + w * writerSize z));
       run = upto (z .runs) freeRun (λ r. readRun z l (runsAt z + r * runSize z));
+      tail = readTail z l (tailAt z);
     }

@@ -10,7 +10,7 @@ use Rattle.sizes.specs.Bounds.{masterAt, sitesAt, writersAt, runsAt, totalOf, m
 use Rattle.sizes.specs.declared.Counts.{Counts}
 use Rattle.model.specs.Algebra.{Place}
 use Rattle.model.specs.Version.{Version}
-use Rattle.model.specs.Store.{Writer, Job, Run, Site, Store}
+use Rattle.model.specs.Store.{Writer, Job, Run, Site, Tail, Store}
 
 unfoldable pub clockWords : Counts → Clock → List ℕ
 clockWords z c = blocks (z .writers) (λ w. c w ∷ [])
@@ -53,6 +53,10 @@ runWords z r =
 unfoldable pub runsWords : Counts → (ℕ → Run) → List ℕ
 runsWords z f = blocks (z .runs) (λ r. runWords z (f r))
 
+-- Behind the runs: no words.
+unfoldable pub tailWords : Counts → Tail → List ℕ
+tailWords z t = []
+
 -- "Header, 10 words: K, W, N, P, last issue number, then the offsets in words of master, shelves,
 -- writers and runs, then the total."
 unfoldable pub headerWords : Counts → ℕ → List ℕ
@@ -69,3 +73,4 @@ storeWords s =
     ++ sitesWords z (s .site)
     ++ writersWords z (s .writer)
     ++ runsWords z (s .run)
+    ++ tailWords z (s .tail)

@@ -1,6 +1,6 @@
 -- The store ("desk"): what a buffer of words stands for.
--- Writer, Job, Run, Site (an office and its shelf), Store; planned ("plan's sheets"), doneReads;
--- with..: one part changed.
+-- Writer, Job, Run, Site (an office and its shelf), Tail (behind the runs), Store; planned
+-- ("plan's sheets"), doneReads; with..: one part changed.
 -- Assumes nothing.
 use mathlib.Core.Bool.{_&&_}
 use Prim.Native.Nat.{ℕ}
@@ -36,6 +36,9 @@ pub record Run : Type 0 where
 pub record Site : Type 0 where
   pub cache : Place Version
 
+-- What stands behind the runs: nothing.
+pub record Tail : Type 0 where
+
 -- last: the last issue number.
 pub record Store : Type 0 where
   pub counts : Counts
@@ -44,6 +47,7 @@ pub record Store : Type 0 where
   pub site : ℕ → Site
   pub writer : ℕ → Writer
   pub run : ℕ → Run
+  pub tail : Tail
 
 -- ---- what stands where nothing does
 
@@ -65,6 +69,9 @@ noSite = record { cache = emptyPlace }
 abbrev pub freeRun : Run
 freeRun = record { state = 0; jobs = 0; done = 0; read = 0; job = noJobs; snapshot = emptyPlace }
 
+abbrev pub noTail : Tail
+noTail = record {}
+
 -- All zero behind the counts.
 abbrev pub zeroStore : Counts → Store
 zeroStore z = record {
@@ -74,6 +81,7 @@ zeroStore z = record {
   site = λ o. noSite;
   writer = λ w. noWriter;
   run = λ r. freeRun;
+  tail = noTail;
 }
 
 -- "a fresh desk: nothing held, every run free, all counts zero": a word that isn't zero on it
@@ -101,6 +109,7 @@ withMaster s p = record {
   site = s .site;
   writer = s .writer;
   run = s .run;
+  tail = s .tail;
 }
 
 unfoldable pub withLast : Store → ℕ → Store
@@ -111,6 +120,7 @@ withLast s n = record {
   site = s .site;
   writer = s .writer;
   run = s .run;
+  tail = s .tail;
 }
 
 unfoldable pub withSites : Store → (ℕ → Site) → Store
@@ -121,6 +131,7 @@ withSites s f = record {
   site = f;
   writer = s .writer;
   run = s .run;
+  tail = s .tail;
 }
 
 abbrev pub withSite : Store → ℕ → Site → Store
@@ -145,6 +156,7 @@ withWriter s w x = record {
   site = s .site;
   writer = putAt (s .writer) w x;
   run = s .run;
+  tail = s .tail;
 }
 
 unfoldable pub withRun : Store → ℕ → Run → Store
@@ -155,6 +167,18 @@ withRun s r x = record {
   site = s .site;
   writer = s .writer;
   run = putAt (s .run) r x;
+  tail = s .tail;
+}
+
+unfoldable pub withTail : Store → Tail → Store
+withTail s t = record {
+  counts = s .counts;
+  last = s .last;
+  master = s .master;
+  site = s .site;
+  writer = s .writer;
+  run = s .run;
+  tail = t;
 }
 
 -- ---- a run with one part changed

@@ -11,7 +11,7 @@ use lib.Dec.{leb}
 use Rattle.words.proofs.Bools.{and-intro, and-left, and-right, leb-le, le-leb}
 use Rattle.words.proofs.Slots.{slot-end}
 use Rattle.sizes.specs.declared.Counts.{Counts}
-use Rattle.sizes.specs.Bounds.{maxKeys, maxWriters, maxSites, maxRuns, maxJobs, jobSize, planSize, snapshotOffset, between, ranged, Ranged, pastSize, versionSize, placeSize, siteSize, writerSize, runSize, masterAt, sitesAt, writersAt, runsAt, totalOf, siteAt, writerAt, runAt, snapshotAt, jobAt, keyAt, rowAt}
+use Rattle.sizes.specs.Bounds.{maxKeys, maxWriters, maxSites, maxRuns, maxJobs, jobSize, planSize, snapshotOffset, between, ranged, Ranged, pastSize, versionSize, placeSize, siteSize, writerSize, runSize, masterAt, sitesAt, writersAt, runsAt, tailSize, tailAt, totalOf, siteAt, writerAt, runAt, snapshotAt, jobAt, keyAt, rowAt}
 
 -- ---- counts in range
 
@@ -97,11 +97,12 @@ pub record Ordered (z : Counts) : Type 0 where
   pub sites : sitesAt z ≡ masterAt z + placeSize z
   pub writers : writersAt z ≡ sitesAt z + z .sites * siteSize z
   pub runs : runsAt z ≡ writersAt z + z .writers * writerSize z
-  pub total : totalOf z ≡ runsAt z + z .runs * runSize z
+  pub tail : tailAt z ≡ runsAt z + z .runs * runSize z
+  pub total : totalOf z ≡ tailAt z + tailSize z
   pub top : totalOf z ≤ 287514
 
 pub ordered : (z : Counts) → Ranged z → Ordered z
-unfolding masterAt sitesAt writersAt runsAt totalOf
+unfolding tailSize masterAt sitesAt writersAt runsAt tailAt totalOf
 ordered z R =
     let m = largest z R in
     record {
@@ -109,6 +110,7 @@ ordered z R =
       sites = refl;
       writers = refl;
       runs = refl;
+      tail = refl;
       total = refl;
       top = omega arith;
     }
@@ -137,8 +139,10 @@ writer-lies z u h = part-lies (writersAt z) u (z .writers) (writerSize z) h
 
 pub run-lies : (z : Counts) (r : ℕ) → r < z .runs
     → Lies (runsAt z) (totalOf z) (runAt z r) (runSize z)
-unfolding runAt totalOf
-run-lies z r h = part-lies (runsAt z) r (z .runs) (runSize z) h
+unfolding runAt tailAt totalOf
+run-lies z r h =
+    let e = part-lies (runsAt z) r (z .runs) (runSize z) h in
+    record { starts = e .starts; ends = omega (arith, e .ends) }
 
 -- The snapshot is the last part of its run.
 pub snapshot-lies : (z : Counts) (r : ℕ)

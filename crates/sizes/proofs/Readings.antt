@@ -1,16 +1,16 @@
 -- Sizes read off for some counts. Assumes nothing.
 use mathlib.Core.Path.{_≡_, refl}
-use Rattle.sizes.specs.Bounds.{countsOf, pastSize, versionSize, placeSize, siteSize, writerSize, runSize, masterAt, sitesAt, writersAt, runsAt, totalOf, sizesOf}
+use Rattle.sizes.specs.Bounds.{countsOf, pastSize, versionSize, placeSize, siteSize, writerSize, runSize, tailSize, masterAt, sitesAt, writersAt, runsAt, tailAt, totalOf, sizesOf}
 
 -- Two keys, two writers, a site and a run.
 small : sizesOf (countsOf 2 2 1 1)
-    ≡ record { master = 10; sites = 20; writers = 30; runs = 40; total = 78 }
-unfolding sizesOf pastSize versionSize placeSize siteSize writerSize runSize
-    masterAt sitesAt writersAt runsAt totalOf
+    ≡ record { master = 10; sites = 20; writers = 30; runs = 40; tail = 78; total = 78 }
+unfolding sizesOf pastSize versionSize placeSize siteSize writerSize runSize tailSize
+    masterAt sitesAt writersAt runsAt tailAt totalOf
 small = refl
 
 -- The largest store.
 full : totalOf (countsOf 32 16 8 8) ≡ 287514
-unfolding pastSize versionSize placeSize siteSize writerSize runSize
-    masterAt sitesAt writersAt runsAt totalOf
+unfolding pastSize versionSize placeSize siteSize writerSize runSize tailSize
+    masterAt sitesAt writersAt runsAt tailAt totalOf
 full = refl

@@ -114,6 +114,10 @@ writerSize z = 1 + pastSize z
 unfoldable pub runSize : Counts → ℕ
 runSize z = snapshotOffset + placeSize z
 
+-- What stands behind the runs, the tail: nothing.
+unfoldable pub tailSize : Counts → ℕ
+tailSize z = 0
+
 -- ---- offsets, after a header of 10 words:
 -- ---- "master K·V; shelves N·K·V; writers W·V; runs P·(28 + K·V)"
 
@@ -129,8 +133,11 @@ writersAt z = sitesAt z + z .sites * siteSize z
 unfoldable pub runsAt : Counts → ℕ
 runsAt z = writersAt z + z .writers * writerSize z
 
+unfoldable pub tailAt : Counts → ℕ
+tailAt z = runsAt z + z .runs * runSize z
+
 unfoldable pub totalOf : Counts → ℕ
-totalOf z = runsAt z + z .runs * runSize z
+totalOf z = tailAt z + tailSize z
 
 -- All of them.
 unfoldable pub sizesOf : Counts → Sizes
@@ -139,6 +146,7 @@ sizesOf z = record {
   sites = sitesAt z;
   writers = writersAt z;
   runs = runsAt z;
+  tail = tailAt z;
   total = totalOf z;
 }
 

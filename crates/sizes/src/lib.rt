@@ -14,12 +14,14 @@ pub struct Counts {
     pub runs: usize,
 }
 
-// Where each area begins, and how many words there are in all.
+// Where each area begins, and how many words there are in all. The tail, behind the runs, is
+// empty.
 pub struct Sizes {
     pub master: usize,
     pub sites: usize,
     pub writers: usize,
     pub runs: usize,
+    pub tail: usize,
     pub total: usize,
 }
 
@@ -49,13 +51,14 @@ impl Sizes {
         let sites_at = 10 + place;
         let writers_at = sites_at + sites * place;
         let runs_at = writers_at + writers * version;
-        let total = runs_at + runs * (RunOffset::SNAPSHOT + place);
+        let tail = runs_at + runs * (RunOffset::SNAPSHOT + place);
         Sizes {
             master: 10,
             sites: sites_at,
             writers: writers_at,
             runs: runs_at,
-            total,
+            tail,
+            total: tail,
         }
     }
 

@@ -1,9 +1,11 @@
 -- `Sizes::of` gives the offsets and the total: every sum and product is below its largest value.
 -- Assumes nothing.
-use mathlib.Core.Path.{refl}
+use mathlib.Core.Path.{_≡_, sym}
 use Prim.Native.Nat.{ℕ, _+_, _*_, _≤_}
+use native.Mathlib.Nat.{add-zero}
 use native.Mathlib.Omega.{arith}
-use Rattle.sizes.specs.Bounds.{Ranged, countsOf, snapshotOffset, pastSize, versionSize, placeSize, siteSize, writerSize, runSize, masterAt, sitesAt, writersAt, runsAt, totalOf, sizesOf}
+use Rattle.sizes.specs.declared.Counts.{Counts}
+use Rattle.sizes.specs.Bounds.{Ranged, countsOf, snapshotOffset, pastSize, versionSize, placeSize, siteSize, writerSize, runSize, tailSize, masterAt, sitesAt, writersAt, runsAt, tailAt, totalOf, sizesOf}
 use Rattle.sizes.proofs.Offsets.{largest}
 use Rattle.sizes.proofs.Sizes.of.Statement.{statement}
 use Rattle.sizes.proofs.Sizes.of.Tie as tie
@@ -40,19 +42,43 @@ mul-runs-at c = omega (arith, most _ _ _ _ (c .pre))
 add-runs-at : tie.Need-add-runs-at
 add-runs-at c = omega (arith, most _ _ _ _ (c .pre))
 
-add-total : tie.Need-add-total
-add-total c = omega (arith, most _ _ _ _ (c .pre))
+add-tail : tie.Need-add-tail
+add-tail c = omega (arith, most _ _ _ _ (c .pre))
 
-mul-total : tie.Need-mul-total
-mul-total c = omega (arith, most _ _ _ _ (c .pre))
+mul-tail : tie.Need-mul-tail
+mul-tail c = omega (arith, most _ _ _ _ (c .pre))
 
-add-total-2 : tie.Need-add-total-2
-add-total-2 c = omega (arith, most _ _ _ _ (c .pre))
+add-tail-2 : tie.Need-add-tail-2
+add-tail-2 c = omega (arith, most _ _ _ _ (c .pre))
+
+-- The total is where the tail begins.
+sized : (z : Counts) → let t = tailAt z in sizesOf z
+    ≡ record {
+      master = masterAt z;
+      sites = sitesAt z;
+      writers = writersAt z;
+      runs = runsAt z;
+      tail = t;
+      total = t;
+    }
+unfolding sizesOf totalOf tailSize
+sized z =
+    let e = add-zero (tailAt z) in
+    λ i. record {
+      master = masterAt z;
+      sites = sitesAt z;
+      writers = writersAt z;
+      runs = runsAt z;
+      tail = tailAt z;
+      total = e i;
+    }
 
 returns : tie.Need-returns
 unfolding pastSize versionSize placeSize siteSize writerSize runSize
-    masterAt sitesAt writersAt runsAt totalOf sizesOf
-returns c = refl
+    masterAt sitesAt writersAt runsAt tailAt
+returns c =
+    let a = c .args in
+    sym (sized (countsOf (a .keys) (a .writers) (a .sites) (a .runs)))
 
 pub of-spec : {M : Type 1} → statement M
 of-spec =
@@ -66,7 +92,7 @@ of-spec =
     add-writers-at
     mul-runs-at
     add-runs-at
-    add-total
-    mul-total
-    add-total-2
+    add-tail
+    mul-tail
+    add-tail-2
     returns)
