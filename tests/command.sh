@@ -10,7 +10,7 @@ printf 'new 2 2 2 1\nnew\n' >"$work/unread"
 
 bad() {
   echo "command: $1"
-  head -n 5 "$work/err"
+  [ ! -s "$work/err" ] || head -n 5 "$work/err"
   exit 1
 }
 
