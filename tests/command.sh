@@ -229,8 +229,21 @@ trial_examples() {
   [ "$(paste -sd ' ' "$work/out")" = "ok 88 ok 1 ok 0 0 0 ok 1 ok 3" ] || bad "the page's example: other answers"
 }
 
+# README's first screen: what is needed, and the first command with what it prints.
+trial_readme() {
+  head -n 36 README.md >"$work/screen"
+  for words in "command \`rt\` on the PATH" "minutes" "\`refused 6\` is right" "^    . ./test" "passed, 0 failed"; do
+    grep -q -e "$words" "$work/screen" || bad "README's first screen lacks '$words'"
+  done
+  sed -n 's/^    \$ \(.*sheetdesk .*\)/\1/p' "$work/screen" >"$work/command"
+  want 0 "README's command" bash "$work/command"
+  sed -n 's/^    \([0-9].* -> .*\)/\1/p' "$work/screen" >"$work/lines"
+  [ "$(grep -c . "$work/lines")" -ge 3 ] || bad "README doesn't show what its command prints"
+  [ "$(grep -cxF -f "$work/lines" "$work/out")" -eq "$(grep -c . "$work/lines")" ] || bad "README shows other answers"
+}
+
 trials=("$@")
-[ $# -gt 0 ] || trials=(files options lost strict speed echo prompt terminal signal broken refusals line_ends examples)
+[ $# -gt 0 ] || trials=(files options lost strict speed echo prompt terminal signal broken refusals line_ends examples readme)
 for trial in "${trials[@]}"; do
   (trial_"$trial") || exit 1
 done

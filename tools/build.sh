@@ -33,10 +33,10 @@ progress() {
   done >"$log"
 }
 
-# How many crates the program is made of.
+# crates NAME: how many crates it is made of.
 crates() {
   local name number=1
-  for name in $(sed -n 's/^sheetdesk://p' "$top/crates.txt"); do
+  for name in $(sed -n "s/^$1://p" "$top/crates.txt"); do
     [ ! -d "$top/crates/$name" ] || number=$((number + 1))
   done
   echo "$number"
@@ -95,7 +95,7 @@ build_program() {
   if ! is_current; then
     command -v rt >/dev/null || fail "the Rattle toolchain's command rt is not on the PATH: it builds the program"
     now=$(sources)
-    number=$(crates)
+    number=$(crates sheetdesk)
     # rt goes by its stamps, and doesn't see that a program is gone or another one.
     if ! [ -x "$program" ] || grep -qxF "sources $now" "$built" 2>/dev/null; then rm -f "$top/target/stamp/sheetdesk"; fi
     rm -f "$built"
