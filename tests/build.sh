@@ -80,7 +80,7 @@ trial_two_at_once() {
   : >"$FAKE/slow"
   ./sheetdesk scripts/case-a.txt >"$work/out.1" 2>"$work/err.1" &
   local first=$!
-  sleep 0.5
+  for _ in {1..100}; do [ -s "$FAKE/calls" ] && break || sleep 0.05; done
   answers ./sheetdesk
   grep -q "waiting for it" "$work/err" || bad "the second start doesn't say that it waits"
   wait "$first" || { cp "$work/err.1" "$work/err"; bad "the first of two starts failed"; }
@@ -128,7 +128,7 @@ trial_interrupted() {
   echo "// more" >>crates/one/src/lib.rt
   : >"$FAKE/hang"
   set -m
-  ./sheetdesk scripts/case-a.txt >"$work/out" 2>"$work/err" &
+  env --default-signal=INT ./sheetdesk scripts/case-a.txt >"$work/out" 2>"$work/err" &
   local command=$!
   set +m
   for _ in {1..50}; do [ -s "$FAKE/pid" ] && break || sleep 0.1; done

@@ -86,7 +86,7 @@ trial_lost() {
   want 2 "no standard output" bash -c './sheetdesk scripts/case-a.txt >&-'
   said "no standard output"
   yes 'look 0 0 0' | head -n 300000 >"$work/long"
-  want 0 "head" bash -c "./sheetdesk '$work/long' | head -n 1"
+  want 0 "head" env --default-signal=PIPE bash -c "./sheetdesk '$work/long' | head -n 1"
   [ ! -s "$work/err" ] || bad "head: a word"
 }
 
@@ -125,7 +125,7 @@ trial_speed() {
 
 # Each line of --echo is its number, the script's line, and the answer, with words behind what isn't ok.
 trial_echo() {
-  for script in case-a refused-1 refused-3 refused-4 refused-5 refused-6 refused-7 refused-8 break-several; do
+  for script in case-a refused-1 refused-2 refused-3 refused-4 refused-5 refused-6 refused-7 refused-8 break-several; do
     want 0 "--echo $script" ./sheetdesk --echo "scripts/$script.txt"
     sed -E 's/((refused|broken) [0-9]+|unread): .*/\1/' "$work/out" >"$work/plain"
     paste -d '|' "scripts/$script.txt" "scripts/$script.out" | sed 's/|/ -> /' | awk '{ print NR ": " $0 }' |
@@ -167,7 +167,9 @@ trial_prompt() {
   done
 }
 
+# At a terminal there is a word how to begin.
 trial_terminal() {
+  python3 -c 'import pty; pty.openpty()' 2>/dev/null || return 0 # this machine has no terminals
   printf 'new 2 2 2 1\n\004' >"$work/typed"
   want 0 "at a terminal" timeout 20 python3 -c 'import pty; pty.spawn(["./sheetdesk"])' <"$work/typed"
   told "new 2 2 2 1 makes a desk"

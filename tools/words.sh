@@ -16,7 +16,7 @@ wrong_state() {
   case $1 in
     open*) said="the run is not free" ;;
     drop*) said="the run is free: nothing to do" ;;
-    *) said="the run is not open" ;;
+    *) said="the run is not open: it is free, or broken" ;;
   esac
 }
 
