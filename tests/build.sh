@@ -109,6 +109,12 @@ trial_read_only() {
   chmod -R a+rX,a-w . && chmod a+rwx "$work/out" "$work/err" || exit 2
   answers "${as[@]}" ./sheetdesk
   [ ! -s "$work/err" ] || bad "a read-only checkout with a built program: a word"
+  chmod -R u+w . && rm -f target/sheetdesk.built && chmod -R a-w . || exit 2
+  answers "${as[@]}" ./sheetdesk
+  grep -q "used as it is" "$work/err" || bad "a read-only checkout with a program that rt built: no word"
+  chmod -R u+w . && answers ./sheetdesk && echo "// more" >>crates/one/src/lib.rt && chmod -R a-w . || exit 2
+  "${as[@]}" ./sheetdesk scripts/case-a.txt >"$work/out" 2>"$work/err"
+  [ $? -eq 2 ] && grep -q "can't be written" "$work/err" || bad "a read-only checkout with other sources: not exit status 2"
   chmod -R u+w .
 }
 
