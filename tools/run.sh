@@ -24,7 +24,7 @@ behind() {
 # name_failed NUMBER:ANSWER: tells --strict's first line on standard error, with its call if the script is a file.
 name_failed() {
   local number=${1%%:*} answer=${1#*:} call=
-  [ ! -f "$file" ] || IFS= read -r call < <(tail -n "+$number" -- "$file")
+  [ "$file" = - ] || [ ! -f "$file" ] || IFS= read -r call < <(tail -n "+$number" -- "$file")
   if [ -z "$call" ]; then
     echo "sheetdesk: line $number: $answer; --echo shows the calls" >&2
   else
