@@ -42,7 +42,7 @@ crates() {
   echo "$number"
 }
 
-# Ends rt and all that it started: they are a session of their own.
+# Ends rt and all that it started: setsid made them a group of their own.
 stop() {
   trap '' INT TERM HUP
   kill -TERM -- "-$building" 2>/dev/null
