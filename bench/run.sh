@@ -1,5 +1,5 @@
 #!/bin/sh
-# Measures, and puts the tables into docs/PERFORMANCE.md between its two marks.
+# Measures, and writes docs/FIGURES.md.
 # Usage, from the repository's root, on a quiet machine, after `rt staticlib sheetdesk_c`:
 #   sh bench/run.sh [PROGRAM]
 #   sh bench/run.sh --try      only builds, and makes each call once on each side: both must leave the same desk
@@ -8,7 +8,7 @@
 set -eu
 program=${1:-target/bin/sheetdesk}
 out=target/bench
-page=docs/PERFORMANCE.md
+page=docs/FIGURES.md
 mkdir -p "$out"
 rustc --edition 2021 -C opt-level=3 -o "$out/calls" bench/calls.rs \
     -L native=target/staticlib -l static=sheetdesk_c
@@ -42,7 +42,10 @@ instructions() {
 }
 
 {
-    echo "Made by \`sh bench/run.sh\` on $(uname -m), $(nproc) processors,"
+    echo "# Figures"
+    echo "Written by \`sh bench/run.sh\`, all of it; docs/PERFORMANCE.md says how the figures are made and what they mean."
+    echo
+    echo "Made on $(uname -m), $(nproc) processors,"
     echo "$(sed -n 's/^model name[^:]*: //p' /proc/cpuinfo | head -n 1), $(rustc --version)."
     echo
     echo "Calls of the library on full desks, and how their cost grows from the desk 8 4 4 4:"
@@ -67,10 +70,5 @@ instructions() {
     fi
 } >"$out/figures.md"
 
-# What stands outside the marks is written by hand.
-awk -v figures="$out/figures.md" '
-    /^<!-- figures -->$/ { print; while ((getline line <figures) > 0) print line; skip = 1 }
-    /^<!-- end -->$/ { skip = 0 }
-    !skip || /^<!-- end -->$/ { if (!/^<!-- figures -->$/) print }' "$page" >"$out/page.md"
-cp "$out/page.md" "$page"
+cp "$out/figures.md" "$page"
 echo "bench: $page has the figures"

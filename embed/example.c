@@ -4,7 +4,7 @@
 
 #include "sheetdesk.h"
 
-static uint32_t desk[88];
+static uint32_t desk[SHEETDESK_WORDS(2, 2, 2, 1)];
 static uint32_t answer[SHEETDESK_ANSWER_WORDS];
 static int wrong;
 
@@ -56,7 +56,7 @@ static void besides(void)
 
     DUE("prepare 0", sheetdesk_prepare(DESK, 0, ANSWER), SHEETDESK_REFUSED,
         SHEETDESK_WRONG_TURN);
-    wrong |= sheetdesk_drop(DESK, 0, answer, SHEETDESK_ANSWER_WORDS - 1) != 0;
+    wrong |= sheetdesk_drop(DESK, 0, answer, 1) != 0;
     DUE("drop 0", sheetdesk_drop(DESK, 0, ANSWER), SHEETDESK_OK, 0);
     wrong |= sheetdesk_covers(target, 2, source, 2) != 0;
     wrong |= sheetdesk_covers(target, 2, source, 1) != 2;

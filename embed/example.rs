@@ -3,7 +3,7 @@
 
 mod sheetdesk;
 
-use sheetdesk::{covers, merge, Answer, Desk, Job, Place};
+use sheetdesk::{covers, merge, words, Answer, Desk, Job, Place, Refusal};
 
 fn job(office: u32, reads: u32, upstream: u32) -> Job {
     Job { office, reads, upstream }
@@ -35,18 +35,6 @@ fn case_a(desk: &mut Desk) -> Vec<(Answer, &'static str)> {
     ]
 }
 
-/// The line that the program would print.
-fn print(answer: &Answer) -> String {
-    match answer {
-        Answer::Ok(numbers) => {
-            let numbers = numbers.as_slice().iter();
-            numbers.fold(String::from("ok"), |line, number| format!("{line} {number}"))
-        }
-        Answer::Broken(mask) => format!("broken {mask}"),
-        Answer::Refused(number) => format!("refused {number}"),
-    }
-}
-
 /// Rows (2,0) and (1,3): neither covers the other, and their merge is (2,3).
 fn clocks() -> bool {
     let mut target = [2, 0];
@@ -59,11 +47,12 @@ fn clocks() -> bool {
 }
 
 fn main() {
-    let mut words = [0; 88];
-    let mut desk = Desk::lend(&mut words);
+    let mut lent = [0; words(2, 2, 2, 1)];
+    let mut desk = Desk::lend(&mut lent);
     let mut good = clocks();
+    good &= desk.look(Place::Master, 0) == Answer::Refused(Refusal::NotInForm);
     for (answer, due) in case_a(&mut desk) {
-        let given = print(&answer);
+        let given = answer.to_string();
         if given != due {
             println!("wrong: {given} for {due}");
             good = false;

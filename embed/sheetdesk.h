@@ -1,17 +1,27 @@
 /* The sheet desk for C: its nine calls over one lent buffer of 32-bit words, and two calls on
- * clocks. Link with libsheetdesk_c.a (made by `rt staticlib sheetdesk_c`, for x86-64 Linux).
+ * clocks. Link with -lsheetdesk_c, the static library or the shared one (x86-64 Linux); README.md
+ * shows the lines.
  *
  * A slice is a pointer and a length in words. The pointer must be valid for so many words and
  * aligned to 4 bytes; it may not be null, even with length 0; `desk` and `answer` (`target` and
  * `source`) may not overlap. Any content and any numbers are fine: what a call can't work on it
- * refuses. No call reads or writes outside its slices, allocates, or keeps a pointer. Calls on
- * different buffers may run at the same time.
+ * refuses. No call reads or writes outside its slices, or allocates.
+ *
+ * Whose memory it is: the caller owns both buffers, desk and answer, always; a call borrows them
+ * and keeps no pointer. During a call nobody else may write the desk, and nobody may read it
+ * unless all calls on it are ones that only answer (those whose desk is const: look). Calls on
+ * different buffers may run at the same time. The words hold no pointer: they may be copied,
+ * moved, and saved to a file, SHEETDESK_WORDS of them, in the machine's byte order (little-endian
+ * on x86-64; swap the bytes of each word elsewhere). Nothing in the words says which layout they
+ * have, so save SHEETDESK_LAYOUT with them. Whoever lends words of another layout gets a refusal,
+ * SHEETDESK_NOT_IN_FORM, from every call but new, for their offsets and total don't follow from
+ * their counts; no word is changed.
  *
  * Every call writes its answer's words and returns how many it wrote:
  *   0 and the answer's numbers (ok), 1 and a mask (broken, step alone), 2 and a number (refused).
- * An `answer_len` below SHEETDESK_ANSWER_WORDS returns 0, and nothing is changed. Words of the
- * answer's slice behind the written ones have no meaning. A refused call leaves every word of
- * the desk; words past the desk's total are never touched.
+ * Lend SHEETDESK_ANSWER_WORDS for it: to a slice too short for any answer a call returns 0, and
+ * nothing is changed. Words of the answer's slice behind the written ones have no meaning. A
+ * refused call leaves every word of the desk; words past the desk's total are never touched.
  *
  * Sheets, writers, offices, runs and jobs are counted from 0. Bit k of a mask is item k.
  */
@@ -25,10 +35,26 @@
 extern "C" {
 #endif
 
-/* The least length of an answer's slice. */
-#define SHEETDESK_ANSWER_WORDS 24
+/* The version of the calls: rises when one is added or changes what it takes, does or answers. */
+#define SHEETDESK_VERSION 1
+/* The version of the desk's words: rises when a desk of the same counts has other words. */
+#define SHEETDESK_LAYOUT 1
+
+/* The length of a slice that holds any answer. */
+#define SHEETDESK_ANSWER_WORDS 40
 /* The words of the largest desk (32 sheets, 16 writers, 8 offices, 8 runs). */
 #define SHEETDESK_MOST_WORDS 287514
+
+/* The words of a desk of k sheets, w writers, n offices and p runs, to be lent before new; 0 if
+ * new refuses the counts. A constant if they are. */
+#define SHEETDESK_WORDS(k, w, n, p) \
+    ((size_t)(k) - 1 < 32 && (size_t)(w) - 1 < 16 && (size_t)(n) - 1 < 8 && (size_t)(p) - 1 < 8 \
+         ? SHEETDESK_WORDS_OF((size_t)(k), (size_t)(w), (size_t)(n), (size_t)(p)) \
+         : 0)
+/* The same for counts in range: header, then master, shelves and cards of k versions each,
+ * writers of one version's words each, and 28 words more for each run. */
+#define SHEETDESK_WORDS_OF(k, w, n, p) \
+    (10 + (1 + (k) * (w)) * ((k) * (1 + (n) + (p)) + (w)) + 28 * (p))
 
 /* The answer's first word. */
 enum sheetdesk_outcome {

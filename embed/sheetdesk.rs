@@ -1,15 +1,35 @@
 //! The sheet desk for Rust: a safe wrapper over the library's exports. Add this file to a crate
-//! as a module and link `libsheetdesk_c.a` (made by `rt staticlib sheetdesk_c`).
+//! as a module and link with `-l sheetdesk_c`; README.md shows the line.
 //!
 //! A [`Desk`] borrows its words; every call takes any numbers and any content, and none panics
-//! or allocates. `sheetdesk.h` says what each answer's numbers are.
+//! or allocates. `sheetdesk.h` says what each answer's numbers are, and what may be done with
+//! the words.
 #![allow(dead_code)]
 
-/// Words of an answer's slice: the outcome and up to 23 numbers.
-const ANSWER_WORDS: usize = 24;
+use std::fmt;
+
+/// The version of the calls: `SHEETDESK_VERSION` of the header.
+pub const VERSION: u32 = 1;
+
+/// The version of the desk's words: `SHEETDESK_LAYOUT` of the header. Save it with the words.
+pub const LAYOUT: u32 = 1;
+
+/// Words of a slice that holds any answer.
+pub const ANSWER_WORDS: usize = 40;
 
 /// The words of the largest desk (32 sheets, 16 writers, 8 offices, 8 runs).
 pub const MOST_WORDS: usize = 287_514;
+
+/// The words to lend for a desk of so many sheets, writers, offices and runs; 0 if new refuses
+/// the counts.
+pub const fn words(sheets: u32, writers: u32, offices: u32, runs: u32) -> usize {
+    let (k, w, n, p) = (sheets as usize, writers as usize, offices as usize, runs as usize);
+    if k < 1 || k > 32 || w < 1 || w > 16 || n < 1 || n > 8 || p < 1 || p > 8 {
+        return 0;
+    }
+    let version = 1 + k * w;
+    10 + version * (k * (1 + n + p) + w) + 28 * p
+}
 
 /// The exports as C has them: a slice is a pointer and a length in words.
 pub mod exports {
@@ -77,8 +97,65 @@ pub enum Answer {
     Ok(Numbers),
     /// Step alone: the run is broken, with these sheets.
     Broken(u32),
-    /// Nothing was changed; why, by number.
-    Refused(u32),
+    /// Nothing was changed; why.
+    Refused(Refusal),
+}
+
+/// Why a call is refused, by the header's names.
+#[derive(Clone, Copy, PartialEq, Eq, Debug)]
+#[non_exhaustive]
+pub enum Refusal {
+    /// 1: the words are too few, or hold no desk in form.
+    NotInForm,
+    /// 2: a count of new is out of range.
+    BadCount,
+    /// 3: an office, sheet, writer, run, place, job or mask is out of range.
+    OutOfRange,
+    /// 4: the run is not in the state needed.
+    WrongState,
+    /// 5: open: no job, over 8, or a job that is not valid.
+    BadJobs,
+    /// 6: a job is done, or one that must be isn't.
+    WrongTurn,
+    /// 7: a sheet to be fetched isn't held by the master.
+    NotOnMaster,
+    /// 8: evict, look: the sheet isn't held there.
+    NotHeld,
+    /// 9: the last issue number is the largest.
+    IssuesSpent,
+    /// 10: the writer's count is the largest.
+    WriterSpent,
+    /// A number that this wrapper has no name for: the library is newer.
+    Other(u32),
+}
+
+impl Refusal {
+    const NAMED: [Refusal; 10] = [
+        Refusal::NotInForm,
+        Refusal::BadCount,
+        Refusal::OutOfRange,
+        Refusal::WrongState,
+        Refusal::BadJobs,
+        Refusal::WrongTurn,
+        Refusal::NotOnMaster,
+        Refusal::NotHeld,
+        Refusal::IssuesSpent,
+        Refusal::WriterSpent,
+    ];
+
+    /// The refusal of a number.
+    pub fn of(number: u32) -> Refusal {
+        let place = (number as usize).wrapping_sub(1);
+        Refusal::NAMED.get(place).copied().unwrap_or(Refusal::Other(number))
+    }
+
+    /// The number, as the program prints it.
+    pub fn number(self) -> u32 {
+        match self {
+            Refusal::Other(number) => number,
+            named => (1..).zip(Refusal::NAMED).find(|pair| pair.1 == named).map_or(0, |pair| pair.0),
+        }
+    }
 }
 
 impl Answer {
@@ -87,6 +164,20 @@ impl Answer {
         match self {
             Answer::Ok(numbers) => Some(numbers.as_slice()),
             _ => None,
+        }
+    }
+}
+
+/// The line that the program prints.
+impl fmt::Display for Answer {
+    fn fmt(&self, out: &mut fmt::Formatter) -> fmt::Result {
+        match self {
+            Answer::Ok(numbers) => {
+                out.write_str("ok")?;
+                numbers.as_slice().iter().try_for_each(|number| write!(out, " {number}"))
+            }
+            Answer::Broken(mask) => write!(out, "broken {mask}"),
+            Answer::Refused(refusal) => write!(out, "refused {}", refusal.number()),
         }
     }
 }
@@ -120,7 +211,7 @@ fn answer(call: impl FnOnce(*mut u32, usize) -> u32) -> Answer {
     match words {
         [0, ..] => Answer::Ok(Numbers { words, count }),
         [1, mask, ..] => Answer::Broken(mask),
-        [_, number, ..] => Answer::Refused(number),
+        [_, number, ..] => Answer::Refused(Refusal::of(number)),
     }
 }
 

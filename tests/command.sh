@@ -1,9 +1,18 @@
 #!/usr/bin/env bash
-# The command that people type, over the program that is built: its options, files, and exit statuses.
+# The command that people type, over the program that is built: its options, files, exit statuses and what the user page
+# promises. Usage: tests/command.sh [TRIAL..], all trials without one.
 set -u
 cd "$(dirname "$0")/.." || exit 2
 work=$(mktemp -d) || exit 2
 trap 'rm -rf "$work"' EXIT
+printf 'new 2 2 2 1\n' >"$work/good"
+printf 'new 2 2 2 1\nnew\n' >"$work/unread"
+
+bad() {
+  echo "command: $1"
+  [ ! -s "$work/err" ] || head -n 5 "$work/err"
+  exit 1
+}
 
 # want STATUS WHAT COMMAND..: the exit status of a command; its output is in $work/out and $work/err.
 want() {
@@ -11,51 +20,233 @@ want() {
   shift 2
   "$@" >"$work/out" 2>"$work/err"
   local got=$?
-  [ "$got" -eq "$due" ] || { echo "command: $what: exit $got, due $due"; cat "$work/err"; exit 1; }
+  [ "$got" -eq "$due" ] || bad "$what: exit $got, due $due"
 }
 
 same() {
-  cmp -s "$work/out" "$1" || { echo "command: $2: not the answers of $1"; exit 1; }
+  cmp -s "$work/out" "$1" || bad "$2: not the answers of $1"
 }
 
+# said TEXT: standard error has it. told TEXT: standard output has it.
 said() {
-  grep -q "$1" "$work/err" || { echo "command: standard error doesn't say '$1'"; cat "$work/err"; exit 1; }
+  grep -q -e "$1" "$work/err" || bad "standard error doesn't say '$1'"
 }
 
-want 0 "a file" ./sheetdesk scripts/case-a.txt
-same scripts/case-a.out "a file"
-want 0 "standard input" bash -c './sheetdesk < scripts/case-a.txt'
-same scripts/case-a.out "standard input"
-want 0 "- for standard input" bash -c './sheetdesk - < scripts/case-a.txt'
-same scripts/case-a.out "- for standard input"
-want 1 "--strict with a refusal" ./sheetdesk --strict scripts/case-a.txt
-same scripts/case-a.out "--strict with a refusal"
-printf 'new 2 2 2 1\n' >"$work/good"
-want 0 "--strict without" ./sheetdesk --strict "$work/good"
-printf 'new 2 2 2 1\nnew\n' >"$work/unread"
-want 1 "--strict with an unread line" ./sheetdesk --strict "$work/unread"
-want 2 "a file that isn't there" ./sheetdesk "$work/none"
-said "can't read"
-want 2 "a folder" ./sheetdesk "$work"
-said "can't read"
-want 2 "an option that there isn't" ./sheetdesk --lax
-said "no option --lax"
-want 2 "two files" ./sheetdesk "$work/good" "$work/good"
-want 0 "--help" ./sheetdesk --help
-same docs/USER.md "--help"
+told() {
+  grep -q -e "$1" "$work/out" || bad "standard output doesn't say '$1'"
+}
 
-# By hand: the answer to a line comes before the input ends. Into a file of its own: that of the last command is there
-# until the redirection empties it.
-mkfifo "$work/in" || exit 2
-: >"$work/prompt"
-./sheetdesk <"$work/in" >"$work/prompt" 2>"$work/err" &
-exec 3>"$work/in"
-printf 'new 2 2 2 1\n' >&3
-for wait in {1..50}; do
-  [ "$(cat "$work/prompt")" = "ok 88" ] && break
-  sleep 0.2
+trial_files() {
+  want 0 "a file" ./sheetdesk scripts/case-a.txt
+  same scripts/case-a.out "a file"
+  want 0 "standard input" bash -c './sheetdesk < scripts/case-a.txt'
+  same scripts/case-a.out "standard input"
+  want 0 "- for standard input" bash -c './sheetdesk - < scripts/case-a.txt'
+  same scripts/case-a.out "- for standard input"
+  cp scripts/case-a.txt "$work/-odd name" || exit 2
+  want 0 "an odd name behind --" bash -c "top=\$PWD; cd '$work' && \"\$top/sheetdesk\" -- '-odd name'"
+  same scripts/case-a.out "an odd name behind --"
+  want 2 "a file that isn't there" ./sheetdesk "$work/none"
+  said "can't read"
+  want 2 "two files" ./sheetdesk "$work/good" "$work/good"
+}
+
+trial_options() {
+  want 2 "an option that there isn't" ./sheetdesk --lax
+  said "no option --lax"
+  want 1 "an option behind the file" ./sheetdesk scripts/case-a.txt --strict
+  same scripts/case-a.out "an option behind the file"
+  for option in -h --help; do
+    want 0 "$option" ./sheetdesk "$option"
+    told "docs/USER.md"
+    [ "$(wc -l <"$work/out")" -le 14 ] || bad "$option: more than a dozen lines"
+  done
+  want 0 "--man" ./sheetdesk --man
+  told "^REFUSALS"
+  [ "$(awk '{ gsub(/·/, ".") } length($0) > 80 || /`|\*\*|^#|^\|/' "$work/out")" = "" ] ||
+    bad "--man: over 80 columns, or marks of Markdown"
+  want 0 "--version" ./sheetdesk --version
+  told "^sheetdesk [0-9]*, layout [0-9]*, toolchain [a-z]"
+}
+
+# A failed write or read: status 2 and a message. Whoever takes the answers may stop.
+trial_lost() {
+  for option in "" --strict --echo; do
+    want 2 "a full disk $option" bash -c "./sheetdesk $option scripts/case-a.txt >/dev/full"
+    said "sheetdesk: not all answers were written"
+    want 2 "a folder as standard input $option" bash -c "./sheetdesk $option </tmp"
+    said "sheetdesk: the script wasn't read to its end"
+  done
+  want 2 "a folder" ./sheetdesk "$work"
+  said "can't read"
+  want 2 "a file that fails in a read" ./sheetdesk /proc/self/mem
+  said "sheetdesk: the script wasn't read to its end"
+  want 2 "no standard input" bash -c './sheetdesk <&-'
+  said "no standard input"
+  want 2 "no standard output" bash -c './sheetdesk scripts/case-a.txt >&-'
+  said "no standard output"
+  yes 'look 0 0 0' | head -n 300000 >"$work/long"
+  want 0 "head" env --default-signal=PIPE bash -c "./sheetdesk '$work/long' | head -n 1"
+  [ ! -s "$work/err" ] || bad "head: a word"
+}
+
+# best COMMAND..: the least time of five runs, in milliseconds.
+best() {
+  local least=1000000 from to
+  for _ in 1 2 3 4 5; do
+    from=$EPOCHREALTIME
+    "$@" >"$work/out"
+    to=$EPOCHREALTIME
+    to=$(((${to/./} - ${from/./}) / 1000))
+    [ "$to" -ge "$least" ] || least=$to
+  done
+  echo "$least"
+}
+
+trial_strict() {
+  want 1 "--strict with a refusal" ./sheetdesk --strict scripts/case-a.txt
+  same scripts/case-a.out "--strict with a refusal"
+  said "line 10: step 0 1 -> refused 6: the job is done already, or one"
+  want 1 "--strict on standard input" bash -c './sheetdesk --strict < scripts/case-a.txt'
+  said "line 10: refused 6"
+  want 0 "--strict without" ./sheetdesk --strict "$work/good"
+  [ ! -s "$work/err" ] || bad "--strict without: a word"
+  want 1 "--strict with an unread line" ./sheetdesk --strict "$work/unread"
+  said "line 2: new -> unread"
+}
+
+trial_speed() {
+  { echo 'new 2 2 2 1'; echo 'open 0 0 0 0'; yes 'look 1 0 0' | head -n 1000000; } >"$work/long"
+  local plain strict
+  plain=$(best ./sheetdesk "$work/long")
+  strict=$(best ./sheetdesk --strict "$work/long" 2>/dev/null)
+  [ "$strict" -lt $((2 * plain + 50)) ] || bad "--strict takes $strict ms for a million lines, without it $plain"
+}
+
+# Each line of --echo is its number, the script's line, and the answer, with words behind what isn't ok.
+trial_echo() {
+  for script in case-a refused-1 refused-2 refused-3 refused-4 refused-5 refused-6 refused-7 refused-8 break-several; do
+    want 0 "--echo $script" ./sheetdesk --echo "scripts/$script.txt"
+    sed -E 's/((refused|broken) [0-9]+|unread): .*/\1/' "$work/out" >"$work/plain"
+    paste -d '|' "scripts/$script.txt" "scripts/$script.out" | sed 's/|/ -> /' | awk '{ print NR ": " $0 }' |
+      cmp -s - "$work/plain" || bad "--echo $script: not each answer behind its call"
+    if grep -q -E '(refused|broken) [0-9]+$' "$work/out"; then bad "--echo $script: an answer without words"; fi
+  done
+  printf 'new 2 2 2 1\nfetch 0 0\nlook 2 0 1\nlook 01 0 1\nlook 0 0 1\nevict 0 0\nstep 0 8\n\na\001\nlast' >"$work/words"
+  want 0 "--echo in words" ./sheetdesk --echo "$work/words"
+  told "^2: fetch 0 0 -> refused 7: the master does not hold a sheet to be fetched$"
+  told "^3: look 2 0 1 -> refused 8: the card .* step or prepare"
+  told "^4: look 01 0 1 -> refused 8: the shelf .* fetch it"
+  told "^5: look 0 0 1 -> refused 8: the master .* issue it"
+  told "^6: evict 0 0 -> refused 8: .* nothing to do"
+  told "^7: step 0 8 -> refused 3: there is no such run or job"
+  told "^9: a? -> unread: "
+  told "^10: last -> unread: "
+  { yes 0 | head -n 200000 | tr '\n' ' '; echo; cat "$work/good"; } >"$work/wide"
+  want 0 "--echo of a long line" timeout 20 ./sheetdesk --echo "$work/wide"
+  told "^1: 0 0 .*\.\. -> unread: the line has over 400 bytes$"
+  want 1 "--echo --strict" ./sheetdesk --echo --strict "$work/words"
+  said "line 2: fetch 0 0 -> refused 7"
+}
+
+# By hand: the answer to a line comes before the input ends.
+trial_prompt() {
+  mkfifo "$work/in" || exit 2
+  for option in "" --strict --echo; do
+    : >"$work/prompt"
+    ./sheetdesk $option <"$work/in" >"$work/prompt" 2>"$work/err" &
+    exec 3>"$work/in"
+    printf 'new 2 2 2 1\n' >&3
+    for _ in {1..50}; do
+      grep -q "ok 88$" "$work/prompt" && break
+      sleep 0.1
+    done
+    grep -q "ok 88$" "$work/prompt" || bad "no answer before the input ended $option"
+    exec 3>&-
+    wait $!
+  done
+}
+
+# At a terminal there is a word how to begin.
+trial_terminal() {
+  python3 -c 'import pty; pty.openpty()' 2>/dev/null || return 0 # this machine has no terminals
+  printf 'new 2 2 2 1\n\004' >"$work/typed"
+  want 0 "at a terminal" timeout 20 python3 -c 'import pty; pty.spawn(["./sheetdesk"])' <"$work/typed"
+  told "new 2 2 2 1 makes a desk"
+}
+
+# A signal ends the command and the program.
+trial_signal() {
+  mkfifo "$work/held" || exit 2
+  ./sheetdesk <"$work/held" >"$work/prompt" 2>"$work/err" &
+  local command=$!
+  exec 3>"$work/held"
+  printf 'new 2 2 2 1\n' >&3
+  for _ in {1..50}; do [ -s "$work/prompt" ] && break || sleep 0.1; done
+  kill -TERM "$command"
+  wait "$command"
+  [ $? -eq 143 ] || bad "a signal: not exit status 143"
+  sleep 0.1
+  if (trap '' PIPE; printf 'new 2 2 2 1\n' >&3) 2>/dev/null; then bad "a signal left the script's reader behind"; fi
+  exec 3>&-
+}
+
+# What the user page says of broken runs is what happens.
+page=docs/USER.md
+trial_broken() {
+  head -n 10 scripts/break-leaves-shelf.txt >"$work/broken"
+  { cat "$work/broken"; printf 'drop 0\nopen 0 0 1 0 1 2 0\nstep 0 0\nstep 0 1\n'; } >"$work/again"
+  want 0 "the plan again" ./sheetdesk "$work/again"
+  [ "$(tail -n 1 "$work/out")" = "broken 1" ] || bad "the same plan goes through: the page is wrong"
+  sed -n '/^## BROKEN RUNS/,/^## REFUSALS/s/^    //p' "$page" >"$work/cure"
+  grep -q '^prepare 0$' "$work/cure" || bad "the page doesn't say how a broken run goes through"
+  cat "$work/broken" "$work/cure" >"$work/cured"
+  want 0 "the cure" ./sheetdesk "$work/cured"
+  tail -n +11 "$work/out" | paste -sd ',' | sed 's/,/`, `/g; s/^/`/; s/$/`/' >"$work/due"
+  grep -qF -f "$work/due" "$page" || bad "the cure answers $(cat "$work/due"), the page says otherwise"
+  { cat "$work/broken"; printf 'drop 0\nfetch 0 0\nopen 0 0 1 0 1 2 0\nstep 0 0\nstep 0 1\n'; } >"$work/fetched"
+  want 0 "fetching what is behind" ./sheetdesk "$work/fetched"
+  [ "$(tail -n 1 "$work/out")" = "ok 2 0 0" ] || bad "fetching what is behind doesn't cure"
+}
+
+trial_refusals() {
+  for words in "nothing to do" "counts that you gave to new" "step a$" "prepare the run"; do
+    sed -n '/^## REFUSALS/,/^## LIMITS/p' "$page" | grep -q -e "$words" || bad "the page's refusals lack '$words'"
+  done
+}
+
+trial_line_ends() {
+  sed 's/$/\r/' scripts/case-a.txt >"$work/crlf"
+  want 0 "CR LF" ./sheetdesk "$work/crlf"
+  [ "$(sort -u "$work/out")" = unread ] || bad "a script with CR LF isn't unread"
+  sed -n '/^## LINE ENDS/,/^## EXAMPLES/s/^    //p' "$page" | sed "s|SCRIPT|'$work/crlf'|" >"$work/strip"
+  grep -q . "$work/strip" || bad "the page doesn't say what to do with CR LF"
+  want 0 "without CR" bash "$work/strip"
+  same scripts/case-a.out "without CR"
+}
+
+trial_examples() {
+  sed -n '/^## EXAMPLES/,/^## DIAGNOSTICS/s/^    //p' "$page" | tail -n +2 >"$work/example"
+  want 0 "the page's example" bash "$work/example"
+  [ "$(paste -sd ' ' "$work/out")" = "ok 88 ok 1 ok 0 0 0 ok 1 ok 3" ] || bad "the page's example: other answers"
+}
+
+# README's first screen: what is needed, and the first command with what it prints.
+trial_readme() {
+  head -n 36 README.md >"$work/screen"
+  for words in "command \`rt\` on the PATH" "minutes" "\`refused 6\` is right" "^    . ./test" "passed, 0 failed"; do
+    grep -q -e "$words" "$work/screen" || bad "README's first screen lacks '$words'"
+  done
+  sed -n 's/^    \$ \(.*sheetdesk .*\)/\1/p' "$work/screen" >"$work/command"
+  want 0 "README's command" bash "$work/command"
+  sed -n 's/^    \([0-9].* -> .*\)/\1/p' "$work/screen" >"$work/lines"
+  [ "$(grep -c . "$work/lines")" -ge 3 ] || bad "README doesn't show what its command prints"
+  [ "$(grep -cxF -f "$work/lines" "$work/out")" -eq "$(grep -c . "$work/lines")" ] || bad "README shows other answers"
+}
+
+trials=("$@")
+[ $# -gt 0 ] || trials=(files options lost strict speed echo prompt terminal signal broken refusals line_ends examples readme)
+for trial in "${trials[@]}"; do
+  (trial_"$trial") || exit 1
 done
-[ "$(cat "$work/prompt")" = "ok 88" ] || { echo "command: no answer before the input ended"; exit 1; }
-exec 3>&-
-wait $!
-echo "command: options, files, exit statuses and prompt answers as the user page says"
+echo "command: options, files, exit statuses, echo, prompt answers and remedies as the user page says"

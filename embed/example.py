@@ -1,0 +1,63 @@
+"""Case A of the specification through the Python module; ends with 1 if an answer is not as written."""
+import sys
+
+import sheetdesk
+from sheetdesk import Desk, Job, Refusal, card, covers, merge, shelf, words, MASTER
+
+
+def case_a(desk):
+    """The calls of case A and their answers, a line each."""
+    return [
+        (desk.new(2, 2, 2, 1), "ok 88"),
+        (desk.open(0, [Job(0, 0, 0)]), "ok 1"),
+        (desk.step(0, 0), "ok 0 0 0"),
+        (desk.issue(0, 0, 3), "ok 1"),
+        (desk.fetch(0, 0), "ok 3"),
+        (desk.open(0, [Job(0, 1, 0)]), "ok 1"),
+        (desk.step(0, 0), "ok 0 1 0"),
+        (desk.issue(0, 1, 2), "ok 2"),
+        (desk.open(0, [Job(0, 1, 0), Job(1, 2, 1)]), "ok 2"),
+        (desk.step(0, 1), "refused 6"),
+        (desk.step(0, 0), "ok 0 1 0"),
+        (desk.step(0, 1), "ok 2 0 0"),
+        (desk.look(card(0), 1), "ok 1 1 0"),
+        (desk.fetch(1, 1), "ok 3"),
+        (desk.evict(0, 1), "ok 3"),
+        # Besides case A: the calls that it lacks.
+        (desk.prepare(0), "refused 6"),
+        (desk.drop(0), "ok 0"),
+        (desk.look(MASTER, 1), "ok 2 1 1"),
+        (desk.look(shelf(0), 1), "refused 8"),
+    ]
+
+
+def refuses(error, call, *arguments):
+    """Whether the module refuses the arguments itself."""
+    try:
+        call(*arguments)
+    except error:
+        return True
+    return False
+
+
+def main():
+    desk = Desk(words(2, 2, 2, 1))
+    good = desk.look(MASTER, 0).refusal is Refusal.NOT_IN_FORM
+    for answer, due in case_a(desk):
+        if str(answer) != due:
+            print("wrong: %s for %s" % (answer, due))
+            good = False
+    # Words that are saved and lent again are the same desk.
+    good &= str(Desk(desk.words()).look(MASTER, 1)) == "ok 2 1 1"
+    good &= refuses(OverflowError, desk.fetch, 2**32, 0) and refuses(OverflowError, desk.fetch, 0, -1)
+    good &= refuses(OverflowError, desk.open, 0, [Job(0, 2**32, 0)]) and refuses(OverflowError, Desk, [2**32])
+    good &= refuses(TypeError, desk.fetch, 0.5, 0) and refuses(TypeError, desk.fetch, True, 0)
+    # Rows (2,0) and (1,3): neither covers the other, and their merge is (2,3).
+    good &= covers([2, 0], [1, 3]) is False and covers([2, 0], [1]) is None and covers([2, 3], [1, 3]) is True
+    good &= merge([2, 0], [1, 3]) == [2, 3] and merge([2, 0], [1]) is None
+    good &= words(32, 16, 8, 8) == sheetdesk.MOST_WORDS and words(33, 1, 1, 1) == 0
+    print("example.py: %s" % ("case A answered as written" if good else "wrong answers"))
+    return 0 if good else 1
+
+
+sys.exit(main())

@@ -1,0 +1,171 @@
+"""The sheet desk for Python: the library's calls by ctypes alone, with the names of the Rust wrapper.
+
+    desk = sheetdesk.Desk(sheetdesk.words(2, 2, 2, 1))
+    print(desk.new(2, 2, 2, 1))                # ok 88
+    print(desk.open(0, [sheetdesk.Job(0, 0, 0)]))
+
+A Desk owns its words; each call gives an Answer, which prints as the program prints it. sheetdesk.h says what each
+answer's numbers are. Numbers outside of 32 bits are refused here, by an OverflowError, and so is what is no int, by a
+TypeError: C would cut them.
+
+The shared library is found at SHEETDESK_LIBRARY if that is set, in ../../lib from this file (where it is installed), in
+../target/shared (in a checkout), or by the system.
+"""
+import ctypes
+import enum
+import os
+from typing import NamedTuple
+
+VERSION = 1
+LAYOUT = 1
+ANSWER_WORDS = 40
+MOST_WORDS = 287514
+
+
+class Refusal(enum.IntEnum):
+    """Why a call is refused, by the header's names."""
+
+    NOT_IN_FORM = 1
+    BAD_COUNT = 2
+    OUT_OF_RANGE = 3
+    WRONG_STATE = 4
+    BAD_JOBS = 5
+    WRONG_TURN = 6
+    NOT_ON_MASTER = 7
+    NOT_HELD = 8
+    ISSUES_SPENT = 9
+    WRITER_SPENT = 10
+
+
+class Answer(NamedTuple):
+    """What a call gives back: outcome "ok", "broken" or "refused", and its numbers."""
+
+    outcome: str
+    numbers: tuple
+
+    @property
+    def refusal(self):
+        """The Refusal, or the bare number if this module has no name for it; None if the call wasn't refused."""
+        if self.outcome != "refused":
+            return None
+        number = self.numbers[0]
+        return Refusal(number) if number in set(Refusal) else number
+
+    def __str__(self):
+        return " ".join([self.outcome, *map(str, self.numbers)])
+
+
+class Job(NamedTuple):
+    """A job of a run: its office, the sheets that it reads and the jobs that go before it."""
+
+    office: int
+    reads: int
+    upstream: int
+
+
+MASTER = (0, 0)
+
+
+def shelf(office):
+    return (1, office)
+
+
+def card(run):
+    return (2, run)
+
+
+def words(sheets, writers, offices, runs):
+    """The words of a desk of so many sheets, writers, offices and runs; 0 if new refuses the counts."""
+    for count, most in ((sheets, 32), (writers, 16), (offices, 8), (runs, 8)):
+        if not 1 <= _word(count) <= most:
+            return 0
+    return 10 + (1 + sheets * writers) * (sheets * (1 + offices + runs) + writers) + 28 * runs
+
+
+def _word(number):
+    """The number, if it is an int of 32 bits without sign."""
+    if not isinstance(number, int) or isinstance(number, bool):
+        raise TypeError("not an int: %r" % (number,))
+    if not 0 <= number < 2**32:
+        raise OverflowError("not a number of 32 bits: %d" % number)
+    return number
+
+
+def _array(numbers):
+    """The numbers as words of C; never a null pointer."""
+    checked = [_word(number) for number in numbers]
+    return (ctypes.c_uint32 * max(1, len(checked)))(*checked), ctypes.c_size_t(len(checked))
+
+
+def _library():
+    here = os.path.dirname(os.path.abspath(__file__))
+    name = "libsheetdesk_c.so.%d" % VERSION
+    places = [os.path.join(here, "..", "..", "lib", name), os.path.join(here, "..", "target", "shared", name)]
+    path = os.environ.get("SHEETDESK_LIBRARY") or next(filter(os.path.exists, places), name)
+    library = ctypes.CDLL(path)
+    for call in "new open fetch evict prepare step issue drop look covers merge".split():
+        getattr(library, "sheetdesk_" + call).restype = ctypes.c_uint32
+    return library
+
+
+_calls = _library()
+
+
+class Desk:
+    """A desk over its own words: so many, all zero, or a list of words saved from another."""
+
+    def __init__(self, content):
+        self._words, self._len = _array([0] * content if isinstance(content, int) else content)
+
+    def words(self):
+        """The words as a list, to be saved."""
+        return list(self._words[: self._len.value])
+
+    def _call(self, name, *arguments):
+        answer = (ctypes.c_uint32 * ANSWER_WORDS)()
+        checked = [a if isinstance(a, (ctypes.Array, ctypes.c_size_t)) else ctypes.c_uint32(_word(a)) for a in arguments]
+        call = getattr(_calls, "sheetdesk_" + name)
+        count = call(self._words, self._len, *checked, answer, ctypes.c_size_t(ANSWER_WORDS))
+        return Answer(("ok", "broken", "refused")[answer[0]], tuple(answer[1:count]))
+
+    def new(self, sheets, writers, offices, runs):
+        return self._call("new", sheets, writers, offices, runs)
+
+    def open(self, run, jobs):
+        return self._call("open", run, *_array(number for job in jobs for number in job))
+
+    def fetch(self, office, sheet):
+        return self._call("fetch", office, sheet)
+
+    def evict(self, office, sheet):
+        return self._call("evict", office, sheet)
+
+    def prepare(self, run):
+        return self._call("prepare", run)
+
+    def step(self, run, job):
+        return self._call("step", run, job)
+
+    def issue(self, run, writer, mask):
+        return self._call("issue", run, writer, mask)
+
+    def drop(self, run):
+        return self._call("drop", run)
+
+    def look(self, place, sheet):
+        """At MASTER, shelf(office) or card(run)."""
+        kind, number = place
+        return self._call("look", kind, number, sheet)
+
+
+def covers(p, q):
+    """Whether clock p covers clock q; None if the lengths differ or exceed 16."""
+    return {0: False, 1: True}.get(_calls.sheetdesk_covers(*_array(p), *_array(q)))
+
+
+def merge(target, source):
+    """The larger of the two counts at each place, as a list; None if the lengths differ."""
+    into, length = _array(target)
+    if _calls.sheetdesk_merge(into, length, *_array(source)) != 1:
+        return None
+    return list(into[: length.value])

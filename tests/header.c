@@ -1,0 +1,73 @@
+/* The C header's promises: the size of a desk before it is lent, for all counts, and what words of another layout get.
+ * Prints what went wrong and exits 1, or what was tried. */
+#include <stdio.h>
+#include <string.h>
+
+#include "../embed/sheetdesk.h"
+
+#define ANSWER answer, SHEETDESK_ANSWER_WORDS
+
+static uint32_t desk[SHEETDESK_MOST_WORDS];
+static uint32_t answer[SHEETDESK_ANSWER_WORDS];
+
+/* Whether the last call was refused with the number. */
+static int refused(uint32_t count, uint32_t number)
+{
+    return count == 2 && answer[0] == SHEETDESK_REFUSED && answer[1] == number;
+}
+
+/* New takes just so many words, and not one less. */
+static int size_fits(uint32_t k, uint32_t w, uint32_t n, uint32_t p)
+{
+    size_t words = SHEETDESK_WORDS(k, w, n, p);
+
+    if (words == 0)
+        return refused(sheetdesk_new(desk, SHEETDESK_MOST_WORDS, k, w, n, p, ANSWER), SHEETDESK_BAD_COUNT);
+    return refused(sheetdesk_new(desk, words - 1, k, w, n, p, ANSWER), SHEETDESK_NOT_IN_FORM)
+        && sheetdesk_new(desk, words, k, w, n, p, ANSWER) == 2 && answer[0] == SHEETDESK_OK && answer[1] == words;
+}
+
+/* All counts from 0 to one above the largest. */
+static int sizes_fit(void)
+{
+    uint32_t k, w, n, p;
+
+    for (k = 0; k <= 33; k++)
+        for (w = 0; w <= 17; w++)
+            for (n = 0; n <= 9; n++)
+                for (p = 0; p <= 9; p++)
+                    if (!size_fits(k, w, n, p)) {
+                        printf("header: wrong size of %u %u %u %u\n", k, w, n, p);
+                        return 0;
+                    }
+    return SHEETDESK_WORDS(32, 16, 8, 8) == SHEETDESK_MOST_WORDS && SHEETDESK_WORDS(-1, 1, 1, 1) == 0;
+}
+
+/* A desk of two sheets and writers whose versions have a word more: counts, offsets and total of that layout. */
+static int other_layout_refused(void)
+{
+    static const uint32_t job[] = {0, 0, 0};
+    static uint32_t before[100];
+    uint32_t other[100] = {2, 2, 1, 1, 0, 10, 22, 34, 44, 84};
+    int good;
+
+    memcpy(before, other, sizeof other);
+    good = refused(sheetdesk_open(other, 100, 0, job, 3, ANSWER), SHEETDESK_NOT_IN_FORM)
+        && refused(sheetdesk_fetch(other, 100, 0, 0, ANSWER), SHEETDESK_NOT_IN_FORM)
+        && refused(sheetdesk_evict(other, 100, 0, 0, ANSWER), SHEETDESK_NOT_IN_FORM)
+        && refused(sheetdesk_prepare(other, 100, 0, ANSWER), SHEETDESK_NOT_IN_FORM)
+        && refused(sheetdesk_step(other, 100, 0, 0, ANSWER), SHEETDESK_NOT_IN_FORM)
+        && refused(sheetdesk_issue(other, 100, 0, 0, 0, ANSWER), SHEETDESK_NOT_IN_FORM)
+        && refused(sheetdesk_drop(other, 100, 0, ANSWER), SHEETDESK_NOT_IN_FORM)
+        && refused(sheetdesk_look(other, 100, 0, 0, 0, ANSWER), SHEETDESK_NOT_IN_FORM);
+    return good && memcmp(before, other, sizeof other) == 0;
+}
+
+int main(void)
+{
+    if (!sizes_fit() || !other_layout_refused()) {
+        puts("header: a promise of sheetdesk.h isn't kept");
+        return 1;
+    }
+    return 0;
+}

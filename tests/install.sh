@@ -1,0 +1,75 @@
+#!/usr/bin/env bash
+# `make install` in a copy of the checkout, with an rt that proves nothing (tests/fake/rt) and what is built here; then the
+# installed command, and the examples by the lines that README.md shows, without a prover.
+# Usage, after `rt check` and `rt staticlib sheetdesk_c`: tests/install.sh
+set -u
+cd "$(dirname "$0")/.." || exit 2
+REAL=$PWD
+work=$(mktemp -d) || exit 2
+trap 'rm -rf "$work"' EXIT
+export REAL FAKE="$work/fake"
+prefix=$work/prefix
+
+bad() {
+  echo "install: $1"
+  [ ! -s "$work/log" ] || tail -n 5 "$work/log"
+  exit 1
+}
+
+mkdir -p "$FAKE" "$work/a copy" "$work/use" || exit 2
+cp -R Makefile README.md sheetdesk tools embed docs crates crates.txt "$work/a copy/" || exit 2
+make=(make -s -C "$work/a copy")
+command -v make >/dev/null || make=(bash "$work/a copy/tools/install.sh")
+
+# As make does it, where there is no make.
+made() {
+  if [ "${make[0]}" = make ]; then "${make[@]}" "$1" PREFIX="$prefix"; else "${make[@]}" build && "${make[@]}" "$1" "$prefix"; fi
+}
+
+PATH=$REAL/tests/fake:$PATH made install >"$work/log" 2>&1 || bad "make install failed"
+: >"$FAKE/calls"
+PATH=$REAL/tests/fake:$PATH made install >"$work/log" 2>&1 || bad "make install failed the second time"
+[ ! -s "$FAKE/calls" ] || bad "make install proves again what hasn't changed"
+rm -rf "$work/a copy"
+
+# Nothing is left of the checkout, and there is no rt.
+without() {
+  local folder path=
+  for folder in $(echo "$PATH" | tr ':' ' '); do [ -x "$folder/rt" ] || path=$path:$folder; done
+  echo "${path#:}"
+}
+PATH=$prefix/bin:$(without)
+sheetdesk --strict scripts/case-a.txt >"$work/out" 2>"$work/log"
+[ $? -eq 1 ] && cmp -s "$work/out" scripts/case-a.out || bad "the installed command doesn't answer case A"
+[ "$(sheetdesk --version)" = "sheetdesk 1, layout 1, toolchain fake-kit" ] || bad "the installed command's version: $(sheetdesk --version)"
+sheetdesk --man | grep -q "^REFUSALS" || bad "the installed command has no page"
+
+# link WORD EXAMPLE: README's line that starts with the word, on the example, which must answer case A.
+link() {
+  local line
+  line=$(sed -n "s/^    \($1 .*\)/\1/p" README.md | head -n 1)
+  [ -n "$line" ] || bad "README.md shows no line for $1"
+  (cd "$work/use" && PREFIX=$prefix PKG_CONFIG_PATH=$prefix/lib/pkgconfig bash -c "$line") >"$work/log" 2>&1 || bad "$line"
+  (cd "$work/use" && LD_LIBRARY_PATH=$prefix/lib ./desk) >"$work/log" 2>&1 || bad "what '$line' made doesn't answer case A"
+  rm -f "$work/use/desk"
+}
+
+cp "$prefix/share/sheetdesk/example.c" "$work/use/desk.c" && cp "$prefix/share/sheetdesk/example.rs" "$work/use/desk.rs" &&
+  cp "$prefix/share/sheetdesk/sheetdesk.rs" "$work/use/" || exit 2
+cat >"$work/use/desk.cpp" <<'END'
+#include <sheetdesk.h>
+#include <vector>
+int main() {
+    std::vector<uint32_t> desk(SHEETDESK_WORDS(2, 2, 2, 1)), answer(SHEETDESK_ANSWER_WORDS);
+    auto count = sheetdesk_new(desk.data(), desk.size(), 2, 2, 2, 1, answer.data(), answer.size());
+    return count == 2 && answer[0] == SHEETDESK_OK && answer[1] == desk.size() ? 0 : 1;
+}
+END
+tried="rustc"
+link rustc
+if command -v pkg-config >/dev/null; then
+  link gcc && tried="$tried, gcc"
+  ! command -v g++ >/dev/null || { link g++ && tried="$tried, g++"; }
+fi
+PYTHONDONTWRITEBYTECODE=1 python3 "$prefix/share/sheetdesk/example.py" >"$work/log" 2>&1 || bad "example.py as installed"
+echo "install: program, libraries, header and pkg-config file in their places; linked by README's lines: $tried; python3"

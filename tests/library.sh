@@ -1,0 +1,67 @@
+#!/usr/bin/env bash
+# What an embedder reads in header and wrappers: versions, sizes, whose memory it is, names, and answers as text.
+# Usage, after `rt staticlib sheetdesk_c`: tests/library.sh [TRIAL..], all trials without one.
+set -u
+cd "$(dirname "$0")/.." || exit 2
+out=target/library
+mkdir -p "$out" || exit 2
+
+bad() {
+  echo "library: $1"
+  exit 1
+}
+
+# The versions and sizes are the same in header, Rust, Python and text.
+trial_versions() {
+  local name due
+  for name in VERSION LAYOUT ANSWER_WORDS MOST_WORDS; do
+    due=$(sed -n "s/^#define SHEETDESK_$name //p" embed/sheetdesk.h)
+    [ -n "$due" ] || bad "the header has no SHEETDESK_$name"
+    [ "$(sed -n "s/^pub const $name: .* = \(.*\);/\1/p" embed/sheetdesk.rs | tr -d _)" = "$due" ] || bad "sheetdesk.rs: $name"
+    [ "$(sed -n "s/^$name = //p" embed/sheetdesk.py)" = "$due" ] || bad "sheetdesk.py: $name"
+  done
+  [ "$(sed -n 's/^#define SHEETDESK_ANSWER_WORDS //p' embed/sheetdesk.h)" -eq 40 ] || bad "an answer's slice isn't 40 words"
+  for name in VERSION LAYOUT; do
+    grep -q "SHEETDESK_$name.* rises" embed/README.md || bad "embed/README.md doesn't say when SHEETDESK_$name rises"
+  done
+}
+
+# The header says it all in one paragraph.
+trial_memory() {
+  local text
+  text=$(sed -n '/^ \* Whose memory it is/,/^ \*$/p' embed/sheetdesk.h | sed 's/^ \* //' | paste -sd ' ')
+  for words in "caller owns both buffers" "keeps no pointer" "nobody else may write the desk" "only answer" "hold no pointer" \
+    "saved to a file" "byte order" "another layout gets a refusal"; do
+    case $text in *"$words"*) ;; *) bad "the header's paragraph on memory lacks '$words'" ;; esac
+  done
+}
+
+trial_header() {
+  gcc -std=c99 -O2 -Wall -Wextra -Werror -pedantic -o "$out/header" tests/header.c -L target/staticlib -lsheetdesk_c ||
+    bad "tests/header.c"
+  "$out/header" || exit 1
+}
+
+trial_wrapper() {
+  rustc --edition 2021 -O -D warnings -o "$out/wrapper" tests/wrapper.rs -L native=target/staticlib -l static=sheetdesk_c ||
+    bad "tests/wrapper.rs"
+  "$out/wrapper" || exit 1
+}
+
+# Python on a grid of sizes.
+trial_python() {
+  CC=gcc sh tools/shared.sh || bad "tools/shared.sh"
+  PYTHONDONTWRITEBYTECODE=1 PYTHONPATH=embed python3 - <<'END' || bad "sheetdesk.py: a size isn't what new answers"
+import itertools, sys
+from sheetdesk import Desk, words
+grid = itertools.product((0, 1, 2, 7, 33), (0, 1, 3, 17), (0, 1, 8, 9), (0, 1, 8, 9))
+sys.exit(any(str(Desk(words(*c)).new(*c)) != ("ok %d" % words(*c) if words(*c) else "refused 2") for c in grid))
+END
+}
+
+trials=("$@")
+[ $# -gt 0 ] || trials=(versions memory header wrapper python)
+for trial in "${trials[@]}"; do
+  (trial_"$trial") || exit 1
+done
+echo "library: versions, sizes of all counts, memory, refusals' names and printed answers as header and wrappers say"

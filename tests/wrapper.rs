@@ -1,0 +1,85 @@
+//! The Rust wrapper's promises: the size of a desk before it is lent, names of refusals, and answers printed as the
+//! program prints them, over the golden scripts. Prints what went wrong and exits 1, or what was tried.
+
+#[path = "../embed/sheetdesk.rs"]
+mod sheetdesk;
+
+use sheetdesk::{words, Answer, Desk, Job, Place, Refusal, MOST_WORDS};
+use std::{fs, process::exit};
+
+/// New takes just as many words as `words` says, and not one less, for all counts from 0 to one above the largest.
+fn sizes() -> bool {
+    let mut room = vec![0; MOST_WORDS];
+    let mut fits = |k, w, n, p| {
+        let size = words(k, w, n, p);
+        if size == 0 {
+            return Desk::lend(&mut room).new(k, w, n, p) == Answer::Refused(Refusal::BadCount);
+        }
+        let less = Desk::lend(&mut room[..size - 1]).new(k, w, n, p);
+        let just = Desk::lend(&mut room[..size]).new(k, w, n, p);
+        less == Answer::Refused(Refusal::NotInForm) && just.ok() == Some(&[size as u32])
+    };
+    (0..=33).all(|k| (0..=17).all(|w| (0..=9).all(|n| (0..=9).all(|p| fits(k, w, n, p)))))
+}
+
+/// A name for each number of the refusal table, and each number back.
+fn refusals() -> bool {
+    let named = |number| !matches!(Refusal::of(number), Refusal::Other(_));
+    (0..40).all(|number| Refusal::of(number).number() == number && named(number) == (1..=10).contains(&number))
+}
+
+/// Makes the call of a line; nothing for a line that the wrapper has no form for.
+fn call(desk: &mut Desk, line: &str) -> Option<Answer> {
+    let (name, rest) = line.split_once(' ')?;
+    let numbers = rest.split(' ').map(|word| word.parse().ok()).collect::<Option<Vec<u32>>>()?;
+    Some(match (name, numbers.as_slice()) {
+        ("new", &[k, w, n, p]) => desk.new(k, w, n, p),
+        ("open", [run, list @ ..]) if list.len() % 3 == 0 => {
+            let job = |three: &[u32]| Job { office: three[0], reads: three[1], upstream: three[2] };
+            desk.open(*run, &list.chunks(3).map(job).collect::<Vec<Job>>())
+        }
+        ("fetch", &[office, sheet]) => desk.fetch(office, sheet),
+        ("evict", &[office, sheet]) => desk.evict(office, sheet),
+        ("prepare", &[run]) => desk.prepare(run),
+        ("step", &[run, job]) => desk.step(run, job),
+        ("issue", &[run, writer, mask]) => desk.issue(run, writer, mask),
+        ("drop", &[run]) => desk.drop(run),
+        ("look", &[0, 0, sheet]) => desk.look(Place::Master, sheet),
+        ("look", &[1, office, sheet]) => desk.look(Place::Shelf(office), sheet),
+        ("look", &[2, run, sheet]) => desk.look(Place::Card(run), sheet),
+        _ => return None,
+    })
+}
+
+/// How many lines of the golden scripts were answered, each as its file says.
+fn golden() -> Option<usize> {
+    let mut lines = 0;
+    for entry in fs::read_dir("scripts").ok()? {
+        let path = entry.ok()?.path();
+        if path.extension().map_or(true, |end| end != "txt") {
+            continue;
+        }
+        let Ok(script) = fs::read_to_string(&path) else { continue };
+        let due = fs::read_to_string(path.with_extension("out")).ok()?;
+        // The program's desk.
+        let mut room = vec![0; 16384];
+        let mut desk = Desk::lend(&mut room);
+        for (line, due) in script.lines().zip(due.lines()).filter(|pair| pair.1 != "unread") {
+            let Some(answer) = call(&mut desk, line) else { continue };
+            if answer.to_string() != due {
+                println!("wrapper: {}: {line}: {answer}, due {due}", path.display());
+                return None;
+            }
+            lines += 1;
+        }
+    }
+    Some(lines)
+}
+
+fn main() {
+    let lines = golden().unwrap_or(0);
+    if lines < 500 || !sizes() || !refusals() {
+        println!("wrapper: a promise of sheetdesk.rs isn't kept ({lines} golden lines answered)");
+        exit(1);
+    }
+}
