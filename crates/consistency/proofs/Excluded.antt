@@ -16,7 +16,7 @@ use Rattle.words.proofs.Bools.{clash}
 use Rattle.masks.specs.Mask.{testBit, withBit, withIf, maskBelow}
 use Rattle.reach.specs.Closure.{closure, rounds, round}
 use Rattle.clock.specs.Clock.{dominates, present, join}
-use Rattle.sizes.specs.Bounds.{countsOf, between, ranged, pastSize, versionSize, placeSize, siteSize, writerSize, runSize, masterAt, sitesAt, writersAt, runsAt, totalOf}
+use Rattle.sizes.specs.Bounds.{countsOf, between, ranged, pastSize, versionSize, placeSize, siteSize, writerSize, runSize, masterAt, sitesAt, writersAt, runsAt, tailSize, tailAt, totalOf}
 use Rattle.model.specs.Algebra.{Place, lacking, needsMet}
 use Rattle.model.specs.Version.{Version, held, dependency, supersedes, larger, merge, versions}
 use Rattle.model.specs.Sets.{draws, drawSet, fetchSet, fetched, unfetchable, pullSet, pulled}
@@ -28,8 +28,8 @@ use Rattle.model.specs.Step.{readStart, stepSite, stepReads, stepStart, stepFet
 use Rattle.model.specs.Issue.{raiseCause, issueCause, takenIn, rowsSet, newPast, newVersion, issuedMaster, issuedWriter, savedStore, issuedStore, issuedNumber, issueDone, issueRule}
 use Rattle.model.specs.Calls.{openRun, step, issue, dropRun, ruleOf}
 use Rattle.model.proofs.Cuts.{needsMet-at}
-use Rattle.layout.specs.Words.{clockWords, pastWords, versionWords, placeWords, siteWords, sitesWords, writerWords, writersWords, jobWords, jobsWords, runWords, runsWords, headerWords, storeWords}
-use Rattle.layout.specs.Reading.{readClock, readPast, readVersion, readPlace, readSite, readWriter, readJob, readJobs, readRun, countsIn, storeOf}
+use Rattle.layout.specs.Words.{clockWords, pastWords, versionWords, placeWords, siteWords, sitesWords, writerWords, writersWords, jobWords, jobsWords, runWords, runsWords, tailWords, headerWords, storeWords}
+use Rattle.layout.specs.Reading.{readClock, readPast, readVersion, readPlace, readSite, readWriter, readJob, readJobs, readRun, readTail, countsIn, storeOf}
 use Rattle.layout.specs.Buffer.{written, headerRight, shaped, inForm}
 use Rattle.layout.specs.Calls.{Call, on, newCause, newOn, onStore, callOn, leaves, isOk}
 use Rattle.history.specs.History.{History, writerOf, saved, leads, inPast, HappensBefore.together}
@@ -131,7 +131,8 @@ pub record Computed : Type 0 where
 pub computed : Computed
 unfolding anyBelow allBelow only foldBelow countBelow largest when putAt upto blocks testBit
     withBit withIf maskBelow closure rounds round dominates present join between ranged pastSize
-    versionSize placeSize siteSize writerSize runSize masterAt sitesAt writersAt runsAt totalOf
+    versionSize placeSize siteSize writerSize runSize masterAt sitesAt writersAt runsAt
+    tailSize tailAt totalOf
     lacking held dependency supersedes larger merge draws drawSet fetchSet fetched unfetchable
     pullSet pulled fresh planned doneReads withMaster withLast withSites
     withCache withWriter withRun withState withJobDone zeroRows versionFormed
@@ -142,8 +143,8 @@ unfolding anyBelow allBelow only foldBelow countBelow largest when putAt upto bl
     notReady jobCause stepCause stepBroken stepDone stepRule raiseCause issueCause takenIn rowsSet
     newPast newVersion issuedMaster issuedWriter savedStore issuedStore issuedNumber issueDone
     issueRule ruleOf clockWords pastWords versionWords placeWords siteWords sitesWords
-    writerWords writersWords jobWords jobsWords runWords runsWords headerWords storeWords
-    readClock readPast readVersion readPlace readSite readWriter readJob readJobs readRun
+    writerWords writersWords jobWords jobsWords runWords runsWords tailWords headerWords storeWords
+    readClock readPast readVersion readPlace readSite readWriter readJob readJobs readRun readTail
     countsIn storeOf written headerRight shaped inForm newCause newOn onStore callOn leaves isOk
     writerOf leads inPast reaches heldCopy needsCopy meetsCopy union lastIn byWriter counted
     freshBook withBookCaches withBookRun bookOpen bookStepJob entry bookIssue bookIssued
