@@ -3,12 +3,12 @@
 use borrow.Author.Needs.{needs}
 use Prim.Native.Nat.{_≤_}
 use native.Mathlib.Omega.{arith}
-use Rattle.sizes.specs.Bounds.{runAt, sizesOf}
+use Rattle.sizes.specs.Bounds.{maxTotal, runAt, sizesOf}
 use Rattle.sizes.proofs.Offsets.{ordered, run-lies}
 use Rattle.sizes.proofs.Counts.run_at.Statement.{statement}
 use Rattle.sizes.proofs.Counts.run_at.Tie as tie
 
-low : (c : tie.Start) → runAt (c .args .self) (c .args .r) ≤ 287514
+low : (c : tie.Start) → runAt (c .args .self) (c .args .r) ≤ maxTotal
 low c =
     let z = c .args .self in
     omega (arith, ordered z (c .pre .0), run-lies z (c .args .r) (c .pre .1))

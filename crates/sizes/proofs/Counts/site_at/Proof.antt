@@ -3,12 +3,12 @@
 use borrow.Author.Needs.{needs}
 use Prim.Native.Nat.{_≤_}
 use native.Mathlib.Omega.{arith}
-use Rattle.sizes.specs.Bounds.{siteAt, sizesOf}
+use Rattle.sizes.specs.Bounds.{maxTotal, siteAt, sizesOf}
 use Rattle.sizes.proofs.Offsets.{ordered, site-lies}
 use Rattle.sizes.proofs.Counts.site_at.Statement.{statement}
 use Rattle.sizes.proofs.Counts.site_at.Tie as tie
 
-low : (c : tie.Start) → siteAt (c .args .self) (c .args .o) ≤ 287514
+low : (c : tie.Start) → siteAt (c .args .self) (c .args .o) ≤ maxTotal
 low c =
     let z = c .args .self in
     omega (arith, ordered z (c .pre .0), site-lies z (c .args .o) (c .pre .1))

@@ -3,12 +3,12 @@
 use borrow.Author.Needs.{needs}
 use Prim.Native.Nat.{_≤_}
 use native.Mathlib.Omega.{arith}
-use Rattle.sizes.specs.Bounds.{writerAt, sizesOf}
+use Rattle.sizes.specs.Bounds.{maxTotal, writerAt, sizesOf}
 use Rattle.sizes.proofs.Offsets.{ordered, writer-lies}
 use Rattle.sizes.proofs.Counts.writer_at.Statement.{statement}
 use Rattle.sizes.proofs.Counts.writer_at.Tie as tie
 
-low : (c : tie.Start) → writerAt (c .args .self) (c .args .u) ≤ 287514
+low : (c : tie.Start) → writerAt (c .args .self) (c .args .u) ≤ maxTotal
 low c =
     let z = c .args .self in
     omega (arith, ordered z (c .pre .0), writer-lies z (c .args .u) (c .pre .1))
