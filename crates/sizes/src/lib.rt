@@ -8,7 +8,7 @@ use past::VersionOffset;
 use past::WriterOffset;
 use run::RunOffset;
 ghost use mathlib.Core.Path.{_≡_};
-ghost use Prim.Native.Nat.{_<_, _^_};
+ghost use Prim.Native.Nat.{_+_, _*_, _<_, _^_};
 ghost use Rattle.sizes.specs.Bounds.{between, ranged, Ranged, countsOf, sizesOf, maxKeys, maxWriters, maxSites, maxRuns, maxJobs, placeLimit, versionLimit, everyJob, jobSize, pastSize, versionSize, placeSize, siteSize, writerSize, runSize, siteAt, writerAt, runAt, snapshotAt, jobAt, keyAt, rowAt, writerRowAt};
 
 // Sheets, writers, offices and runs (document 01: K, W, N, P).
@@ -81,6 +81,14 @@ pub fn is_between(x: usize, top: usize) -> bool
     ensures { λ r. ⌜ r ≡ between top x ⌝ }
 {
     (1 <= x) & (x <= top)
+}
+
+// Where part i begins, of parts of one size from an index on.
+fn nth(first: usize, size: usize, i: usize) -> usize
+    requires { ⌜ first + i * size < versionLimit ⌝ }
+    ensures { λ r. ⌜ r ≡ first + i * size ⌝ }
+{
+    first + i * size
 }
 
 // Where job i begins in the jobs at an index.
@@ -166,8 +174,7 @@ impl Counts {
         ensures { λ r. ⌜ r ≡ siteAt self o ⌝ }
     {
         let areas = self.areas();
-        let v = self.site_size();
-        areas.sites + o * v
+        nth(areas.sites, self.site_size(), o)
     }
 
     // Where writer u begins.
@@ -177,8 +184,7 @@ impl Counts {
         ensures { λ r. ⌜ r ≡ writerAt self u ⌝ }
     {
         let areas = self.areas();
-        let v = self.writer_size();
-        areas.writers + u * v
+        nth(areas.writers, self.writer_size(), u)
     }
 
     // Where run r begins.
@@ -188,8 +194,7 @@ impl Counts {
         ensures { λ at. ⌜ at ≡ runAt self r ⌝ }
     {
         let areas = self.areas();
-        let v = self.run_size();
-        areas.runs + r * v
+        nth(areas.runs, self.run_size(), r)
     }
 
     // Where the snapshot of run r begins.
@@ -207,8 +212,7 @@ impl Counts {
         requires { ⌜ (at < placeLimit) × (k < self .keys) ⌝ }
         ensures { λ r. ⌜ r ≡ keyAt self at k ⌝ }
     {
-        let v = self.version_size();
-        at + k * v
+        nth(at, self.version_size(), k)
     }
 
     // Where row d begins in the version at an index.
