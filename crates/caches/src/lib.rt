@@ -7,20 +7,17 @@ use sets::fetch_keys;
 use sizes::Counts;
 use version::held;
 ghost use mathlib.Core.Path.{_≡_};
-ghost use mathlib.Core.Bool.{So, _||_};
-ghost use lib.Dec.{leb};
+ghost use mathlib.Core.Bool.{So};
 ghost use Rattle.model.specs.Outcome.{answer};
-ghost use Rattle.model.specs.Caches.{fetchCause, evictCause};
 ghost use Rattle.model.specs.Calls.{fetch, evict};
-ghost use Rattle.layout.specs.Reading.{storeOf};
 ghost use Rattle.layout.specs.Buffer.{inForm};
 ghost use Rattle.layout.specs.Calls.{on, callOn, leaves};
-ghost use Rattle.form.specs.Parts.{FormWith};
+ghost use Rattle.caches.specs.Range.{outOfRange};
 ghost use Rattle.answers.specs.Answers.{answeredWords};
 
 // Whether there is no such site or no such key.
 fn out_of_range(z: Counts, site: usize, key: usize) -> bool
-    ensures { λ r. ⌜ r ≡ leb (z .sites) site || leb (z .keys) key ⌝ }
+    ensures { λ r. ⌜ r ≡ outOfRange z site key ⌝ }
 {
     (z.sites <= site) | (z.keys <= key)
 }
@@ -37,30 +34,17 @@ pub fn fetch(words: &mut [u32], site: u32, key: u32) -> Answered
     let z = counts(words);
     let o = site as usize;
     let k = key as usize;
-    let cause = fetch_cause(words, z, o, k);
-    if cause != 0 {
-        return Answered::Refused(cause);
+    if out_of_range(z, o, k) {
+        return Answered::Refused(3);
     }
     let areas = z.areas();
+    if !held(words, z, areas.master, k) {
+        return Answered::Refused(7);
+    }
     let at = z.site_at(o);
     let wanted = with_item(0, key);
     let taken = fetch_keys(words, z, areas.master, at, wanted);
     Answered::Done(taken)
-}
-
-// The first cause for which a fetch is refused, or 0.
-fn fetch_cause(words: &[u32], z: Counts, site: usize, key: usize) -> u32
-    requires { ⌜ FormWith (now words) z ⌝ }
-    ensures { λ r. ⌜ r ≡ fetchCause (storeOf (now (words .entry))) site key ⌝ }
-{
-    if out_of_range(z, site, key) {
-        return 3;
-    }
-    let areas = z.areas();
-    if !held(words, z, areas.master, key) {
-        return 7;
-    }
-    0
 }
 
 // A key leaves a site's cache, and with it the keys whose versions need it. Answers the mask of
@@ -75,27 +59,14 @@ pub fn evict(words: &mut [u32], site: u32, key: u32) -> Answered
     let z = counts(words);
     let o = site as usize;
     let k = key as usize;
-    let cause = evict_cause(words, z, o, k);
-    if cause != 0 {
-        return Answered::Refused(cause);
+    if out_of_range(z, o, k) {
+        return Answered::Refused(3);
     }
     let at = z.site_at(o);
+    if !held(words, z, at, k) {
+        return Answered::Refused(8);
+    }
     let unwanted = with_item(0, key);
     let gone = evict_keys(words, z, at, unwanted);
     Answered::Done(gone)
-}
-
-// The first cause for which an evict is refused, or 0.
-fn evict_cause(words: &[u32], z: Counts, site: usize, key: usize) -> u32
-    requires { ⌜ FormWith (now words) z ⌝ }
-    ensures { λ r. ⌜ r ≡ evictCause (storeOf (now (words .entry))) site key ⌝ }
-{
-    if out_of_range(z, site, key) {
-        return 3;
-    }
-    let at = z.site_at(site);
-    if !held(words, z, at, key) {
-        return 8;
-    }
-    0
 }

@@ -13,7 +13,7 @@ use Rattle.words.specs.Words.{put}
 use Rattle.words.specs.Lists.{blocks}
 use Rattle.sizes.specs.declared.Counts.{Counts}
 use Rattle.sizes.specs.declared.Sizes.{Sizes}
-use Rattle.sizes.specs.Bounds.{snapshotOffset, pastSize, versionSize, placeSize, siteSize, writerSize, runSize, masterAt, sitesAt, writersAt, runsAt, totalOf}
+use Rattle.sizes.specs.Bounds.{headerSize, writerPastOffset, snapshotOffset, pastSize, versionSize, placeSize, siteSize, writerSize, runSize, masterAt, sitesAt, writersAt, runsAt, totalOf}
 use Rattle.model.specs.Version.{zeroPast, unheld}
 use Rattle.model.specs.Store.{emptyPlace, noWriter, noSite, freeRun, fresh}
 use Rattle.layout.specs.Words.{clockWords, pastWords, versionWords, placeWords, siteWords, sitesWords, writerWords, writersWords, jobWords, jobsWords, runWords, runsWords, headerWords, storeWords}
@@ -73,7 +73,7 @@ module _ (z : Counts) where
   writers-zero : writersWords z (λ w. noWriter) ≡ zeros (z .writers * writerSize z)
   unfolding writersWords writerWords writerSize
   writers-zero =
-      zero-blocks (z .writers) (1 + pastSize z) (0 ∷ pastWords z zeroPast)
+      zero-blocks (z .writers) (writerPastOffset + pastSize z) (0 ∷ pastWords z zeroPast)
       (zero-cons (pastWords z zeroPast) (pastSize z) past-zero)
 
   run-zero : runWords z freeRun ≡ zeros (runSize z)
@@ -95,7 +95,7 @@ next h x y m n p q =
     ∙ append-assoc h (zeros m) (zeros n)
     ∙ ap (λ (t : List ℕ). h ++ t) (replicate-append-replicate m n 0)
 
-pub fresh-words : (z : Counts) (n : ℕ) → totalOf z ≡ 10 + n
+pub fresh-words : (z : Counts) (n : ℕ) → totalOf z ≡ headerSize + n
     → storeWords (fresh z) ≡ headerWords z 0 ++ zeros n
 unfolding fresh storeWords totalOf runsAt writersAt sitesAt masterAt
 fresh-words z n e =
@@ -120,9 +120,10 @@ filled l n h =
     ∙ sets-eq (zeros n) l 0 (omega arith)
     ∙ ap (λ (j : ℕ). zeros n ++ drop j l) k
 
--- The header over the first ten of them.
+-- The header over the first of them.
 headed : (z : Counts) (n : ℕ) (rest : List ℕ)
-    → sets (zeros 10 ++ zeros n ++ rest) 0 (headerWords z 0) ≡ headerWords z 0 ++ zeros n ++ rest
+    → sets (zeros headerSize ++ zeros n ++ rest) 0 (headerWords z 0)
+    ≡ headerWords z 0 ++ zeros n ++ rest
 unfolding headerWords
 headed z n rest = refl
 
@@ -132,12 +133,12 @@ unfolding written fresh
 fresh-stored l m n z at R p q =
     let t = totalOf z in
     let same = total-is z at (R .sizes) in
-    let k = t - 10 in
+    let k = t - headerSize in
     let rest = drop t l in
-    let e : t ≡ 10 + k = omega (arith, R) in
-    let split : zeros t ≡ zeros 10 ++ zeros k =
-    ap zeros e ∙ sym (replicate-append-replicate 10 k 0) in
-    let whole : m ≡ zeros 10 ++ zeros k ++ rest =
+    let e : t ≡ headerSize + k = omega (arith, R) in
+    let split : zeros t ≡ zeros headerSize ++ zeros k =
+    ap zeros e ∙ sym (replicate-append-replicate headerSize k 0) in
+    let whole : m ≡ zeros headerSize ++ zeros k ++ rest =
     p ∙ ap (λ (j : ℕ). put l 0 j (λ _. 0)) same
     ∙ filled l t (omega (arith, R .fits)) ∙ ap (λ (x : List ℕ). x ++ rest) split in
     q ∙ ap (λ (x : List ℕ). sets x 0 (headerWords z 0)) whole

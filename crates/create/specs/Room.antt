@@ -4,17 +4,17 @@ use mathlib.Core.Path.{_≡_}
 use Prim.Native.Nat.{ℕ, _≤_}
 use Rattle.sizes.specs.declared.Counts.{Counts}
 use Rattle.sizes.specs.declared.Sizes.{Sizes}
-use Rattle.sizes.specs.Bounds.{Ranged, sizesOf}
+use Rattle.sizes.specs.Bounds.{maxTotal, headerSize, Ranged, sizesOf}
 
 -- Counts in range and their sizes: the areas follow each other, and a buffer of len words has room
 -- for them.
 pub record Room (len : ℕ) (z : Counts) (at : Sizes) : Type 0 where
   pub counts : Ranged z
   pub sizes : at ≡ sizesOf z
-  pub master-in : 10 ≤ at .master
+  pub master-in : headerSize ≤ at .master
   pub sites-in : at .master ≤ at .sites
   pub writers-in : at .sites ≤ at .writers
   pub runs-in : at .writers ≤ at .runs
   pub total-in : at .runs ≤ at .total
-  pub top : at .total ≤ 287514
+  pub top : at .total ≤ maxTotal
   pub fits : at .total ≤ len

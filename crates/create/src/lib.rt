@@ -2,12 +2,13 @@
 use answers::Answered;
 use sizes::Counts;
 use sizes::Sizes;
+use sizes::header::HeaderOffset;
 use words::wide;
 ghost use mathlib.Core.Path.{_≡_};
-ghost use Prim.Native.Nat.{_<_};
+ghost use Prim.Native.Nat.{_≤_};
 ghost use lib.ListN.{length};
 ghost use lib.Seq.{sets};
-ghost use Rattle.sizes.specs.Bounds.{Ranged, countsOf, sizesOf, totalOf};
+ghost use Rattle.sizes.specs.Bounds.{maxTotal, Ranged, countsOf, sizesOf, totalOf};
 ghost use Rattle.model.specs.Store.{fresh};
 ghost use Rattle.model.specs.Outcome.{answer};
 ghost use Rattle.layout.specs.Words.{headerWords};
@@ -59,21 +60,21 @@ fn store_fresh(words: &mut [u32], z: Counts) -> u32
     narrow(at.total)
 }
 
-// The ten words of the header.
+// The header.
 fn store_header(words: &mut [u32], z: Counts, at: Sizes)
     requires { ⌜ Room (length (now words)) z at ⌝ }
     ensures { λ _. ⌜ now (words .exit) ≡ sets (now (words .entry)) 0 (headerWords z 0) ⌝ }
 {
-    words[0] = narrow(z.keys);
-    words[1] = narrow(z.writers);
-    words[2] = narrow(z.sites);
-    words[3] = narrow(z.runs);
-    words[4] = 0;
-    words[5] = narrow(at.master);
-    words[6] = narrow(at.sites);
-    words[7] = narrow(at.writers);
-    words[8] = narrow(at.runs);
-    words[9] = narrow(at.total);
+    words[HeaderOffset::KEYS] = narrow(z.keys);
+    words[HeaderOffset::WRITERS] = narrow(z.writers);
+    words[HeaderOffset::SITES] = narrow(z.sites);
+    words[HeaderOffset::RUNS] = narrow(z.runs);
+    words[HeaderOffset::LAST] = 0;
+    words[HeaderOffset::MASTER] = narrow(at.master);
+    words[HeaderOffset::SITES_AT] = narrow(at.sites);
+    words[HeaderOffset::WRITERS_AT] = narrow(at.writers);
+    words[HeaderOffset::RUNS_AT] = narrow(at.runs);
+    words[HeaderOffset::TOTAL] = narrow(at.total);
 }
 
 // Four words as counts.
@@ -96,9 +97,9 @@ fn sizes_of(z: Counts) -> Sizes
     Sizes::of(z.keys, z.writers, z.sites, z.runs)
 }
 
-// An index as a word.
+// A count, an offset or the total as a word.
 fn narrow(x: usize) -> u32
-    requires { ⌜ x < 4294967296 ⌝ }
+    requires { ⌜ x ≤ maxTotal ⌝ }
     ensures { λ r. ⌜ r ≡ x ⌝ }
 {
     x as u32

@@ -12,7 +12,7 @@ use Rattle.words.specs.Tests.{Items, anyBelow}
 use Rattle.words.proofs.Tests.{any-same, all-same, any-rows, all-not}
 use Rattle.clock.specs.Clock.{present, clockAt}
 use Rattle.sizes.specs.declared.Counts.{Counts}
-use Rattle.sizes.specs.Bounds.{pastSize, versionSize, keyAt, rowAt}
+use Rattle.sizes.specs.Bounds.{pastOffset, pastSize, versionSize, keyAt, rowAt}
 use Rattle.model.specs.Form.{zeroRows}
 use Rattle.layout.specs.Reading.{readPlace}
 use Rattle.layout.proofs.Readings.{present-word}
@@ -27,12 +27,12 @@ flat-present : (z : Counts) (l : List ℕ) (v : ℕ)
 unfolding present clockAt rowAt pastSize
 flat-present z l v =
     let W = z .writers in
-    let set : Items = λ i. leb 1 (getD l (v + (1 + 0 * W) + i) 0) in
-    let row : ℕ → Items = λ d w. leb 1 (getD l (v + (1 + d * W) + w) 0) in
+    let set : Items = λ i. leb 1 (getD l (v + (pastOffset + 0 * W) + i) 0) in
+    let row : ℕ → Items = λ d w. leb 1 (getD l (v + (pastOffset + d * W) + w) 0) in
     any-rows set W (z .keys)
     ∙ any-same (z .keys) (λ d. anyBelow W (λ w. set (d * W + w))) (λ d. anyBelow W (row d))
     (λ d i. any-same W (λ w. set (d * W + w)) (row d) (λ w j.
-    let e : v + (1 + 0 * W) + (d * W + w) ≡ v + (1 + d * W) + w = omega arith in
+    let e : v + (pastOffset + 0 * W) + (d * W + w) ≡ v + (pastOffset + d * W) + w = omega arith in
     rw e))
 
 pub flat-rows : (z : Counts) (l : List ℕ) (at k : ℕ) → k < z .keys

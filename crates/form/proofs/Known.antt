@@ -12,7 +12,7 @@ use lib.ListN.{length}
 use Rattle.words.proofs.Bools.{and-left}
 use Rattle.sizes.specs.declared.Counts.{Counts}
 use Rattle.sizes.specs.declared.Sizes.{Sizes}
-use Rattle.sizes.specs.Bounds.{sizesOf, masterAt, siteAt}
+use Rattle.sizes.specs.Bounds.{headerSize, sizesOf, masterAt, siteAt}
 use Rattle.model.specs.Algebra.{Place}
 use Rattle.model.specs.Version.{Version}
 use Rattle.model.specs.Store.{withCache}
@@ -38,7 +38,7 @@ pub in-shape : (l : List ℕ) → So (inForm l) → So (shaped l)
 unfolding inForm
 in-shape l F = and-left (shaped l) (wellFormed (storeOf l)) F
 
-pub form-long : (l : List ℕ) → So (inForm l) → 10 ≤ length l
+pub form-long : (l : List ℕ) → So (inForm l) → headerSize ≤ length l
 form-long l F = shaped-long l (in-shape l F)
 
 module _ (l : List ℕ) (z : Counts) (H : FormWith l z) where

@@ -8,7 +8,7 @@ use native.Mathlib.Omega.{arith}
 use lib.ListN.{length}
 use Rattle.words.specs.Tests.{allBelow}
 use Rattle.words.proofs.Tests.{all-same}
-use Rattle.sizes.specs.Bounds.{runSize, masterAt, siteAt, runAt}
+use Rattle.sizes.specs.Bounds.{headerSize, runSize, masterAt, siteAt, runAt}
 use Rattle.sizes.specs.declared.Counts.{Counts}
 use Rattle.sizes.proofs.Offsets.{ordered, run-lies}
 use Rattle.model.specs.Form.{placeFormed, runFormed, wellFormed}
@@ -30,7 +30,7 @@ run-area len z A r h =
 pub shaped-area : (l : List ℕ) → So (shaped l) → StoreArea (length l) (countsIn l)
 shaped-area l p = let S = shaped-out l p in record { ranged = S .counts; fits = S .fits }
 
-pub shaped-long : (l : List ℕ) → So (shaped l) → 10 ≤ length l
+pub shaped-long : (l : List ℕ) → So (shaped l) → headerSize ≤ length l
 shaped-long l p =
     let S = shaped-out l p in
     let q = ordered (countsIn l) (S .counts) in omega (arith, S .fits)

@@ -1,6 +1,7 @@
 -- Parts of a store in a buffer, for the contracts of the tests.
 -- jobOf: a job of three numbers. jobFormed: what is asked of one job.
--- readsOf: what some jobs read. RunArea, StoreArea: where a part lies. FormWith: a buffer in form.
+-- readsOf: what some jobs read. partCount, partFormed: the sites, and the runs.
+-- RunArea, StoreArea: where a part lies. FormWith: a buffer in form.
 -- Assumes nothing.
 use mathlib.Core.Path.{_≡_}
 use mathlib.Core.Bool.{Bool, cond, So}
@@ -9,12 +10,13 @@ use Prim.Native.Nat.{ℕ, _+_, _≤_, _<_}
 use lib.Dec.{ltb}
 use Rattle.words.specs.Numbers.{when}
 use Rattle.masks.specs.Mask.{testBit, unionBelow}
-use Rattle.sizes.specs.Bounds.{Ranged, snapshotOffset, placeSize, totalOf}
+use Rattle.sizes.specs.Bounds.{placeLimit, Ranged, snapshotOffset, placeSize, totalOf, siteAt, runAt}
 use Rattle.sizes.specs.declared.Counts.{Counts}
 use Rattle.model.specs.Store.{Job}
-use Rattle.model.specs.Form.{validJob, zeroJob}
-use Rattle.layout.specs.Reading.{countsIn}
+use Rattle.model.specs.Form.{validJob, zeroJob, placeFormed, runFormed}
+use Rattle.layout.specs.Reading.{readPlace, readRun, countsIn}
 use Rattle.layout.specs.Buffer.{inForm}
+use Rattle.form.specs.declared.Part.{Part}
 
 abbrev pub jobOf : ℕ → ℕ → ℕ → Job
 jobOf a b c = record { site = a; reads = b; upstream = c }
@@ -27,12 +29,21 @@ jobFormed z n i j = cond (ltb i n) (validJob z i j) (zeroJob j)
 unfoldable pub readsOf : ℕ → (ℕ → Job) → ℕ → ℕ
 readsOf n job mask = unionBelow n (λ j. when (testBit mask j) (job j .reads))
 
+-- How many sites or runs there are, and what is asked of one.
+unfoldable pub partCount : Counts → Part → ℕ
+partCount z Part.Site = z .sites
+partCount z Part.Run = z .runs
+
+unfoldable pub partFormed : Counts → List ℕ → Part → ℕ → Bool
+partFormed z l Part.Site i = placeFormed z (readPlace z l (siteAt z i))
+partFormed z l Part.Run i = runFormed z (readRun z l (runAt z i))
+
 -- ---- where a part lies in a buffer of len words
 
 -- The run at an index.
 pub record RunArea (len : ℕ) (z : Counts) (at : ℕ) : Type 0 where
   pub ranged : Ranged z
-  pub low : at + snapshotOffset < 1000000
+  pub low : at + snapshotOffset < placeLimit
   pub fits : at + snapshotOffset + placeSize z ≤ len
 
 -- The whole store.

@@ -11,14 +11,14 @@ ghost use Prim.Native.Nat.{_+_, _^_, _≤_, _<_};
 ghost use lib.Dec.{ltb};
 ghost use lib.ListN.{length};
 ghost use Rattle.words.specs.Tests.{allBelow};
-ghost use Rattle.sizes.specs.Bounds.{Ranged, maxJobs, planSize};
+ghost use Rattle.sizes.specs.Bounds.{Ranged, maxKeys, maxJobs, planSize};
 ghost use Rattle.model.specs.Form.{validJob, zeroJob};
 ghost use Rattle.layout.specs.Reading.{readJobs};
 ghost use Rattle.form.specs.Parts.{jobOf, jobFormed, readsOf};
 
 // Whether a mask has only items below n. The power is one of 64 bits: n may be 32.
 pub fn is_below(mask: u32, n: usize) -> bool
-    requires { ⌜ n ≤ 32 ⌝ }
+    requires { ⌜ n ≤ maxKeys ⌝ }
     ensures { λ r. ⌜ r ≡ ltb mask (2 ^ n) ⌝ }
 {
     wide(mask) < (1usize << n)

@@ -11,43 +11,39 @@ use place::place_formed;
 use run::run_formed;
 use sizes::Counts;
 ghost use mathlib.Core.Path.{_≡_};
+ghost use Prim.Native.Nat.{_≤_, _<_};
 ghost use lib.ListN.{length};
 ghost use Rattle.words.specs.Tests.{allBelow};
-ghost use Rattle.sizes.specs.Bounds.{siteAt, runAt};
-ghost use Rattle.model.specs.Form.{placeFormed, runFormed};
-ghost use Rattle.layout.specs.Reading.{readPlace, readRun};
 ghost use Rattle.layout.specs.Buffer.{inForm};
-ghost use Rattle.form.specs.Parts.{StoreArea};
+ghost use Rattle.form.specs.Parts.{StoreArea, partCount, partFormed};
 
-// Whether every cache is in form.
-pub fn sites_formed(words: &[u32], z: Counts) -> bool
-    requires { ⌜ StoreArea (length (now words)) z ⌝ }
-    ensures { λ r. ⌜ r ≡ allBelow (z .sites)
-        (λ o. placeFormed z (readPlace z (now (words .entry)) (siteAt z o))) ⌝ }
-{
-    let sites = z.sites;
-    let mut o = 0;
-    while o < sites {
-        let at = z.site_at(o);
-        if !place_formed(words, z, at) {
-            return false;
-        }
-        o += 1;
-    }
-    true
+// A kind of part of which a store has several: a site or a run.
+pub enum Part {
+    Site,
+    Run,
 }
 
-// Whether every run is in form.
-pub fn runs_formed(words: &[u32], z: Counts) -> bool
+// Whether site or run i is in form.
+fn part_formed(words: &[u32], z: Counts, part: Part, i: usize) -> bool
     requires { ⌜ StoreArea (length (now words)) z ⌝ }
-    ensures { λ r. ⌜ r ≡ allBelow (z .runs)
-        (λ i. runFormed z (readRun z (now (words .entry)) (runAt z i))) ⌝ }
+    requires { ⌜ i < partCount z part ⌝ }
+    ensures { λ r. ⌜ r ≡ partFormed z (now (words .entry)) part i ⌝ }
 {
-    let runs = z.runs;
+    match part {
+        Part::Site => place_formed(words, z, z.site_at(i)),
+        Part::Run => run_formed(words, z, z.run_at(i)),
+    }
+}
+
+// Whether each of the first n sites or runs is in form.
+fn parts_formed(words: &[u32], z: Counts, part: Part, n: usize) -> bool
+    requires { ⌜ StoreArea (length (now words)) z ⌝ }
+    requires { ⌜ n ≤ partCount z part ⌝ }
+    ensures { λ r. ⌜ r ≡ allBelow n (partFormed z (now (words .entry)) part) ⌝ }
+{
     let mut i = 0;
-    while i < runs {
-        let at = z.run_at(i);
-        if !run_formed(words, z, at) {
+    while i < n {
+        if !part_formed(words, z, part, i) {
             return false;
         }
         i += 1;
@@ -64,5 +60,6 @@ pub fn in_form(words: &[u32]) -> bool
     }
     let z = counts(words);
     let areas = z.areas();
-    place_formed(words, z, areas.master) & (sites_formed(words, z) & runs_formed(words, z))
+    place_formed(words, z, areas.master)
+        & (parts_formed(words, z, Part::Site, z.sites) & parts_formed(words, z, Part::Run, z.runs))
 }

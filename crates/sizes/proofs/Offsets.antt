@@ -11,7 +11,7 @@ use lib.Dec.{leb}
 use Rattle.words.proofs.Bools.{and-intro, and-left, and-right, leb-le, le-leb}
 use Rattle.words.proofs.Slots.{slot-end}
 use Rattle.sizes.specs.declared.Counts.{Counts}
-use Rattle.sizes.specs.Bounds.{maxKeys, maxWriters, maxSites, maxRuns, maxJobs, jobSize, planSize, snapshotOffset, between, ranged, Ranged, pastSize, versionSize, placeSize, siteSize, writerSize, runSize, masterAt, sitesAt, writersAt, runsAt, tailSize, tailAt, totalOf, siteAt, writerAt, runAt, snapshotAt, jobAt, keyAt, rowAt}
+use Rattle.sizes.specs.Bounds.{maxKeys, maxWriters, maxSites, maxRuns, maxJobs, maxTotal, jobSize, planSize, headerSize, pastOffset, writerPastOffset, snapshotOffset, between, ranged, Ranged, pastSize, versionSize, placeSize, siteSize, writerSize, runSize, masterAt, sitesAt, writersAt, runsAt, tailSize, tailAt, totalOf, siteAt, writerAt, runAt, snapshotAt, jobAt, keyAt, rowAt, writerRowAt}
 
 -- ---- counts in range
 
@@ -78,28 +78,29 @@ largest z R =
     let past : pastSize z ≤ 32 * 16 = mul-le-mul (R .keys-high) (R .writers-high) in
     let version : versionSize z ≤ 513 = omega arith in
     let place : placeSize z ≤ 32 * 513 = mul-le-mul (R .keys-high) version in
+    let writer : writerSize z ≤ 513 = omega arith in
     let run : runSize z ≤ 16444 = omega arith in
     record {
       past = past;
       version = version;
       place = place;
       site = place;
-      writer = version;
+      writer = writer;
       run = run;
       sites = mul-le-mul (R .sites-high) place;
-      writers = mul-le-mul (R .writers-high) version;
+      writers = mul-le-mul (R .writers-high) writer;
       runs = mul-le-mul (R .runs-high) run;
     }
 
 -- Each area begins where the one before it ends, and the total is small.
 pub record Ordered (z : Counts) : Type 0 where
-  pub master : masterAt z ≡ 10
+  pub master : masterAt z ≡ headerSize
   pub sites : sitesAt z ≡ masterAt z + placeSize z
   pub writers : writersAt z ≡ sitesAt z + z .sites * siteSize z
   pub runs : runsAt z ≡ writersAt z + z .writers * writerSize z
   pub tail : tailAt z ≡ runsAt z + z .runs * runSize z
   pub total : totalOf z ≡ tailAt z + tailSize z
-  pub top : totalOf z ≤ 287514
+  pub top : totalOf z ≤ maxTotal
 
 pub ordered : (z : Counts) → Ranged z → Ordered z
 unfolding tailSize masterAt sitesAt writersAt runsAt tailAt totalOf
@@ -150,17 +151,24 @@ pub snapshot-lies : (z : Counts) (r : ℕ)
 unfolding snapshotAt runSize
 snapshot-lies z r = record { starts = omega arith; ends = omega arith }
 
--- Key k lies in its place, row d in its version.
+-- Key k lies in its place, row d in its version or writer.
 pub key-lies : (z : Counts) (at k : ℕ) → k < z .keys
     → Lies at (at + placeSize z) (keyAt z at k) (versionSize z)
 unfolding keyAt placeSize
 key-lies z at k h = part-lies at k (z .keys) (versionSize z) h
 
 pub row-lies : (z : Counts) (at d : ℕ) → d < z .keys
-    → Lies (at + 1) (at + versionSize z) (rowAt z at d) (z .writers)
+    → Lies (at + pastOffset) (at + versionSize z) (rowAt z at d) (z .writers)
 unfolding rowAt versionSize pastSize
 row-lies z at d h =
-    let e = part-lies (at + 1) d (z .keys) (z .writers) h in
+    let e = part-lies (at + pastOffset) d (z .keys) (z .writers) h in
+    record { starts = omega (arith, e .starts); ends = omega (arith, e .ends) }
+
+pub writer-row-lies : (z : Counts) (at d : ℕ) → d < z .keys
+    → Lies (at + writerPastOffset) (at + writerSize z) (writerRowAt z at d) (z .writers)
+unfolding writerRowAt writerSize pastSize
+writer-row-lies z at d h =
+    let e = part-lies (at + writerPastOffset) d (z .keys) (z .writers) h in
     record { starts = omega (arith, e .starts); ends = omega (arith, e .ends) }
 
 -- ---- jobs

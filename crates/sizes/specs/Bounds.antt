@@ -1,7 +1,7 @@
 -- Sizes and offsets in words (document 01, "Size and layout"), from the counts K, W, N and P.
 -- maxKeys ..: the limits. ranged, Ranged: the counts are in range. ..Size: words of a part.
--- ..Offset: where a part of a run or of a job stands in it. ..At: where a part begins.
--- totalOf: all words.
+-- ..Offset: where a part of the header, a version, a writer, a run or a job stands in it.
+-- ..At: where a part begins. totalOf: all words; maxTotal: the most there can be.
 -- Assumes nothing.
 use mathlib.Core.Bool.{Bool, _&&_}
 use Prim.Native.Nat.{ℕ, _+_, _*_, _≤_}
@@ -30,6 +30,13 @@ maxRuns = 8
 abbrev pub maxJobs : ℕ
 maxJobs = 8
 
+-- Below these indices a place and a version begin, so that those of their words can be computed.
+abbrev pub placeLimit : ℕ
+placeLimit = 1000000
+
+abbrev pub versionLimit : ℕ
+versionLimit = 2000000
+
 -- The mask of every job.
 abbrev pub everyJob : ℕ
 everyJob = 255
@@ -55,6 +62,50 @@ pub record Ranged (z : Counts) : Type 0 where
   pub sites-high : z .sites ≤ maxSites
   pub runs-low : 1 ≤ z .runs
   pub runs-high : z .runs ≤ maxRuns
+
+-- ---- inside the header: "Header, 10 words: K, W, N, P, last issue number, then the offsets in
+-- ---- words of master, shelves, writers and runs, then the total."
+
+abbrev pub keysOffset : ℕ
+keysOffset = 0
+
+abbrev pub writersOffset : ℕ
+writersOffset = 1
+
+abbrev pub sitesOffset : ℕ
+sitesOffset = 2
+
+abbrev pub runsOffset : ℕ
+runsOffset = 3
+
+abbrev pub lastOffset : ℕ
+lastOffset = 4
+
+abbrev pub masterOffset : ℕ
+masterOffset = 5
+
+abbrev pub sitesAtOffset : ℕ
+sitesAtOffset = 6
+
+abbrev pub writersAtOffset : ℕ
+writersAtOffset = 7
+
+abbrev pub runsAtOffset : ℕ
+runsAtOffset = 8
+
+abbrev pub totalOffset : ℕ
+totalOffset = 9
+
+abbrev pub headerSize : ℕ
+headerSize = 10
+
+-- ---- inside a version, whose issue number stands first, and a writer, whose count does
+
+abbrev pub pastOffset : ℕ
+pastOffset = 1
+
+abbrev pub writerPastOffset : ℕ
+writerPastOffset = 1
 
 -- ---- inside a run: "A run is state (0 free, 1 open, 2 broken), number of jobs, done mask, read
 -- ---- mask, 8 jobs of 3 words (office, reads mask, upstream mask), then the card, K versions."
@@ -96,7 +147,7 @@ unfoldable pub pastSize : Counts → ℕ
 pastSize z = z .keys * z .writers
 
 unfoldable pub versionSize : Counts → ℕ
-versionSize z = 1 + pastSize z
+versionSize z = pastOffset + pastSize z
 
 -- A place (master, shelf or card): K versions.
 unfoldable pub placeSize : Counts → ℕ
@@ -108,7 +159,7 @@ siteSize z = placeSize z
 
 -- "a writer's count, then its past"
 unfoldable pub writerSize : Counts → ℕ
-writerSize z = 1 + pastSize z
+writerSize z = writerPastOffset + pastSize z
 
 -- "runs P·(28 + K·V)"
 unfoldable pub runSize : Counts → ℕ
@@ -118,11 +169,11 @@ runSize z = snapshotOffset + placeSize z
 unfoldable pub tailSize : Counts → ℕ
 tailSize z = 0
 
--- ---- offsets, after a header of 10 words:
+-- ---- offsets, after the header:
 -- ---- "master K·V; shelves N·K·V; writers W·V; runs P·(28 + K·V)"
 
 unfoldable pub masterAt : Counts → ℕ
-masterAt z = 10
+masterAt z = headerSize
 
 unfoldable pub sitesAt : Counts → ℕ
 sitesAt z = masterAt z + placeSize z
@@ -139,7 +190,11 @@ tailAt z = runsAt z + z .runs * runSize z
 unfoldable pub totalOf : Counts → ℕ
 totalOf z = tailAt z + tailSize z
 
--- All of them.
+-- The total of the largest counts.
+abbrev pub maxTotal : ℕ
+maxTotal = 287514
+
+-- Offsets and total.
 unfoldable pub sizesOf : Counts → Sizes
 sizesOf z = record {
   master = masterAt z;
@@ -176,4 +231,8 @@ keyAt z at k = at + k * versionSize z
 
 -- Row d, the clock for key d, of the version at an index.
 unfoldable pub rowAt : Counts → ℕ → ℕ → ℕ
-rowAt z at d = at + (1 + d * z .writers)
+rowAt z at d = at + (pastOffset + d * z .writers)
+
+-- Row d of the past of the writer at an index.
+unfoldable pub writerRowAt : Counts → ℕ → ℕ → ℕ
+writerRowAt z at d = at + (writerPastOffset + d * z .writers)

@@ -1,10 +1,15 @@
 // The counts of a store, their limits, and the offsets and total that follow from them.
+pub mod header;
+pub mod past;
 pub mod run;
 
+use header::HeaderOffset;
+use past::VersionOffset;
+use past::WriterOffset;
 use run::RunOffset;
 ghost use mathlib.Core.Path.{_≡_};
-ghost use Prim.Native.Nat.{_<_, _^_};
-ghost use Rattle.sizes.specs.Bounds.{between, ranged, Ranged, countsOf, sizesOf, maxKeys, maxWriters, maxSites, maxRuns, maxJobs, everyJob, jobSize, pastSize, versionSize, placeSize, siteSize, writerSize, runSize, siteAt, writerAt, runAt, snapshotAt, jobAt, keyAt, rowAt};
+ghost use Prim.Native.Nat.{_+_, _*_, _<_, _^_};
+ghost use Rattle.sizes.specs.Bounds.{between, ranged, Ranged, countsOf, sizesOf, maxKeys, maxWriters, maxSites, maxRuns, maxJobs, placeLimit, versionLimit, everyJob, jobSize, pastSize, versionSize, placeSize, siteSize, writerSize, runSize, siteAt, writerAt, runAt, snapshotAt, jobAt, keyAt, rowAt, writerRowAt};
 
 // Sheets, writers, offices and runs (document 01: K, W, N, P).
 pub struct Counts {
@@ -46,14 +51,14 @@ impl Sizes {
         requires { ⌜ Ranged (countsOf keys writers sites runs) ⌝ }
         ensures { λ r. ⌜ r ≡ sizesOf (countsOf keys writers sites runs) ⌝ }
     {
-        let version = 1 + keys * writers;
-        let place = keys * version;
-        let sites_at = 10 + place;
+        let past = keys * writers;
+        let place = keys * (VersionOffset::PAST + past);
+        let sites_at = HeaderOffset::SIZE + place;
         let writers_at = sites_at + sites * place;
-        let runs_at = writers_at + writers * version;
+        let runs_at = writers_at + writers * (WriterOffset::PAST + past);
         let tail = runs_at + runs * (RunOffset::SNAPSHOT + place);
         Sizes {
-            master: 10,
+            master: HeaderOffset::SIZE,
             sites: sites_at,
             writers: writers_at,
             runs: runs_at,
@@ -79,6 +84,14 @@ pub fn is_between(x: usize, top: usize) -> bool
     ensures { λ r. ⌜ r ≡ between top x ⌝ }
 {
     (1 <= x) & (x <= top)
+}
+
+// Where part i begins, of parts of one size from an index on.
+fn nth(first: usize, size: usize, i: usize) -> usize
+    requires { ⌜ first + i * size < versionLimit ⌝ }
+    ensures { λ r. ⌜ r ≡ first + i * size ⌝ }
+{
+    first + i * size
 }
 
 // Where job i begins in the jobs at an index.
@@ -121,7 +134,7 @@ impl Counts {
         requires { ⌜ Ranged self ⌝ }
         ensures { λ r. ⌜ r ≡ versionSize self ⌝ }
     {
-        1 + self.past_size()
+        VersionOffset::PAST + self.past_size()
     }
 
     // The words of a place.
@@ -146,7 +159,7 @@ impl Counts {
         requires { ⌜ Ranged self ⌝ }
         ensures { λ r. ⌜ r ≡ writerSize self ⌝ }
     {
-        1 + self.past_size()
+        WriterOffset::PAST + self.past_size()
     }
 
     // The words of a run.
@@ -164,8 +177,7 @@ impl Counts {
         ensures { λ r. ⌜ r ≡ siteAt self o ⌝ }
     {
         let areas = self.areas();
-        let v = self.site_size();
-        areas.sites + o * v
+        nth(areas.sites, self.site_size(), o)
     }
 
     // Where writer u begins.
@@ -175,8 +187,7 @@ impl Counts {
         ensures { λ r. ⌜ r ≡ writerAt self u ⌝ }
     {
         let areas = self.areas();
-        let v = self.writer_size();
-        areas.writers + u * v
+        nth(areas.writers, self.writer_size(), u)
     }
 
     // Where run r begins.
@@ -186,8 +197,7 @@ impl Counts {
         ensures { λ at. ⌜ at ≡ runAt self r ⌝ }
     {
         let areas = self.areas();
-        let v = self.run_size();
-        areas.runs + r * v
+        nth(areas.runs, self.run_size(), r)
     }
 
     // Where the snapshot of run r begins.
@@ -202,19 +212,27 @@ impl Counts {
     // Where the version of key k begins in the place at an index.
     pub fn key_at(self, at: usize, k: usize) -> usize
         requires { ⌜ Ranged self ⌝ }
-        requires { ⌜ (at < 1000000) × (k < self .keys) ⌝ }
+        requires { ⌜ (at < placeLimit) × (k < self .keys) ⌝ }
         ensures { λ r. ⌜ r ≡ keyAt self at k ⌝ }
     {
-        let v = self.version_size();
-        at + k * v
+        nth(at, self.version_size(), k)
     }
 
     // Where row d begins in the version at an index.
     pub fn row_at(self, at: usize, d: usize) -> usize
         requires { ⌜ Ranged self ⌝ }
-        requires { ⌜ (at < 2000000) × (d < self .keys) ⌝ }
+        requires { ⌜ (at < versionLimit) × (d < self .keys) ⌝ }
         ensures { λ r. ⌜ r ≡ rowAt self at d ⌝ }
     {
-        at + (1 + d * self.writers)
+        at + (VersionOffset::PAST + d * self.writers)
+    }
+
+    // Where row d begins in the past of the writer at an index.
+    pub fn writer_row_at(self, at: usize, d: usize) -> usize
+        requires { ⌜ Ranged self ⌝ }
+        requires { ⌜ (at < versionLimit) × (d < self .keys) ⌝ }
+        ensures { λ r. ⌜ r ≡ writerRowAt self at d ⌝ }
+    {
+        at + (WriterOffset::PAST + d * self.writers)
     }
 }

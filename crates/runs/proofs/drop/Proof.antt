@@ -1,8 +1,10 @@
 -- `drop` refuses for the cause of its run, or clears the run.
 -- Assumes nothing.
 use mathlib.Core.Path.{_≡_, sym, ap, _∙_}
+use mathlib.Core.List.{List}
 use Prim.Native.Nat.{ℕ, _<_}
 use borrow.Author.Needs.{needs}
+use Rattle.sizes.specs.declared.Counts.{Counts}
 use Rattle.model.specs.Store.{freeRun}
 use Rattle.model.specs.Outcome.{dropRow, runCause}
 use Rattle.layout.specs.Reading.{storeOf}
@@ -37,25 +39,28 @@ returns c =
     (drop-refused (s .args .words .now) _ _ (s .pre) (c .before .run-cause .ensures)
     (c .if1 .taken))
 
--- Where no cause holds: the store's counts, and the run is one of its runs.
-holds : (c : tie.Else1) → let n = c .before .before .before in
-    FormWith (n .before .before .before .before .args .words .now) (n .counts .result)
+-- Where no cause holds: the words given, the store's counts, the run.
+abbrev words : tie.Else1 → List ℕ
+words c = let n = c .before .before .before in n .before .before .before .before .args .words .now
+
+abbrev counted : tie.Else1 → Counts
+counted c = let n = c .before .before .before in n .counts .result
+
+abbrev run : tie.Else1 → ℕ
+run c = let n = c .before .before .before in n .before .before .wide .result
+
+holds : (c : tie.Else1) → FormWith (words c) (counted c)
 holds c =
     let n = c .before .before .before in
     record { form = n .before .before .before .before .pre; counts = n .counts .ensures }
 
-free : (c : tie.Else1) → let w = c .before .before .before .before .before in
-    runCause (storeOf (w .before .before .args .words .now)) dropRow (w .wide .result) 0 ≡ 0
+free : (c : tie.Else1) → runCause (storeOf (words c)) dropRow (run c) 0 ≡ 0
 free c = sym (c .before .run-cause .ensures) ∙ c .if1 .left
 
-below : (c : tie.Else1)
-    → c .before .before .before .before .before .wide .result
-    < c .before .before .before .counts .result .runs
+below : (c : tie.Else1) → run c < counted c .runs
 below c = cause-below _ _ dropRow _ (holds c) (free c)
 
-known : (c : tie.Else1) → let n = c .before .before .before in
-    RunKnown (n .before .before .before .before .args .words .now) (n .counts .result)
-    (n .before .before .wide .result)
+known : (c : tie.Else1) → RunKnown (words c) (counted c) (run c)
 known c = run-known _ _ _ (holds c) (below c)
 
 run-at-requires : tie.Need-run-at-requires
@@ -73,11 +78,9 @@ returns-2 c =
     let p = c .before .before .before .before in
     let e = p .before in
     let n = e .before .before .before in
-    let z = n .counts .result in
-    let l = n .before .before .before .before .args .words .now in
     rw (← n .before .before .wide .ensures)
-    (drop-done l z _ _ (holds e) (free e) (c .before .before .clear-run .ensures
-    ∙ ap (λ (k : ℕ). putRun z l k freeRun) (p .run-at .ensures)))
+    (drop-done (words e) (counted e) _ _ (holds e) (free e) (c .before .before .clear-run .ensures
+    ∙ ap (λ (k : ℕ). putRun (counted e) (words e) k freeRun) (p .run-at .ensures)))
 
 pub drop-spec : {M : Type 1} → statement M
 drop-spec =

@@ -4,6 +4,7 @@ use mathlib.Core.Path.{_≡_, sym, ap, _∙_}
 use Prim.Native.Nat.{ℕ}
 use borrow.Author.Needs.{needs}
 use native.Mathlib.Omega.{arith}
+use Rattle.sizes.specs.declared.Counts.{Counts}
 use Rattle.model.specs.Runs.{openCause}
 use Rattle.layout.specs.Reading.{storeOf}
 use Rattle.form.specs.Parts.{FormWith}
@@ -37,26 +38,30 @@ returns c =
     (open-refused (s .args .words .now) _ (s .args .jobs .now) _ (s .pre)
     (c .before .open-cause .ensures) (c .if1 .taken))
 
--- Where no cause holds: the store's counts, the run and the list.
-holds : (c : tie.Else1) → let n = c .before .before .before in
-    FormWith (n .before .before .before .before .before .args .words .now) (n .counts .result)
+-- Where no cause holds: what was given, the store's counts, the run.
+abbrev start : tie.Else1 → tie.Start
+start c = let n = c .before .before .before in n .before .before .before .before .before
+
+abbrev counted : tie.Else1 → Counts
+counted c = let n = c .before .before .before in n .counts .result
+
+abbrev run : tie.Else1 → ℕ
+run c = let n = c .before .before .before in n .before .before .wide .result
+
+holds : (c : tie.Else1) → FormWith (start c .args .words .now) (counted c)
 holds c =
     let n = c .before .before .before in
-    record { form = n .before .before .before .before .before .pre; counts = n .counts .ensures }
+    record { form = start c .pre; counts = n .counts .ensures }
 
-free : (c : tie.Else1) → let w = c .before .before .before .before .before in
-    let a = w .before .before .before .args in
-    openCause (storeOf (a .words .now)) (w .wide .result) (a .jobs .now) ≡ 0
+free : (c : tie.Else1)
+    → openCause (storeOf (start c .args .words .now)) (run c) (start c .args .jobs .now) ≡ 0
 free c = sym (c .before .open-cause .ensures) ∙ c .if1 .left
 
-ready : (c : tie.Else1) → let n = c .before .before .before in
-    let a = n .before .before .before .before .before .args in
-    OpenReady (a .words .now) (n .counts .result) (n .before .before .wide .result) (a .jobs .now)
+ready : (c : tie.Else1)
+    → OpenReady (start c .args .words .now) (counted c) (run c) (start c .args .jobs .now)
 ready c = open-ready _ _ _ _ (holds c) (free c)
 
-known : (c : tie.Else1) → let n = c .before .before .before in
-    RunKnown (n .before .before .before .before .before .args .words .now) (n .counts .result)
-    (n .before .before .wide .result)
+known : (c : tie.Else1) → RunKnown (start c .args .words .now) (counted c) (run c)
 known c = run-known _ _ _ (holds c) (ready c .run)
 
 run-at-requires : tie.Need-run-at-requires
@@ -80,11 +85,10 @@ returns-2 c =
     let p = c .before .before .before .before in
     let e = p .before in
     let n = e .before .before .before in
-    let a = n .before .before .before .before .before .args in
-    let l = a .words .now in
-    let jobs = a .jobs .now in
+    let l = start e .args .words .now in
+    let jobs = start e .args .jobs .now in
     rw (← n .before .before .wide .ensures, put .0)
-    (open-done l (n .counts .result) _ jobs _ (holds e) (free e)
+    (open-done l (counted e) _ jobs _ (holds e) (free e)
     (put .1 ∙ ap (λ (k : ℕ). putJobs l k jobs) (p .run-at .ensures)))
 
 pub open-spec : {M : Type 1} → statement M

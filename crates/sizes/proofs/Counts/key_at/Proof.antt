@@ -1,32 +1,27 @@
 -- `key_at` is where the version of a key begins in a place, which is not long.
 -- Assumes nothing.
+use mathlib.Core.Path.{_∙_}
 use borrow.Author.Needs.{needs}
-use Prim.Native.Nat.{_≤_}
 use native.Mathlib.Omega.{arith}
 use Rattle.sizes.specs.Bounds.{keyAt}
 use Rattle.sizes.proofs.Offsets.{largest, key-lies}
 use Rattle.sizes.proofs.Counts.key_at.Statement.{statement}
 use Rattle.sizes.proofs.Counts.key_at.Tie as tie
 
-low : (c : tie.Start) → keyAt (c .args .self) (c .args .at) (c .args .k) ≤ 1016416
-low c =
-    let z = c .args .self in
-    omega (arith, largest z (c .pre .0), key-lies z (c .args .at) (c .args .k) (c .pre .1 .1))
-
 version-size-requires : tie.Need-version-size-requires
 version-size-requires c κs = search needs
 
-mul-result : tie.Need-mul-result
+nth-requires : tie.Need-nth-requires
 unfolding keyAt
-mul-result c = rw (c .version-size .ensures) (omega (arith, low (c .before)))
-
-add-result : tie.Need-add-result
-unfolding keyAt
-add-result c = rw (c .version-size .ensures) (omega (arith, low (c .before)))
+nth-requires c κs =
+    let s = c .before in
+    let a = s .args in
+    let lies = key-lies (a .self) (a .at) (a .k) (s .pre .1 .1) in
+    rw (c .version-size .ensures) (omega (arith, largest (a .self) (s .pre .0), lies))
 
 returns : tie.Need-returns
 unfolding keyAt
-returns c = rw (c .version-size .ensures)
+returns c = c .nth .ensures ∙ rw (c .before .version-size .ensures)
 
 pub key-at-spec : {M : Type 1} → statement M
-key-at-spec = tie.close (tie.spec version-size-requires mul-result add-result returns)
+key-at-spec = tie.close (tie.spec version-size-requires nth-requires returns)

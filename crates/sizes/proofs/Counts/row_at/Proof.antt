@@ -10,8 +10,9 @@ use Rattle.sizes.proofs.Counts.row_at.Tie as tie
 
 low : (c : tie.Start) → rowAt (c .args .self) (c .args .at) (c .args .d) ≤ 2000513
 low c =
-    let z = c .args .self in
-    omega (arith, largest z (c .pre .0), row-lies z (c .args .at) (c .args .d) (c .pre .1 .1))
+    let a = c .args in
+    let lies = row-lies (a .self) (a .at) (a .d) (c .pre .1 .1) in
+    omega (arith, largest (a .self) (c .pre .0), lies)
 
 mul-result : tie.Need-mul-result
 unfolding rowAt

@@ -1,17 +1,12 @@
 -- `run_at` is where a run begins: it lies in its area, below the total.
 -- Assumes nothing.
+use mathlib.Core.Path.{_∙_}
 use borrow.Author.Needs.{needs}
-use Prim.Native.Nat.{_≤_}
 use native.Mathlib.Omega.{arith}
 use Rattle.sizes.specs.Bounds.{runAt, sizesOf}
 use Rattle.sizes.proofs.Offsets.{ordered, run-lies}
 use Rattle.sizes.proofs.Counts.run_at.Statement.{statement}
 use Rattle.sizes.proofs.Counts.run_at.Tie as tie
-
-low : (c : tie.Start) → runAt (c .args .self) (c .args .r) ≤ 287514
-low c =
-    let z = c .args .self in
-    omega (arith, ordered z (c .pre .0), run-lies z (c .args .r) (c .pre .1))
 
 areas-requires : tie.Need-areas-requires
 areas-requires c κs = search needs
@@ -19,21 +14,19 @@ areas-requires c κs = search needs
 run-size-requires : tie.Need-run-size-requires
 run-size-requires c κs = search needs
 
-mul-result : tie.Need-mul-result
-unfolding runAt
-mul-result c = rw (c .run-size .ensures) (omega (arith, low (c .before .before)))
-
-add-result : tie.Need-add-result
+nth-requires : tie.Need-nth-requires
 unfolding runAt sizesOf
-add-result c =
-    let b = c .before in
-    rw (b .run-size .ensures, b .before .areas .ensures)
-    (omega (arith, low (b .before .before)))
+nth-requires c κs =
+    let s = c .before .before in
+    let z = s .args .self in
+    rw (c .run-size .ensures, c .before .areas .ensures)
+    (omega (arith, ordered z (s .pre .0), run-lies z (s .args .r) (s .pre .1)))
 
 returns : tie.Need-returns
 unfolding runAt sizesOf
-returns c = let b = c .before in rw (b .run-size .ensures, b .before .areas .ensures)
+returns c =
+    let b = c .before in
+    c .nth .ensures ∙ rw (b .run-size .ensures, b .before .areas .ensures)
 
 pub run-at-spec : {M : Type 1} → statement M
-run-at-spec =
-    tie.close (tie.spec areas-requires run-size-requires mul-result add-result returns)
+run-at-spec = tie.close (tie.spec areas-requires run-size-requires nth-requires returns)

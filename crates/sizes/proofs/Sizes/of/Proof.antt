@@ -5,24 +5,25 @@ use Prim.Native.Nat.{ℕ, _+_, _*_, _≤_}
 use native.Mathlib.Nat.{add-zero}
 use native.Mathlib.Omega.{arith}
 use Rattle.sizes.specs.declared.Counts.{Counts}
-use Rattle.sizes.specs.Bounds.{Ranged, countsOf, snapshotOffset, pastSize, versionSize, placeSize, siteSize, writerSize, runSize, tailSize, masterAt, sitesAt, writersAt, runsAt, tailAt, totalOf, sizesOf}
+use Rattle.sizes.specs.Bounds.{Ranged, countsOf, pastOffset, writerPastOffset, snapshotOffset, pastSize, versionSize, placeSize, siteSize, writerSize, runSize, tailSize, masterAt, sitesAt, writersAt, runsAt, tailAt, totalOf, sizesOf}
 use Rattle.sizes.proofs.Offsets.{largest}
 use Rattle.sizes.proofs.Sizes.of.Statement.{statement}
 use Rattle.sizes.proofs.Sizes.of.Tie as tie
 
 -- The largest products of four counts.
 most : (k w n p : ℕ) → Ranged (countsOf k w n p)
-    → (k * (1 + k * w) ≤ 16416) × (n * (k * (1 + k * w)) ≤ 131328) × (k * w ≤ 512)
-    × (w * (1 + k * w) ≤ 8208) × (p * (snapshotOffset + k * (1 + k * w)) ≤ 131552)
+    → let place = k * (pastOffset + k * w) in
+    (place ≤ 16416) × (n * place ≤ 131328) × (k * w ≤ 512)
+    × (w * (writerPastOffset + k * w) ≤ 8208) × (p * (snapshotOffset + place) ≤ 131552)
 unfolding pastSize versionSize placeSize siteSize writerSize runSize
 most k w n p R =
     let m = largest (countsOf k w n p) R in (m .place, m .sites, m .past, m .writers, m .runs)
 
-mul-version : tie.Need-mul-version
-mul-version c = omega (arith, most _ _ _ _ (c .pre))
+mul-past : tie.Need-mul-past
+mul-past c = omega (arith, most _ _ _ _ (c .pre))
 
-add-version : tie.Need-add-version
-add-version c = omega (arith, most _ _ _ _ (c .pre))
+add-place : tie.Need-add-place
+add-place c = omega (arith, most _ _ _ _ (c .pre))
 
 mul-place : tie.Need-mul-place
 mul-place c = omega (arith, most _ _ _ _ (c .pre))
@@ -36,11 +37,14 @@ mul-writers-at c = omega (arith, most _ _ _ _ (c .pre))
 add-writers-at : tie.Need-add-writers-at
 add-writers-at c = omega (arith, most _ _ _ _ (c .pre))
 
+add-runs-at : tie.Need-add-runs-at
+add-runs-at c = omega (arith, most _ _ _ _ (c .pre))
+
 mul-runs-at : tie.Need-mul-runs-at
 mul-runs-at c = omega (arith, most _ _ _ _ (c .pre))
 
-add-runs-at : tie.Need-add-runs-at
-add-runs-at c = omega (arith, most _ _ _ _ (c .pre))
+add-runs-at-2 : tie.Need-add-runs-at-2
+add-runs-at-2 c = omega (arith, most _ _ _ _ (c .pre))
 
 add-tail : tie.Need-add-tail
 add-tail c = omega (arith, most _ _ _ _ (c .pre))
@@ -84,14 +88,15 @@ pub of-spec : {M : Type 1} → statement M
 of-spec =
     tie.close
     (tie.spec
-    mul-version
-    add-version
+    mul-past
+    add-place
     mul-place
     add-sites-at
     mul-writers-at
     add-writers-at
-    mul-runs-at
     add-runs-at
+    mul-runs-at
+    add-runs-at-2
     add-tail
     mul-tail
     add-tail-2

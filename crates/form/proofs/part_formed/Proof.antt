@@ -1,0 +1,69 @@
+-- `part_formed` tests the site or the run where it begins.
+-- Assumes nothing.
+use mathlib.Core.Path.{_∙_}
+use borrow.Author.Needs.{needs}
+use Rattle.version.proofs.Stores.{site-area}
+use Rattle.form.specs.Parts.{partCount, partFormed}
+use Rattle.form.proofs.Stores.{run-area}
+use Rattle.form.proofs.part_formed.Statement.{statement}
+use Rattle.form.proofs.part_formed.Tie as tie
+
+enum-told : tie.Need-enum-told
+enum-told c = search needs
+
+site-at-requires : tie.Need-site-at-requires
+unfolding partCount
+site-at-requires c κs =
+    let s = c .before .before .before in
+    (s .pre .0 .ranged, rw (c .enum-told .given .1) at (s .pre .1))
+
+place-formed-requires : tie.Need-place-formed-requires
+unfolding partCount
+place-formed-requires c κs =
+    let t = c .before in
+    let s = t .before .before .before in
+    let A = s .pre .0 in
+    rw (c .site-at .ensures)
+    (site-area _ _ (A .ranged) (A .fits) _ (rw (t .enum-told .given .1) at (s .pre .1)))
+
+enum-told-2 : tie.Need-enum-told-2
+enum-told-2 c = search needs
+
+run-at-requires : tie.Need-run-at-requires
+unfolding partCount
+run-at-requires c κs =
+    let s = c .before .before .before in
+    (s .pre .0 .ranged, rw (c .enum-told2 .given .1) at (s .pre .1))
+
+run-formed-requires : tie.Need-run-formed-requires
+unfolding partCount
+run-formed-requires c κs =
+    let t = c .before in
+    let s = t .before .before .before in
+    rw (c .run-at .ensures)
+    (run-area _ _ (s .pre .0) _ (rw (t .enum-told2 .given .1) at (s .pre .1)))
+
+returns : tie.Need-returns
+unfolding partFormed
+returns c =
+    let a = c .before in
+    rw (a .before .enum-told .given .1, ← a .site-at .ensures) (c .place-formed .ensures)
+
+returns-2 : tie.Need-returns-2
+unfolding partFormed
+returns-2 c =
+    let a = c .before in
+    rw (a .before .enum-told2 .given .1, ← a .run-at .ensures) (c .run-formed .ensures)
+
+pub part-formed-spec : {M : Type 1} → statement M
+part-formed-spec =
+    tie.close
+    (tie.spec
+    enum-told
+    site-at-requires
+    place-formed-requires
+    enum-told-2
+    run-at-requires
+    run-formed-requires
+    returns
+    returns-2)
