@@ -2,9 +2,9 @@
 // is found first, and nothing is stored before that.
 pub mod causes;
 
+use answers::put_two;
 use causes::job_cause;
 use form::header::counts;
-use form::in_form;
 use form::job::reads_of;
 use masks::with_item;
 use masks::without;
@@ -25,9 +25,11 @@ use version::merge_keys;
 use words::wide;
 ghost use mathlib.Core.Path.{_≡_};
 ghost use mathlib.Core.Bool.{So};
+ghost use mathlib.Core.List.{[], _∷_};
 ghost use Prim.Native.Nat.{_+_, _^_, _≤_, _<_};
 ghost use lib.Bits.{bitAnd};
 ghost use lib.ListN.{length};
+ghost use Rattle.answers.specs.Answers.{answerRoom, Lays};
 ghost use Rattle.masks.specs.Mask.{without, maskBelow};
 ghost use Rattle.sizes.specs.Bounds.{maxJobs, doneOffset, readOffset, planOffset};
 ghost use Rattle.model.specs.Outcome.{answer};
@@ -67,26 +69,11 @@ pub struct Trial {
 
 // A job of a run reads its keys.
 pub fn step(words: &mut [u32], run: u32, job: u32) -> Stepped
-    ensures answers { λ r. ⌜ steppedWords r
-        ≡ answer (callOn (on (step run job)) (now (words .entry))) ⌝ }
-    ensures leaves { λ _. ⌜ now (words .exit)
-        ≡ leaves (callOn (on (step run job)) (now (words .entry))) (now (words .entry)) ⌝ }
-    ensures form { λ _. ⌜ (So (inForm (now (words .entry))) → So (inForm (now (words .exit)))) ⌝ }
-{
-    if !in_form(words) {
-        return Stepped::Refused(1);
-    }
-    step_in(words, run, job)
-}
-
-// Step on a buffer in form.
-pub fn step_in(words: &mut [u32], run: u32, job: u32) -> Stepped
     requires { ⌜ So (inForm (now words)) ⌝ }
     ensures answers { λ r. ⌜ steppedWords r
         ≡ answer (callOn (on (step run job)) (now (words .entry))) ⌝ }
     ensures leaves { λ _. ⌜ now (words .exit)
         ≡ leaves (callOn (on (step run job)) (now (words .entry))) (now (words .entry)) ⌝ }
-    ensures form { λ _. ⌜ (So (inForm (now (words .entry))) → So (inForm (now (words .exit)))) ⌝ }
 {
     let z = counts(words);
     let r = run as usize;
@@ -220,4 +207,28 @@ fn divided(reads: u32, trial: Trial) -> Stepped
     let from_cache = without(reads_pulled, trial.taken);
     let from_master = reads_pulled & trial.taken;
     Stepped::Done(from_snapshot, from_cache, from_master)
+}
+
+// Done and three masks.
+fn put_masks(answer: &mut [u32], a: u32, b: u32, c: u32) -> usize
+    requires { ⌜ answerRoom ≤ length (now answer) ⌝ }
+    ensures { λ n. ⌜ Lays (0 ∷ a ∷ b ∷ c ∷ []) (now (answer .entry)) (now (answer .exit)) n ⌝ }
+{
+    answer[0] = 0;
+    answer[1] = a;
+    answer[2] = b;
+    answer[3] = c;
+    4
+}
+
+// Puts the words of the answer.
+pub fn put_stepped(answer: &mut [u32], r: Stepped) -> usize
+    requires { ⌜ answerRoom ≤ length (now answer) ⌝ }
+    ensures { λ n. ⌜ Lays (steppedWords r) (now (answer .entry)) (now (answer .exit)) n ⌝ }
+{
+    match r {
+        Stepped::Done(a, b, c) => put_masks(answer, a, b, c),
+        Stepped::Broken(mask) => put_two(answer, 1, mask),
+        Stepped::Refused(no) => put_two(answer, 2, no),
+    }
 }
