@@ -1,7 +1,6 @@
 // Prepare: what the jobs of a run read is fetched, and the snapshot becomes the merge of their
 // caches. Every cause is tested before a word is stored.
 pub mod fetches;
-pub mod jobs;
 pub mod merges;
 
 use answers::Answered;

@@ -7,7 +7,7 @@ use Rattle.model.specs.Prepare.{prepareCause}
 use Rattle.layout.specs.Reading.{storeOf}
 use Rattle.form.proofs.Known.{form-long, form-area}
 use Rattle.answers.specs.Answers.{answeredWords}
-use Rattle.prepare.specs.Turns.{UsedRun}
+use Rattle.trial.specs.Jobs.{UsedRun}
 use Rattle.prepare.proofs.Turning.{jobs-used}
 use Rattle.prepare.proofs.Carrying.{snapshot-in-place}
 use Rattle.prepare.proofs.Causes.{used-run, no-run-cause}
