@@ -6,15 +6,13 @@ use mathlib.Core.Path.{_≡_, sym, ap, _∙_, fun-ext}
 use mathlib.Core.Bool.{Bool, cond, _&&_}
 use mathlib.Core.Logic.{inr}
 use mathlib.Core.List.{List}
-use Prim.Native.Nat.{ℕ, _+_, _≤_, _<_}
-use native.Mathlib.Omega.{arith}
+use Prim.Native.Nat.{ℕ, _<_}
 use lib.ListN.{length}
 use lib.Seq.{length-sets}
 use Rattle.words.proofs.Numbers.{fold-same}
 use Rattle.masks.specs.Mask.{testBit}
 use Rattle.sizes.specs.declared.Counts.{Counts}
-use Rattle.sizes.specs.Bounds.{placeSize, siteSize, siteAt, snapshotAt}
-use Rattle.sizes.proofs.Offsets.{ordered, site-lies, run-lies, snapshot-lies}
+use Rattle.sizes.specs.Bounds.{everyJob, siteAt, snapshotAt}
 use Rattle.model.specs.Algebra.{Place}
 use Rattle.model.specs.Version.{Version, unheld, merge, versions}
 use Rattle.model.specs.Store.{emptyPlace, planned, withRun, withSnapshot}
@@ -28,7 +26,11 @@ use Rattle.layout.proofs.Updates.{put-snapshot}
 use Rattle.version.specs.Places.{Area}
 use Rattle.version.proofs.Stores.{place-beside, snapshot-area}
 use Rattle.form.proofs.Known.{form-area, form-counts, form-again, cache-formed}
-use Rattle.prepare.specs.Turns.{mergedSites, merged, UsedRun, MergeArea}
+use Rattle.form.specs.Parts.{readsOf}
+use Rattle.form.proofs.Snapshots.{test-plan}
+use Rattle.trial.specs.Jobs.{UsedRun}
+use Rattle.trial.proofs.Known.{jobs-known, snapshot-behind}
+use Rattle.prepare.specs.Turns.{mergedSites, merged, MergeArea}
 use Rattle.prepare.proofs.Merging.{place-twice}
 
 module _ (l : List ℕ) (z : Counts) (r : ℕ) (U : UsedRun l z r) where
@@ -36,15 +38,6 @@ module _ (l : List ℕ) (z : Counts) (r : ℕ) (U : UsedRun l z r) where
   snapshot-in-place =
       let R = form-area l z (U .form) in
       snapshot-area (length l) z (R .ranged) (R .fits) r (U .run)
-
-  -- It lies behind the caches.
-  behind : (o : ℕ) → o < z .sites → siteAt z o + placeSize z ≤ snapshotAt z r
-  unfolding siteSize
-  behind o h =
-      let q = ordered z (form-area l z (U .form) .ranged) in
-      let s = site-lies z o h in
-      let t = run-lies z r (U .run) in
-      let u = snapshot-lies z r in omega arith
 
   stored : (p : Place Version)
       → putPlace z l (snapshotAt z r) p
@@ -66,21 +59,22 @@ module _ (l : List ℕ) (z : Counts) (r : ℕ) (U : UsedRun l z r) where
     cache-beside : (o : ℕ) → o < z .sites
         → readPlace z m (siteAt z o) ≡ readPlace z l (siteAt z o)
     cache-beside o h =
-        rw e (place-beside z l at (siteAt z o) emptyPlace (inr (rw c (behind o h))))
+        rw e (place-beside z l at (siteAt z o) emptyPlace
+        (inr (rw c (snapshot-behind l z r U o h))))
 
     pub merge-area : MergeArea m z at
     merge-area =
         let long : length m ≡ length l = rw e (length-sets l at (placeWords z emptyPlace)) in
         record {
           area = rw long fits;
-          behind = λ o h. rw c (behind o h);
+          behind = λ o h. rw c (snapshot-behind l z r U o h);
           formed = λ o h. rw (cache-beside o h) (cache-formed l z (U .form) o h);
           empty = rw e (place-twice z l at emptyPlace emptyPlace (fits .fits));
         }
 
     module _ (sites plan : ℕ)
         (f : testBit sites ≡ usesSite (storeOf l .run r .jobs) (storeOf l .run r .job))
-        (g : testBit plan ≡ planned (storeOf l .run r .jobs) (storeOf l .run r .job)) where
+        (g : plan ≡ readsOf (storeOf l .run r .jobs) (storeOf l .run r .job) everyJob) where
       -- The caches merged, as the code reads them.
       abbrev found : Place Version
       found =
@@ -94,7 +88,7 @@ module _ (l : List ℕ) (z : Counts) (r : ℕ) (U : UsedRun l z r) where
           let a = s .run r in
           let S : ℕ → ℕ → Bool = λ k o.
           usesSite (a .jobs) (a .job) o && planned (a .jobs) (a .job) k in
-          rw (f, g)
+          rw (f, g, test-plan (a .jobs) (a .job) (jobs-known l z r U .plan .jobs .high))
           (fun-ext (λ k. fold-same (z .sites)
           (λ o v. cond (S k o) (merge v (readPlace z m (siteAt z o) k)) v)
           (λ o v. cond (S k o) (merge v (s .site o .cache k)) v)

@@ -20,7 +20,7 @@ use Rattle.layout.specs.Reading.{storeOf}
 use Rattle.form.specs.Parts.{FormWith}
 use Rattle.form.proofs.Known.{form-counts}
 use Rattle.status.proofs.Known.{cause-below}
-use Rattle.prepare.specs.Turns.{UsedRun}
+use Rattle.trial.specs.Jobs.{UsedRun}
 
 -- What is asked of the run's jobs.
 jobsCause : Store → ℕ → ℕ

@@ -27,7 +27,8 @@ use Rattle.layout.proofs.Follow.{form-fine}
 use Rattle.layout.proofs.Kept.{Kept}
 use Rattle.layout.proofs.KeptPrepare.{prepare-kept}
 use Rattle.form.proofs.Known.{form-counts, Ends, ends-refused, ends-done}
-use Rattle.prepare.specs.Turns.{withCaches, fetchedJobs, mergedSites, merged, UsedRun}
+use Rattle.trial.specs.Jobs.{UsedRun}
+use Rattle.prepare.specs.Turns.{withCaches, fetchedJobs, mergedSites, merged}
 use Rattle.prepare.proofs.Turning.{jobs-fits}
 
 prepare-rule : (r : ℕ) (s : Store)

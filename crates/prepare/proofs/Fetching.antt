@@ -34,8 +34,9 @@ use Rattle.layout.proofs.Readings.{master-in, cache-in}
 use Rattle.layout.proofs.Follow.{Fine}
 use Rattle.layout.proofs.Kept.{fine-next, fetched-fits, fetched-formed}
 use Rattle.form.proofs.Known.{form-counts, cache-stored}
-use Rattle.prepare.specs.Turns.{startOf, withCaches, fetchedJob, fetchedJobs, UsedRun}
-use Rattle.prepare.proofs.Known.{job-known}
+use Rattle.trial.specs.Jobs.{UsedRun}
+use Rattle.prepare.specs.Turns.{startOf, withCaches, fetchedJob, fetchedJobs}
+use Rattle.trial.proofs.Known.{job-known}
 
 -- ---- masks of lacking keys
 

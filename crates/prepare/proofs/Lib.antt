@@ -1,5 +1,5 @@
 pub mod Unpreparable
-pub mod Known
+pub mod Sites
 pub mod Fetching
 pub mod Turning
 pub mod Merging

@@ -14,8 +14,9 @@ use Rattle.layout.proofs.Whole.{FitStore, counts-back, store-back}
 use Rattle.layout.proofs.Updates.{phase}
 use Rattle.layout.proofs.Follow.{Fine, fine-form, form-fine}
 use Rattle.form.proofs.Known.{form-counts, form-again}
-use Rattle.prepare.specs.Turns.{withCaches, fetchedJob, fetchedJobs, UsedRun}
-use Rattle.prepare.proofs.Known.{job-known}
+use Rattle.trial.specs.Jobs.{UsedRun}
+use Rattle.prepare.specs.Turns.{withCaches, fetchedJob, fetchedJobs}
+use Rattle.trial.proofs.Known.{job-known}
 use Rattle.prepare.proofs.Fetching.{no-jobs, more-jobs, jobs-fine}
 
 -- l: the buffer before, and m: after the fetches of the first n jobs.

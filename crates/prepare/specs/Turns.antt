@@ -1,7 +1,7 @@
 -- What the parts of prepare leave of a store, and what they ask of a buffer.
 -- startOf: what a job has to fetch. fetchedJob, fetchedJobs: the fetch of one job, of the first n.
 -- mergedSites, merged: the merge of the first n sites, of all. siteMerged: of one, in words.
--- UsedRun: a run that isn't free. MergeArea: a snapshot that the caches are merged into.
+-- MergeArea: a snapshot that the caches are merged into.
 -- Assumes nothing.
 use mathlib.Core.Path.{_≡_}
 use mathlib.Core.Bool.{So, _&&_}
@@ -17,10 +17,9 @@ use Rattle.model.specs.Version.{Version, merge, versions}
 use Rattle.model.specs.Store.{Store, emptyPlace, planned, withSites, withRun, withSnapshot}
 use Rattle.model.specs.Form.{placeFormed}
 use Rattle.model.specs.Prepare.{jobStart, fetchReads, preparedCaches, usesSite, sitesMerged, siteCaches}
-use Rattle.layout.specs.Reading.{readPlace, storeOf}
+use Rattle.layout.specs.Reading.{readPlace}
 use Rattle.layout.specs.Stored.{putPlace}
 use Rattle.version.specs.Places.{choice, Area}
-use Rattle.form.specs.Parts.{FormWith}
 
 -- ---- the caches
 
@@ -67,12 +66,6 @@ siteMerged z l at o sites plan =
     (λ k. merge (readPlace z l at k) (readPlace z l (siteAt z o) k)) (readPlace z l at)
 
 -- ---- the buffer
-
--- A buffer in form, and a run of it that isn't free.
-pub record UsedRun (l : List ℕ) (z : Counts) (r : ℕ) : Type 0 where
-  pub form : FormWith l z
-  pub run : r < z .runs
-  pub used : 1 ≤ storeOf l .run r .state
 
 -- An empty snapshot at an index behind the caches of the sites, which are in form.
 pub record MergeArea (l : List ℕ) (z : Counts) (at : ℕ) : Type 0 where

@@ -1,11 +1,10 @@
 // The fetches of a run's jobs, in number order, and whether the master lacks a key for them.
-use crate::jobs::job_count;
-use crate::jobs::job_reads;
-use crate::jobs::job_site;
 use sets::fetch_keys;
 use sets::missing::is_unfetchable;
 use sets::missing::lacking;
 use sizes::Counts;
+use trial::jobs::job_count;
+use trial::jobs::job_of;
 use words::wide;
 ghost use mathlib.Core.Path.{_≡_};
 ghost use Prim.Native.Nat.{_<_};
@@ -15,7 +14,8 @@ ghost use Rattle.model.specs.Sets.{unfetchable};
 ghost use Rattle.model.specs.Prepare.{unpreparable, siteCaches};
 ghost use Rattle.layout.specs.Reading.{storeOf};
 ghost use Rattle.layout.specs.Buffer.{written};
-ghost use Rattle.prepare.specs.Turns.{UsedRun, startOf, fetchedJob, fetchedJobs};
+ghost use Rattle.trial.specs.Jobs.{UsedRun};
+ghost use Rattle.prepare.specs.Turns.{startOf, fetchedJob, fetchedJobs};
 
 // What job j of run r has to fetch: its reads that its cache lacks.
 pub fn job_start(words: &[u32], z: Counts, r: usize, j: usize) -> u32
@@ -23,10 +23,9 @@ pub fn job_start(words: &[u32], z: Counts, r: usize, j: usize) -> u32
     requires { ⌜ j < storeOf (now words) .run r .jobs ⌝ }
     ensures { λ m. ⌜ m ≡ maskBelow (z .keys) (startOf z (storeOf (now (words .entry))) r j) ⌝ }
 {
-    let site = wide(job_site(words, z, r, j));
-    let reads = job_reads(words, z, r, j);
-    let at = z.site_at(site);
-    lacking(words, z, at, reads)
+    let job = job_of(words, z, r, j);
+    let at = z.site_at(wide(job.site));
+    lacking(words, z, at, job.reads)
 }
 
 // Whether the master lacks a key that job j of run r has to fetch.
@@ -69,9 +68,9 @@ pub fn fetch_job(words: &mut [u32], z: Counts, r: usize, j: usize)
     ensures { λ _. ⌜ now (words .exit)
         ≡ written (fetchedJob (storeOf (now (words .entry))) r j) (now (words .entry)) ⌝ }
 {
-    let o = wide(job_site(words, z, r, j));
+    let job = job_of(words, z, r, j);
     let start = job_start(words, z, r, j);
-    let cache = z.site_at(o);
+    let cache = z.site_at(wide(job.site));
     let areas = z.areas();
     fetch_keys(words, z, areas.master, cache, start);
 }

@@ -1,13 +1,12 @@
 // Prepare: what the jobs of a run read is fetched, and the snapshot becomes the merge of their
 // caches. Every cause is tested before a word is stored.
 pub mod fetches;
-pub mod jobs;
 pub mod merges;
 
+use answers::Answered;
 use fetches::fetch_jobs;
 use fetches::is_unpreparable;
 use form::header::counts;
-use form::in_form;
 use merges::merge_run;
 use sizes::Counts;
 use sizes::run::RunOffset;
@@ -23,48 +22,28 @@ ghost use Rattle.layout.specs.Reading.{storeOf};
 ghost use Rattle.layout.specs.Buffer.{inForm};
 ghost use Rattle.layout.specs.Calls.{on, callOn, leaves};
 ghost use Rattle.form.specs.Parts.{FormWith};
-ghost use Rattle.prepare.specs.Answers.{preparedWords};
+ghost use Rattle.answers.specs.Answers.{answeredWords};
 
-// The mask of the keys that the snapshot carries, or the cause's number.
-pub enum Prepared {
-    Done(u32),
-    Refused(u32),
-}
-
-// Fetches what the jobs of a run read, and makes the snapshot the merge of their caches.
-pub fn prepare(words: &mut [u32], run: u32) -> Prepared
-    ensures answers { λ r. ⌜ preparedWords r
-        ≡ answer (callOn (on (prepare run)) (now (words .entry))) ⌝ }
-    ensures leaves { λ _. ⌜ now (words .exit)
-        ≡ leaves (callOn (on (prepare run)) (now (words .entry))) (now (words .entry)) ⌝ }
-    ensures form { λ _. ⌜ (So (inForm (now (words .entry))) → So (inForm (now (words .exit)))) ⌝ }
-{
-    if !in_form(words) {
-        return Prepared::Refused(1);
-    }
-    prepare_in(words, run)
-}
-
-// Prepare on a buffer in form.
-pub fn prepare_in(words: &mut [u32], run: u32) -> Prepared
+// Fetches what the jobs of a run read, and makes the snapshot the merge of their caches. Answers
+// the mask of the keys that it carries.
+pub fn prepare(words: &mut [u32], run: u32) -> Answered
     requires { ⌜ So (inForm (now words)) ⌝ }
-    ensures answers { λ r. ⌜ preparedWords r
+    ensures answers { λ r. ⌜ answeredWords r
         ≡ answer (callOn (on (prepare run)) (now (words .entry))) ⌝ }
     ensures leaves { λ _. ⌜ now (words .exit)
         ≡ leaves (callOn (on (prepare run)) (now (words .entry))) (now (words .entry)) ⌝ }
-    ensures form { λ _. ⌜ (So (inForm (now (words .entry))) → So (inForm (now (words .exit)))) ⌝ }
 {
     let z = counts(words);
     let r = run as usize;
     let cause = prepare_cause(words, z, r);
     if cause != 0 {
-        return Prepared::Refused(cause);
+        return Answered::Refused(cause);
     }
     fetch_jobs(words, z, r);
     merge_run(words, z, r);
     let snapshot = z.snapshot_at(r);
     let carried = held_mask(words, z, snapshot);
-    Prepared::Done(carried)
+    Answered::Done(carried)
 }
 
 // The first cause for which a prepare is refused, or 0.

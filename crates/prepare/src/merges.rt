@@ -1,9 +1,12 @@
 // The snapshot of a run becomes the merge of its jobs' caches, cut down to its plan.
-use crate::jobs::plan_keys;
-use crate::jobs::sites_used;
 use masks::has;
+use masks::with_item;
 use sizes::Counts;
+use trial::jobs::job_count;
+use trial::jobs::job_of;
+use trial::jobs::plan_keys;
 use version::merge_keys;
+use words::wide;
 use words::zero;
 ghost use mathlib.Core.Path.{_≡_};
 ghost use mathlib.Core.Bool.{So};
@@ -14,12 +17,30 @@ ghost use Rattle.sizes.specs.Bounds.{siteAt};
 ghost use Rattle.model.specs.Version.{versions};
 ghost use Rattle.model.specs.Store.{emptyPlace};
 ghost use Rattle.model.specs.Form.{placeFormed};
-ghost use Rattle.model.specs.Prepare.{sitesMerged};
+ghost use Rattle.model.specs.Prepare.{usesSite, sitesMerged};
 ghost use Rattle.layout.specs.Reading.{readPlace, storeOf};
 ghost use Rattle.layout.specs.Stored.{putPlace};
 ghost use Rattle.layout.specs.Buffer.{written};
 ghost use Rattle.version.specs.Places.{Area, Areas};
-ghost use Rattle.prepare.specs.Turns.{UsedRun, MergeArea, siteMerged, merged};
+ghost use Rattle.trial.specs.Jobs.{UsedRun};
+ghost use Rattle.prepare.specs.Turns.{MergeArea, siteMerged, merged};
+
+// The sites that a job of run r is at.
+pub fn sites_used(words: &[u32], z: Counts, r: usize) -> u32
+    requires { ⌜ UsedRun (now words) z r ⌝ }
+    ensures { λ m. ⌜ testBit m ≡ usesSite (storeOf (now (words .entry)) .run r .jobs)
+        (storeOf (now (words .entry)) .run r .job) ⌝ }
+{
+    let n = wide(job_count(words, z, r));
+    let mut mask: u32 = 0;
+    let mut j = 0;
+    while j < n {
+        let job = job_of(words, z, r, j);
+        mask = with_item(mask, job.site);
+        j += 1;
+    }
+    mask
+}
 
 // Clears the place at an index: it holds nothing.
 pub fn clear_place(words: &mut [u32], z: Counts, at: usize)

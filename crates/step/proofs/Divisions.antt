@@ -1,7 +1,6 @@
 -- Masks of sets of keys, as step computes them.
 -- from-..: the reads divided by where they come from.
 -- moved-mask, moved-some, moved-none: C's keys that the run has read.
--- upstream-some: an upstream job that isn't done.
 -- Assumes nothing.
 use mathlib.Core.Path.{_≡_, sym, ap, _∙_}
 use mathlib.Core.Bool.{Bool, false, not, So, _&&_}
@@ -12,11 +11,9 @@ use lib.Bits.{bitAnd, and-le-l}
 use lib.Dec.{eqb}
 use Rattle.words.specs.Tests.{Items, anyBelow}
 use Rattle.words.proofs.Bools.{ne-eqb, eq-eqb, and-assoc, not-not}
-use Rattle.words.proofs.Tests.{any-same}
 use Rattle.masks.specs.Mask.{testBit, maskBelow, without}
 use Rattle.masks.proofs.Bits.{test-and, test-without, without-lt}
-use Rattle.masks.proofs.Sets.{mask-lt, mask-none, set-none, mask-is, item-of}
-use Rattle.sizes.specs.Bounds.{maxJobs}
+use Rattle.masks.proofs.Sets.{mask-lt, set-none, mask-is, item-of}
 
 -- ---- the reads R, with C and T as masks p and t
 
@@ -68,14 +65,3 @@ module _ (K p m : ℕ) (C : Items) (e : p ≡ maskBelow K C) where
 
   pub moved-none : bitAnd p m ≡ 0 → anyBelow K (λ k. C k && testBit m k) ≡ false
   moved-none h = moved-test ∙ ap not (eq-eqb (bitAnd p m) 0 h)
-
--- ---- upstream jobs
-
-pub upstream-some : (done upstream : ℕ) → upstream < 2 ^ maxJobs
-    → not (eqb (without upstream done) 0)
-    ≡ anyBelow maxJobs (λ i. testBit upstream i && not (testBit done i))
-upstream-some done upstream h =
-    ap not (mask-none maxJobs (without upstream done) (without-lt upstream done maxJobs h))
-    ∙ not-not (anyBelow maxJobs (testBit (without upstream done)))
-    ∙ any-same maxJobs (testBit (without upstream done))
-    (λ i. testBit upstream i && not (testBit done i)) (λ i _. test-without upstream done i)

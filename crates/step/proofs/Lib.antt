@@ -1,5 +1,3 @@
 pub mod Divisions
-pub mod Jobs
-pub mod Visits
-pub mod Seen
+pub mod Stores
 pub mod Steps

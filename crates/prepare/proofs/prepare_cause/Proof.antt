@@ -10,8 +10,8 @@ use Rattle.sizes.specs.Bounds.{snapshotOffset}
 use Rattle.model.specs.Outcome.{refuse, prepareRow, runCause}
 use Rattle.model.specs.Prepare.{prepareCause}
 use Rattle.layout.specs.Reading.{storeOf}
-use Rattle.prepare.specs.Turns.{UsedRun}
-use Rattle.prepare.proofs.Known.{jobs-known, run-index, done-word}
+use Rattle.trial.specs.Jobs.{UsedRun}
+use Rattle.trial.proofs.Known.{jobs-known, run-index, done-word}
 use Rattle.prepare.proofs.Causes.{cause-run, cause-done, cause-lacks, used-run}
 use Rattle.prepare.proofs.prepare_cause.Statement.{statement}
 use Rattle.prepare.proofs.prepare_cause.Tie as tie

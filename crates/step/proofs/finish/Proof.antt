@@ -2,94 +2,120 @@
 -- Assumes nothing.
 use mathlib.Core.Path.{_≡_, ap, _∙_}
 use mathlib.Core.List.{List}
-use Prim.Native.Nat.{ℕ}
+use Prim.Native.Nat.{ℕ, _+_, _≤_}
 use borrow.Author.Needs.{needs}
 use native.Mathlib.Omega.{arith}
 use lib.Bits.{bitOr}
+use lib.ListN.{length}
+use Rattle.sizes.specs.Bounds.{snapshotOffset}
+use Rattle.model.specs.Step.{stepCache, stepSnapshot}
+use Rattle.layout.specs.Reading.{storeOf}
 use Rattle.layout.specs.Stored.{putPlace}
+use Rattle.form.proofs.Known.{form-area}
 use Rattle.status.proofs.Statuses.{marked-words}
-use Rattle.step.specs.Visits.{fetchedOf, snapshotOf, finished}
-use Rattle.step.proofs.Visits.{tried-taken, tried-pulled, fetch-areas, merge-areas, copied, both-formed, merged}
+use Rattle.trial.proofs.Known.{run-index, job-low}
+use Rattle.step.proofs.Stores.{found-run, fetch-areas, merge-areas, copied, both-formed, merged, step-left}
 use Rattle.step.proofs.finish.Statement.{statement}
 use Rattle.step.proofs.finish.Tie as tie
 
+run-at-requires : tie.Need-run-at-requires
+run-at-requires c κs =
+    let s = c .before in
+    (form-area _ _ (s .pre .form) .ranged, found-run _ _ _ _ _ _ (s .pre) .0 .run)
+
+-- The first words of the run.
+here : (c : tie.After-run-at)
+    → c .run-at .result + snapshotOffset ≤ length (c .before .before .args .words .now)
+here c =
+    let s = c .before .before in
+    run-index _ _ _ (found-run _ _ _ _ _ _ (s .pre) .0) _ (c .run-at .ensures)
+
 add-with-item : tie.Need-add-with-item
-add-with-item c = search needs
+add-with-item c = omega (arith, here c)
 
 mul-with-item : tie.Need-mul-with-item
-mul-with-item c = search needs
+mul-with-item c = omega (arith, here c)
 
 slice-read-with-item : tie.Need-slice-read-with-item
-slice-read-with-item c = search needs
+slice-read-with-item c = omega (arith, here (c .before))
 
 with-item-requires : tie.Need-with-item-requires
-with-item-requires c κs = search needs
+with-item-requires c κs =
+    let s = c .before .before .before in
+    let U = found-run _ _ _ _ _ _ (s .pre) in
+    omega (arith, job-low _ _ _ (U .0) (s .args .job) (U .1))
 
 copy-keys-requires : tie.Need-copy-keys-requires
 copy-keys-requires c κs =
-    let s = c .before .before .before .before in
-    let a = s .args in
-    fetch-areas (a .z) (a .words .now) (a .visit) (s .pre .0 .0)
-
--- The cache has taken T.
-fetched : (c : tie.After-copy-keys) → let a = c .before .before .before .before .before .args in
-    c .copy-keys .last .0
-    ≡ putPlace (a .z) (a .words .now) (a .visit .cache)
-    (fetchedOf (a .z) (a .words .now) (a .visit))
-fetched c =
     let s = c .before .before .before .before .before in
     let a = s .args in
-    let l = a .words .now in
+    fetch-areas (a .words .now) (a .z) (a .r) (a .job) (a .visit) (a .trial) (s .pre)
+
+-- The cache has taken T.
+fetched : (c : tie.After-copy-keys) → let k = c .before .before .before .before in
+    let a = k .before .before .args in
+    c .copy-keys .last .0
+    ≡ putPlace (a .z) (a .words .now) (a .visit .cache)
+    (stepCache (storeOf (a .words .now)) (a .r) (a .job))
+fetched c =
+    let s = c .before .before .before .before .before .before in
+    let a = s .args in
     c .copy-keys .ensures
-    ∙ copied (a .z) l (a .visit) (s .pre .0 .0) (a .trial .taken)
-    (tried-taken (a .z) l (a .visit) (a .trial) (s .pre .1 .0))
+    ∙ copied (a .words .now) (a .z) (a .r) (a .job) (a .visit) (a .trial) (s .pre)
 
 merge-keys-requires : tie.Need-merge-keys-requires
 merge-keys-requires c κs =
     let n = c .before .before .before in
-    let s = n .before .before .before .before .before in
+    let s = n .before .before .before .before .before .before in
     let a = s .args in
     let l = a .words .now in (
-      rw (n .copy-keys .kept .0) (merge-areas (a .z) l (a .visit) (s .pre .0 .0)),
-      both-formed (a .z) l (a .visit) (s .pre .0 .0) (n .copy-keys .last .0) (fetched n)
-          (s .pre .0 .1),
+      rw (n .copy-keys .kept .0)
+          (merge-areas l (a .z) (a .r) (a .job) (a .visit) (a .trial) (s .pre)),
+      both-formed l (a .z) (a .r) (a .job) (a .visit) (a .trial) (s .pre)
+          (n .copy-keys .last .0) (fetched n),
     )
 
 mark-done-requires : tie.Need-mark-done-requires
 mark-done-requires c κs =
     let m = c .before .before .before .before in
     let n = m .before .before .before .before in
-    rw (m .merge-keys .kept .0 ∙ n .copy-keys .kept .0) (omega arith)
+    rw (m .merge-keys .kept .0 ∙ n .copy-keys .kept .0)
+    (omega (arith, here (n .before .before .before .before)))
 
 same-length : tie.Need-same-length
 same-length c = search needs
 
 returns : tie.Need-returns
-unfolding finished
 returns c =
     let d = c .before .before in
     let m = d .before .before .before .before .before in
     let n = m .before .before .before .before in
-    let s = n .before .before .before .before .before in
+    let i = n .before .before in
+    let k = i .before .before in
+    let s = k .before .before in
     let a = s .args in
     let l = a .words .now in
     let v = a .visit in
+    let x = storeOf l in
     let places : m .merge-keys .last .0
-    ≡ putPlace (a .z) (putPlace (a .z) l (v .cache) (fetchedOf (a .z) l v)) (v .snapshot)
-    (snapshotOf (a .z) l v) =
+    ≡ putPlace (a .z) (putPlace (a .z) l (v .cache) (stepCache x (a .r) (a .job))) (v .snapshot)
+    (stepSnapshot x (a .r) (a .job)) =
     m .merge-keys .ensures
-    ∙ merged (a .z) l v (s .pre .0 .0) (n .copy-keys .last .0) (fetched n) (a .trial .pulled)
-    (tried-pulled (a .z) l v (a .trial) (s .pre .1 .0))
-    ∙ ap (λ (m : List ℕ). putPlace (a .z) m (v .snapshot) (snapshotOf (a .z) l v)) (fetched n) in
+    ∙ merged l (a .z) (a .r) (a .job) v (a .trial) (s .pre) (n .copy-keys .last .0) (fetched n)
+    ∙ ap (λ (m : List ℕ). putPlace (a .z) m (v .snapshot) (stepSnapshot x (a .r) (a .job)))
+    (fetched n) in
     d .mark-done .ensures
-    ∙ marked-words (m .merge-keys .last .0) (a .at) (n .before .before .with-item .result)
+    ∙ marked-words (m .merge-keys .last .0) (k .run-at .result) (i .with-item .result)
     (bitOr (v .read) (v .reads))
-    ∙ rw (places, n .before .before .with-item .ensures)
+    ∙ rw (places, i .with-item .ensures)
+    (step-left l (a .z) (a .r) (a .job) v (a .trial) (s .pre) (k .run-at .result)
+    (k .run-at .ensures))
 
 pub finish-spec : {M : Type 1} → statement M
 finish-spec =
     tie.close
     (tie.spec
+    run-at-requires
     add-with-item
     mul-with-item
     slice-read-with-item

@@ -1,16 +1,40 @@
--- `step` is refused on a buffer that is not in form.
+-- `step` is refused for the trial's cause, or acts by what it found.
 -- Assumes nothing.
 use mathlib.Core.Path.{sym, _∙_}
 use borrow.Author.Needs.{needs}
-use borrow.Author.Tests.{not-true, not-false}
-use Rattle.model.specs.Calls.{step}
-use Rattle.form.proofs.Known.{ends-unformed}
+use Rattle.form.proofs.Known.{form-long}
+use Rattle.trial.proofs.Trials.{refused-as, found-as}
 use Rattle.step.specs.Answers.{steppedWords}
+use Rattle.step.proofs.Steps.{step-refused}
 use Rattle.step.proofs.step.Statement.{statement}
 use Rattle.step.proofs.step.Tie as tie
 
-in-form-requires : tie.Need-in-form-requires
-in-form-requires c κs = search needs
+counts-requires : tie.Need-counts-requires
+counts-requires c κs = form-long _ (c .before .before .pre)
+
+try-job-requires : tie.Need-try-job-requires
+try-job-requires c κs = search needs
+
+enum-known-tried : tie.Need-enum-known-tried
+enum-known-tried c = search needs
+
+enum-known-tried-2 : tie.Need-enum-known-tried-2
+enum-known-tried-2 c = search needs
+
+act-requires : tie.Need-act-requires
+act-requires c κs =
+    let k = c .before .before in
+    let t = k .before .before in
+    let n = t .before .before in
+    let s = n .before .before .before in
+    let a = s .args in
+    let f = found-as _ (a .run) (a .job) _ _ _ (sym (k .tried2 .given .1) ∙ t .try-job .ensures) in
+    record {
+      form = record { form = s .pre; counts = n .counts .ensures };
+      free = f .0;
+      visit = f .1;
+      trial = f .2;
+    }
 
 same-length : tie.Need-same-length
 same-length c = search needs
@@ -18,21 +42,30 @@ same-length c = search needs
 returns : tie.Need-returns
 unfolding steppedWords
 returns c =
-    let a = c .before .before .before .before .args in
-    ends-unformed (step (a .run) (a .job)) (a .words .now)
-    (sym (c .before .in-form .ensures) ∙ not-true _ (c .if1 .taken))
-
-step-in-requires : tie.Need-step-in-requires
-step-in-requires c κs =
-    sym (c .before .before .in-form .ensures) ∙ not-false _ (c .before .if1 .left)
+    let k = c .before in
+    let t = k .before .before in
+    let n = t .before .before in
+    let s = n .before .before .before in
+    let a = s .args in
+    let f = refused-as _ (a .run) (a .job) _ _ (sym (k .tried .given .1) ∙ t .try-job .ensures) in
+    step-refused (a .words .now) (a .run) (a .job) _ (s .pre) (f .0) (f .1)
 
 same-length-2 : tie.Need-same-length-2
 same-length-2 c = search needs
 
 returns-2 : tie.Need-returns-2
-returns-2 c = c .before .before .step-in .ensures
+returns-2 c = c .before .before .act .ensures
 
 pub step-spec : {M : Type 1} → statement M
 step-spec =
     tie.close
-    (tie.spec in-form-requires same-length returns step-in-requires same-length-2 returns-2)
+    (tie.spec
+    counts-requires
+    try-job-requires
+    enum-known-tried
+    enum-known-tried-2
+    act-requires
+    same-length
+    returns
+    same-length-2
+    returns-2)

@@ -1,34 +1,39 @@
 -- `fetch_job` stores the cache of the job's site.
 -- Assumes nothing.
-use mathlib.Core.Path.{_∙_}
+use mathlib.Core.Path.{_≡_, ap, _∙_}
 use Prim.Native.Nat.{_<_}
 use borrow.Author.Needs.{needs}
 use lib.ListN.{length}
+use Rattle.layout.specs.Reading.{storeOf}
 use Rattle.version.proofs.Stores.{site-master}
 use Rattle.form.proofs.Known.{form-area, master-found}
+use Rattle.trial.specs.declared.jobs.PlannedJob.{PlannedJob}
 use Rattle.prepare.proofs.Fetching.{site-low, start-low, job-stored}
 use Rattle.prepare.proofs.fetches.fetch_job.Statement.{statement}
 use Rattle.prepare.proofs.fetches.fetch_job.Tie as tie
 
-job-site-requires : tie.Need-job-site-requires
-job-site-requires c κs = search needs
-
-wide-requires : tie.Need-wide-requires
-wide-requires c κs = search needs
+job-of-requires : tie.Need-job-of-requires
+job-of-requires c κs = search needs
 
 job-start-requires : tie.Need-job-start-requires
 job-start-requires c κs = search needs
 
--- The site is one of the store's.
-below : (c : tie.After-job-start)
-    → c .before .before .wide .result
-    < c .before .before .before .before .before .before .args .z .sites
+wide-requires : tie.Need-wide-requires
+wide-requires c κs = search needs
+
+-- The site is that of the job, and one of the store's.
+site : (c : tie.After-wide) → let a = c .before .before .before .before .before .before .args in
+    c .wide .result ≡ storeOf (a .words .now) .run (a .r) .job (a .j) .site
+site c =
+    let j = c .before .before .before in
+    c .wide .ensures ∙ ap (λ (x : PlannedJob). x .site) (j .job-of .ensures)
+
+below : (c : tie.After-wide)
+    → c .wide .result < c .before .before .before .before .before .before .args .z .sites
 below c =
-    let w = c .before .before in
-    let s = w .before .before .before .before in
+    let s = c .before .before .before .before .before .before in
     let a = s .args in
-    site-low (a .words .now) (a .z) (a .r) (a .j) (s .pre .0) (s .pre .1) _
-    (w .wide .ensures ∙ w .before .job-site .ensures)
+    site-low (a .words .now) (a .z) (a .r) (a .j) (s .pre .0) (s .pre .1) _ (site c)
 
 site-at-requires : tie.Need-site-at-requires
 site-at-requires c κs =
@@ -44,12 +49,13 @@ fetch-keys-requires : tie.Need-fetch-keys-requires
 fetch-keys-requires c κs =
     let u = c .before in
     let t = u .before in
-    let n = t .before in
-    let s = n .before .before .before .before .before .before in
+    let w = t .before in
+    let n = w .before in
+    let s = n .before .before .before .before .before in
     let a = s .args in
     let R = form-area (a .words .now) (a .z) (s .pre .0 .form) in (
       rw (t .site-at .ensures, master-found (a .z) (u .areas .result) (u .areas .ensures))
-          (site-master (length (a .words .now)) (a .z) (R .ranged) (R .fits) _ (below n)),
+          (site-master (length (a .words .now)) (a .z) (R .ranged) (R .fits) _ (below w)),
       start-low (a .words .now) (a .z) (a .r) (a .j) (s .pre .0) (s .pre .1) _
           (n .job-start .ensures),
     )
@@ -62,22 +68,21 @@ returns c =
     let k = c .before .before in
     let u = k .before .before in
     let t = u .before in
-    let n = t .before in
-    let w = n .before .before in
-    let s = w .before .before .before .before in
+    let w = t .before in
+    let n = w .before in
+    let s = n .before .before .before .before .before in
     let a = s .args in
-    job-stored (a .words .now) (a .z) (a .r) (a .j) (s .pre .0) (s .pre .1) _ _ _ _ _
-    (w .wide .ensures ∙ w .before .job-site .ensures) (t .site-at .ensures)
-    (master-found (a .z) (u .areas .result) (u .areas .ensures)) (n .job-start .ensures)
-    (k .fetch-keys .ensures .1)
+    job-stored (a .words .now) (a .z) (a .r) (a .j) (s .pre .0) (s .pre .1) _ _ _ _ _ (site w)
+    (t .site-at .ensures) (master-found (a .z) (u .areas .result) (u .areas .ensures))
+    (n .job-start .ensures) (k .fetch-keys .ensures .1)
 
 pub fetch-job-spec : {M : Type 1} → statement M
 fetch-job-spec =
     tie.close
     (tie.spec
-    job-site-requires
-    wide-requires
+    job-of-requires
     job-start-requires
+    wide-requires
     site-at-requires
     areas-requires
     fetch-keys-requires

@@ -1,0 +1,231 @@
+-- What a step that doesn't break stores: the cache with T, the snapshot with C, and two masks.
+-- found-..: what holds of a visit that was found. fetch-areas, merge-areas: where the places lie.
+-- copied, merged: the two places as the rule has them; both-formed: between the two.
+-- step-left: the buffer after it.
+-- Assumes nothing.
+use mathlib.Core.Path.{_≡_, ap, _∙_}
+use mathlib.Core.Bool.{So}
+use mathlib.Core.Logic.{inl}
+use mathlib.Core.List.{List}
+use Prim.Native.Nat.{ℕ, suc, _+_, _<_, _≤_}
+use native.Mathlib.Omega.{arith}
+use lib.Bits.{bitOr}
+use lib.ListN.{length, getD, set}
+use Rattle.words.proofs.Lists.{putAt-same}
+use Rattle.masks.specs.Mask.{testBit, withBit, maskBelow}
+use Rattle.sizes.specs.declared.Counts.{Counts}
+use Rattle.sizes.specs.Bounds.{doneOffset, readOffset, placeSize, siteAt, runAt, snapshotAt}
+use Rattle.model.specs.Algebra.{Place}
+use Rattle.model.specs.Version.{Version, merge, versions}
+use Rattle.model.specs.Sets.{fetched, pulled}
+use Rattle.model.specs.Store.{Run, Store, withSites, withCache, withRun, withSnapshot, withJobDone}
+use Rattle.model.specs.Form.{placeFormed}
+use Rattle.model.specs.Step.{stepSite, stepStart, stepFetch, stepCache, stepPull, stepSnapshot, stepDone}
+use Rattle.model.proofs.Formed.{place-out, place-in}
+use Rattle.model.proofs.Steps.{step-free}
+use Rattle.layout.specs.Reading.{readPlace, storeOf}
+use Rattle.layout.specs.Stored.{putPlace}
+use Rattle.layout.specs.Buffer.{written}
+use Rattle.layout.specs.Calls.{leaves}
+use Rattle.layout.proofs.Parts.{place-laws}
+use Rattle.layout.proofs.Windows.{part-back}
+use Rattle.layout.proofs.Readings.{snapshot-in}
+use Rattle.layout.proofs.Updates.{put-snapshot, put-masks, run-twice}
+use Rattle.layout.proofs.Kept.{fetched-fits, fetched-formed}
+use Rattle.version.specs.Places.{choice, Areas}
+use Rattle.version.proofs.Stores.{place-beside, site-master, snapshot-site}
+use Rattle.form.specs.Parts.{FormWith}
+use Rattle.form.proofs.Known.{form-area, form-counts, master-formed, cache-formed, cache-stored}
+use Rattle.sets.proofs.Views.{chosen}
+use Rattle.trial.specs.declared.Visit.{Visit}
+use Rattle.trial.specs.declared.Trial.{Trial}
+use Rattle.trial.specs.Jobs.{UsedRun}
+use Rattle.trial.specs.Trials.{visitOf, trialOf, Finds}
+use Rattle.trial.proofs.Known.{jobs-known, job-known, job-ready, snapshot-behind, done-word}
+use Rattle.trial.proofs.Trials.{master-at, cache-at, old-master, old-cache}
+
+-- ---- by the store
+
+-- The snapshot, then the done and the read mask.
+run-stepped : (s : Store) (l : List ℕ) (r : ℕ) (q : Place Version) (x y : ℕ)
+    → r < s .counts .runs → let z = s .counts in
+    set (set (putPlace z (written s l) (snapshotAt z r) q) (runAt z r + 2) x) (runAt z r + 3) y
+    ≡ written (withRun s r (withJobDone (s .run r) x y q)) l
+unfolding withRun withSnapshot withJobDone
+run-stepped s l r q x y h =
+    let z = s .counts in
+    let a = withSnapshot (s .run r) q in
+    let t = withRun s r a in
+    let here : t .run r ≡ a = putAt-same (s .run) r a in
+    let next : runAt z r + 3 ≡ suc (runAt z r + 2) = omega arith in
+    let after : Run → Store = λ b. withRun t r (withJobDone b x y (b .snapshot)) in
+    rw (put-snapshot s l r q h, next)
+    (put-masks t l r x y h ∙ ap (λ (b : Run). written (after b) l) here
+    ∙ ap (λ (s : Store). written s l) (run-twice s r a (withJobDone a x y q)))
+
+-- The cache before them.
+step-stored : (l : List ℕ) (z : Counts) (r o : ℕ) (p q : Place Version) (x y : ℕ) → FormWith l z
+    → r < z .runs → o < z .sites
+    → set (set (putPlace z (putPlace z l (siteAt z o) p) (snapshotAt z r) q) (runAt z r + 2) x)
+    (runAt z r + 3) y
+    ≡ written (withRun (withCache (storeOf l) o p) r
+    (withJobDone (storeOf l .run r) x y q)) l
+unfolding withCache withSites
+step-stored l z r o p q x y H h i =
+    let s = storeOf l in
+    let same = form-counts l z H in
+    rw (cache-stored l z H o p i, ← same)
+    (run-stepped (withCache s o p) l r q x y (rw same h))
+
+-- ---- by what was found
+
+module _ (l : List ℕ) (z : Counts) (r j : ℕ) (v : Visit) (t : Trial)
+    (F : Finds l z r j v t) where
+  abbrev s : Store
+  s = storeOf l
+
+  pub found-counts : s .counts ≡ z
+  found-counts = form-counts l z (F .form)
+
+  pub found-run : UsedRun l z r × (j < s .run r .jobs)
+  found-run =
+      let f = step-free s r j (F .free) in
+      job-ready l z r j (F .form) (rw (← found-counts) (f .0)) (f .1)
+
+  pub found-site : stepSite s r j < z .sites
+  unfolding stepSite
+  found-site = job-known l z r (found-run .0) j (found-run .1) .site
+
+  pub found-taken : t .taken ≡ maskBelow (s .counts .keys) (stepFetch s r j)
+  unfolding trialOf
+  found-taken = ap (λ (t : Trial). t .taken) (F .trial)
+
+  pub found-pulled : t .pulled ≡ maskBelow (s .counts .keys) (stepPull s r j)
+  unfolding trialOf
+  found-pulled = ap (λ (t : Trial). t .pulled) (F .trial)
+
+  pub found-read : v .read ≡ s .run r .read
+  unfolding visitOf
+  found-read = ap (λ (v : Visit). v .read) (F .visit)
+
+  pub found-reads : v .reads ≡ s .run r .job j .reads
+  unfolding visitOf
+  found-reads = ap (λ (v : Visit). v .reads) (F .visit)
+
+  -- ---- where the places lie
+
+  snapshot-at : v .snapshot ≡ snapshotAt z r
+  unfolding visitOf
+  snapshot-at = ap (λ (v : Visit). v .snapshot) (F .visit)
+
+  site-at : v .cache ≡ siteAt z (stepSite s r j)
+  site-at = cache-at l z r j (snapshotAt z r) (found-run .0) (found-run .1) v (F .visit)
+
+  pub fetch-areas : Areas (length l) z (v .cache) (v .master)
+  fetch-areas =
+      let S = form-area l z (F .form) in
+      rw (site-at, master-at l z r j (snapshotAt z r) (found-run .0) (found-run .1) v (F .visit))
+      (site-master (length l) z (S .ranged) (S .fits) _ found-site)
+
+  pub merge-areas : Areas (length l) z (v .snapshot) (v .cache)
+  merge-areas =
+      let S = form-area l z (F .form) in
+      rw (site-at, snapshot-at)
+      (snapshot-site (length l) z (S .ranged) (S .fits) r _ (found-run .0 .run) found-site)
+
+  -- ---- the cache
+
+  abbrev master : Place Version
+  master = readPlace z l (v .master)
+
+  abbrev cache : Place Version
+  cache = readPlace z l (v .cache)
+
+  same-master : s .master ≡ master
+  same-master = old-master l z r j (snapshotAt z r) (found-run .0) (found-run .1) v (F .visit)
+
+  same-cache : s .site (stepSite s r j) .cache ≡ cache
+  same-cache = old-cache l z r j (snapshotAt z r) (found-run .0) (found-run .1) v (F .visit)
+
+  same-snapshot : s .run r .snapshot ≡ readPlace z l (v .snapshot)
+  same-snapshot = rw snapshot-at (snapshot-in l z (F .form .counts) r (found-run .0 .run))
+
+  pub copied :
+      putPlace z l (v .cache) (choice (testBit (t .taken)) master cache)
+      ≡ putPlace z l (v .cache) (stepCache s r j)
+  unfolding stepCache fetched stepFetch
+  copied =
+      rw (← same-master, ← same-cache)
+      (chosen z l (v .cache) (t .taken) (stepFetch s r j) (s .master)
+      (s .site (stepSite s r j) .cache)
+      (found-taken ∙ ap (λ (y : Counts). maskBelow (y .keys) (stepFetch s r j)) found-counts))
+
+  as-fetched : stepCache s r j
+      ≡ fetched (versions (z .writers)) (z .keys) master cache (stepStart s r j)
+  unfolding stepCache
+  as-fetched =
+      let start = stepStart s r j in
+      let old = s .site (stepSite s r j) .cache in
+      let taken : Counts → Place Version → Place Version → Place Version =
+      λ y p q. fetched (versions (y .writers)) (y .keys) p q start in
+      ap (λ (y : Counts). taken y (s .master) old) found-counts
+      ∙ ap (λ (p : Place Version). taken z p old) same-master ∙ ap (taken z master) same-cache
+
+  -- ---- the snapshot, on the buffer with that cache
+
+  module _ (m : List ℕ) (e : m ≡ putPlace z l (v .cache) (stepCache s r j)) where
+    cache-back : readPlace z m (v .cache) ≡ stepCache s r j
+    cache-back =
+        rw (e, as-fetched) (part-back (place-laws z) l (v .cache) _
+        (fetched-fits z master cache (stepStart s r j) (place-laws z .fits l (v .master))
+        (place-laws z .fits l (v .cache))) (fetch-areas .target .fits))
+
+    snapshot-back : readPlace z m (v .snapshot) ≡ s .run r .snapshot
+    snapshot-back =
+        let behind : v .cache + placeSize z ≤ v .snapshot =
+        rw (site-at, snapshot-at) (snapshot-behind l z r (found-run .0) _ found-site) in
+        rw (e, same-snapshot) (place-beside z l (v .cache) (v .snapshot) _ (inl behind))
+
+    pub both-formed : So (placeFormed z (readPlace z m (v .snapshot)))
+        × So (placeFormed z (readPlace z m (v .cache)))
+    both-formed =
+        let at = master-at l z r j (snapshotAt z r) (found-run .0) (found-run .1) v (F .visit) in
+        let whole : So (placeFormed z master) = rw at (master-formed l z (F .form)) in
+        let part : So (placeFormed z cache) =
+        rw site-at (cache-formed l z (F .form) _ found-site) in (
+          rw snapshot-back (place-in z _ (jobs-known l z r (found-run .0) .plan .snapshot .place)),
+          rw (cache-back, as-fetched) (place-in z _ (fetched-formed z master cache
+              (stepStart s r j) (place-out z master whole) (place-out z cache part))),
+        )
+
+    pub merged : putPlace z m (v .snapshot) (choice (testBit (t .pulled))
+        (λ k. merge (readPlace z m (v .snapshot) k) (readPlace z m (v .cache) k))
+        (readPlace z m (v .snapshot)))
+        ≡ putPlace z m (v .snapshot) (stepSnapshot s r j)
+    unfolding stepSnapshot pulled stepPull
+    merged =
+        rw (snapshot-back, cache-back)
+        (chosen z m (v .snapshot) (t .pulled) (stepPull s r j)
+        (λ k. merge (s .run r .snapshot k) (stepCache s r j k)) (s .run r .snapshot)
+        (found-pulled ∙ ap (λ (y : Counts). maskBelow (y .keys) (stepPull s r j)) found-counts))
+
+  -- ---- all that is stored
+
+  -- at: where the run begins.
+  pub step-left : (at : ℕ) → at ≡ runAt z r
+      → set (set (putPlace z (putPlace z l (v .cache) (stepCache s r j)) (v .snapshot)
+      (stepSnapshot s r j)) (at + doneOffset) (withBit (getD l (at + doneOffset) 0) j))
+      (at + readOffset) (bitOr (v .read) (v .reads))
+      ≡ leaves (stepDone s r j) l
+  unfolding leaves stepDone
+  step-left at e =
+      rw (
+        e,
+        done-word l z r (found-run .0),
+        found-read,
+        found-reads,
+        site-at,
+        snapshot-at,
+      )
+      (step-stored l z r (stepSite s r j) (stepCache s r j) (stepSnapshot s r j) _ _ (F .form)
+      (found-run .0 .run) found-site)

@@ -1,0 +1,237 @@
+-- The trial of a job finds what the rule of step does.
+-- tried-no, tried-yes: its two cases. refused-as, found-as: what each of them tells.
+-- visit-is: a visit as the code makes it. VisitKnown, visit-known: what holds of it.
+-- master-at, cache-at, old-..: the parts of the rule, where a visit reads them.
+-- cause-last: cause 7, as the code tests it. trial-found: T and C.
+-- line-own: the run's own snapshot and read mask.
+-- Assumes nothing.
+use mathlib.Core.Path.{_≡_, refl, sym, ap, _∙_}
+use mathlib.Core.Bool.{Bool, true, false}
+use mathlib.Core.Logic.{_≢_}
+use mathlib.Core.List.{List}
+use Prim.Native.Nat.{ℕ, _+_, _<_, _^_}
+use native.Mathlib.Omega.{arith}
+use lib.Dec.{eqb}
+use lib.ListN.{length, getD}
+use Rattle.words.specs.Tests.{Items}
+use Rattle.words.proofs.Bools.{test, clash, eqb-eq, eqb-ne, ne-eqb}
+use Rattle.masks.specs.Mask.{testBit, maskBelow}
+use Rattle.sizes.specs.declared.Counts.{Counts}
+use Rattle.sizes.specs.Bounds.{everyJob, readOffset, masterAt, siteAt, runAt, snapshotAt}
+use Rattle.model.specs.Algebra.{Algebra, lacking}
+use Rattle.model.specs.Version.{Version, versions}
+use Rattle.model.specs.Sets.{drawSet, fetchSet, unfetchable}
+use Rattle.model.specs.Store.{Run, Store}
+use Rattle.model.specs.Outcome.{refuse}
+use Rattle.model.specs.Step.{readStart, jobCause, stepCause, stepSite, stepReads, stepStart, stepFetch, stepCache, stepPlan, stepPull}
+use Rattle.model.proofs.Steps.{step-below}
+use Rattle.layout.specs.Reading.{readPlace, readRun, storeOf}
+use Rattle.layout.proofs.Readings.{master-in, cache-in, snapshot-in}
+use Rattle.version.specs.Places.{Area}
+use Rattle.version.proofs.Stores.{master-area, site-area, snapshot-area}
+use Rattle.form.specs.Parts.{readsOf, FormWith}
+use Rattle.form.proofs.Known.{form-area, form-counts}
+use Rattle.form.proofs.Snapshots.{test-plan}
+use Rattle.status.proofs.Known.{run-known}
+use Rattle.sets.specs.Draws.{viewed}
+use Rattle.trial.specs.declared.Visit.{Visit}
+use Rattle.trial.specs.declared.Trial.{Trial}
+use Rattle.trial.specs.declared.Tried.{Tried}
+use Rattle.trial.specs.declared.jobs.PlannedJob.{PlannedJob}
+use Rattle.trial.specs.Jobs.{UsedRun, plannedJob}
+use Rattle.trial.specs.Trials.{visitOf, trialOf, triedOf, LineAt}
+use Rattle.trial.proofs.Known.{jobs-known, job-known}
+use Rattle.trial.proofs.Masks.{fetchable, taken-mask, pulled-mask}
+
+-- ---- the two cases
+
+isFound : Tried → Bool
+isFound (Tried.Refused n) = false
+isFound (Tried.Found v t) = true
+
+-- What it holds, or something else in the other case.
+number : Tried → ℕ
+number (Tried.Refused n) = n
+number (Tried.Found v t) = 0
+
+visit : Visit → Tried → Visit
+visit w (Tried.Refused n) = w
+visit w (Tried.Found v t) = v
+
+trial : Trial → Tried → Trial
+trial u (Tried.Refused n) = u
+trial u (Tried.Found v t) = t
+
+module _ (s : Store) (r j snapshot : ℕ) where
+  pub tried-no : (n : ℕ) → stepCause s r j ≡ n → n ≢ 0
+      → Tried.Refused n ≡ triedOf s r j snapshot
+  unfolding triedOf
+  tried-no n e h = rw (e, ne-eqb n 0 h)
+
+  pub tried-yes : (v : Visit) (t : Trial) → stepCause s r j ≡ 0 → v ≡ visitOf s r j snapshot
+      → t ≡ trialOf s r j → Tried.Found v t ≡ triedOf s r j snapshot
+  unfolding triedOf
+  tried-yes v t e f g = rw e (λ i. Tried.Found (f i) (g i))
+
+  pub refused-as : (n : ℕ) → Tried.Refused n ≡ triedOf s r j snapshot
+      → (n ≡ stepCause s r j) × (n ≢ 0)
+  unfolding triedOf isFound number
+  refused-as n e =
+      let c = stepCause s r j in
+      test (eqb c 0) (λ y.
+      let same : Tried.Refused n ≡ Tried.Found (visitOf s r j snapshot) (trialOf s r j) =
+      rw y at e in
+      clash {b = true} refl (sym (ap isFound same))) (λ y.
+      let equal : Tried.Refused n ≡ Tried.Refused c = rw y at e in
+      let same : n ≡ c = ap number equal in
+      (same, λ z. eqb-ne c 0 y (sym same ∙ z)))
+
+  pub found-as : (v : Visit) (t : Trial) → Tried.Found v t ≡ triedOf s r j snapshot
+      → (stepCause s r j ≡ 0) × (v ≡ visitOf s r j snapshot) × (t ≡ trialOf s r j)
+  unfolding triedOf isFound visit trial
+  found-as v t e =
+      let c = stepCause s r j in
+      test (eqb c 0) (λ y.
+      let same : Tried.Found v t ≡ Tried.Found (visitOf s r j snapshot) (trialOf s r j) =
+      rw y at e in
+      (eqb-eq c 0 y, ap (visit v) same, ap (trial t) same))
+      (λ y.
+      let same : Tried.Found v t ≡ Tried.Refused c = rw y at e in
+      clash {b = true} refl (ap isFound same))
+
+-- ---- the visit of a job of a run that isn't free
+
+-- m, c, p, x: what the code finds.
+pub visit-is : (l : List ℕ) (z : Counts) (r j snapshot read : ℕ) → FormWith l z
+    → LineAt l z r snapshot read → let a = storeOf l .run r in
+    (m c p : ℕ) (x : PlannedJob) → m ≡ masterAt z → c ≡ siteAt z (x .site)
+    → p ≡ readsOf (a .jobs) (a .job) everyJob → x ≡ plannedJob (a .job j)
+    → _≡_ {A = Visit} (record {
+      master = m;
+      cache = c;
+      snapshot = snapshot;
+      plan = p;
+      reads = x .reads;
+      read = getD l read 0;
+    })
+    (visitOf (storeOf l) r j snapshot)
+unfolding visitOf stepSite
+visit-is l z r j snapshot read H L m c p x d e f g =
+    rw (form-counts l z H, L .mask) (λ i. record {
+      master = d i;
+      cache = (e ∙ ap (λ (x : PlannedJob). siteAt z (x .site)) g) i;
+      snapshot = snapshot;
+      plan = f i;
+      reads = g i .reads;
+      read = getD l read 0;
+    })
+
+pub record VisitKnown (l : List ℕ) (z : Counts) (v : Visit) : Type 0 where
+  pub master : Area (length l) z (v .master)
+  pub cache : Area (length l) z (v .cache)
+  pub reads : v .reads < 2 ^ z .keys
+
+module _ (l : List ℕ) (z : Counts) (r j snapshot : ℕ) (U : UsedRun l z r)
+    (h : j < storeOf l .run r .jobs) (v : Visit)
+    (seen : v ≡ visitOf (storeOf l) r j snapshot) where
+  abbrev s : Store
+  s = storeOf l
+
+  site-low : stepSite s r j < z .sites
+  unfolding stepSite
+  site-low = job-known l z r U j h .site
+
+  pub master-at : v .master ≡ masterAt z
+  unfolding visitOf
+  master-at = ap (λ (v : Visit). v .master) seen ∙ ap masterAt (form-counts l z (U .form))
+
+  pub cache-at : v .cache ≡ siteAt z (stepSite s r j)
+  unfolding visitOf
+  cache-at =
+      ap (λ (v : Visit). v .cache) seen
+      ∙ ap (λ (z : Counts). siteAt z (stepSite s r j)) (form-counts l z (U .form))
+
+  pub old-master : s .master ≡ readPlace z l (v .master)
+  old-master = rw master-at (master-in l z (U .form .counts))
+
+  pub old-cache : s .site (stepSite s r j) .cache ≡ readPlace z l (v .cache)
+  old-cache = rw cache-at (cache-in l z (U .form .counts) (stepSite s r j) site-low)
+
+  old-reads : stepReads s r j ≡ testBit (v .reads)
+  unfolding stepReads visitOf
+  old-reads = rw seen
+
+  old-plan : stepPlan s r j ≡ testBit (v .plan)
+  unfolding stepPlan visitOf
+  old-plan = rw seen (sym (test-plan _ _ (jobs-known l z r U .plan .jobs .high)))
+
+  pub visit-known : VisitKnown l z v
+  unfolding visitOf
+  visit-known =
+      let S = form-area l z (U .form) in
+      record {
+        master = rw master-at (master-area (length l) z (S .ranged) (S .fits));
+        cache = rw cache-at (site-area (length l) z (S .ranged) (S .fits) _ site-low);
+        reads = rw seen (job-known l z r U j h .reads);
+      }
+
+  -- wanted, start: what the code finds one after the other.
+  module _ (read : ℕ) (L : LineAt l z r snapshot read) (wanted start : ℕ)
+      (w : wanted ≡ maskBelow (z .keys) (lacking (versions (z .writers)) (z .keys)
+      (readPlace z l snapshot) (testBit (v .reads))))
+      (e : start ≡ maskBelow (z .keys) (lacking (versions (z .writers)) (z .keys)
+      (readPlace z l (v .cache)) (testBit wanted))) where
+    abbrev alg : Algebra Version
+    alg = versions (z .writers)
+
+    abbrev begin : Items
+    begin =
+        readStart alg (z .keys) (readPlace z l snapshot) (readPlace z l (v .cache))
+        (testBit (v .reads))
+
+    pub cause-last : (b : Bool) → jobCause (s .run r) j 0 ≡ 0
+        → b ≡ unfetchable alg (z .keys) (readPlace z l (v .master)) (testBit start)
+        → stepCause s r j ≡ refuse b 7 0
+    unfolding stepStart
+    cause-last b free f =
+        let same : unfetchable (versions (s .counts .writers)) (s .counts .keys) (s .master)
+        (stepStart s r j) ≡ b =
+        rw (old-reads, old-cache, L .place, old-master, form-counts l z (U .form))
+        (sym (fetchable alg (z .keys) (readPlace z l (v .master)) _ _ _ wanted start w e)
+        ∙ sym f) in
+        step-below s r j (rw (form-counts l z (U .form)) (U .run))
+        ∙ rw free (ap (λ (t : Bool). refuse t 7 0) same)
+
+    pub trial-found : (t p : ℕ)
+        → t ≡ maskBelow (z .keys) (fetchSet alg (z .keys) (readPlace z l (v .master))
+        (readPlace z l (v .cache)) (testBit start))
+        → p ≡ maskBelow (z .keys) (drawSet alg (z .keys) (testBit (v .plan))
+        (readPlace z l snapshot)
+        (viewed z l (record { mask = t; first = v .master; second = v .cache }))
+        (testBit wanted))
+        → _≡_ {A = Trial} (record { taken = t; pulled = p }) (trialOf s r j)
+    unfolding trialOf stepFetch stepPull stepCache stepStart viewed
+    trial-found t p f g =
+        let taken : t ≡ maskBelow (s .counts .keys) (stepFetch s r j) =
+        rw (old-reads, old-cache, L .place, old-master, form-counts l z (U .form))
+        (taken-mask alg (z .keys) (readPlace z l (v .master)) _ _ _ wanted start w e t f) in
+        let pulled : p ≡ maskBelow (s .counts .keys) (stepPull s r j) =
+        rw (old-reads, old-plan, old-cache, L .place, old-master, form-counts l z (U .form))
+        (pulled-mask alg (z .keys) (readPlace z l (v .master)) _ _ _ wanted start w e t f
+        (testBit (v .plan)) p g) in
+        λ i. record { taken = taken i; pulled = pulled i }
+
+-- ---- the run's own
+
+pub line-own : (l : List ℕ) (z : Counts) (r : ℕ) → FormWith l z → r < z .runs
+    → LineAt l z r (snapshotAt z r) (runAt z r + readOffset)
+unfolding readRun
+line-own l z r H h =
+    let S = form-area l z H in
+    let K = run-known l z r H h in
+    record {
+      area = snapshot-area (length l) z (S .ranged) (S .fits) r h;
+      place = snapshot-in l z (H .counts) r h;
+      low = omega (arith, K .area .fits);
+      mask = ap (λ (a : Run). a .read) (K .run);
+    }

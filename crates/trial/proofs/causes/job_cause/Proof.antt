@@ -1,0 +1,195 @@
+-- `job_cause` tests the job's range, the state and the jobs done, in the table's order.
+-- Assumes nothing.
+use mathlib.Core.Path.{_≡_, sym, _∙_}
+use Prim.Native.Nat.{_+_, _≤_, _<_}
+use borrow.Author.Needs.{needs}
+use borrow.Author.Tests.{not-true, not-false}
+use native.Mathlib.Omega.{arith}
+use lib.ListN.{length}
+use Rattle.words.proofs.Bools.{le-leb, gt-leb}
+use Rattle.model.specs.Outcome.{refuse, allowed, stepRow}
+use Rattle.model.specs.Step.{jobLimit, jobCause}
+use Rattle.layout.specs.Reading.{storeOf}
+use Rattle.form.proofs.Known.{form-area}
+use Rattle.status.proofs.Known.{RunKnown, run-known}
+use Rattle.trial.specs.Jobs.{UsedRun}
+use Rattle.trial.proofs.Known.{limit-in, state-in, done-in, job-low, upstream-low, job-open}
+use Rattle.trial.proofs.causes.job_cause.Statement.{statement}
+use Rattle.trial.proofs.causes.job_cause.Tie as tie
+
+-- ---- the run's words
+
+run-at-requires : tie.Need-run-at-requires
+run-at-requires c κs =
+    let s = c .before in (form-area _ _ (s .pre .0) .ranged, s .pre .1)
+
+-- The run, and where its words are.
+known : (c : tie.After-run-at) → let a = c .before .before .args in
+    RunKnown (a .words .now) (a .z) (a .r)
+known c = let s = c .before .before in run-known _ _ _ (s .pre .0) (s .pre .1)
+
+here : (c : tie.After-run-at)
+    → c .run-at .result + 28 ≤ length (c .before .before .args .words .now)
+here c = rw (c .run-at .ensures) (omega (arith, known c .area .fits))
+
+mul-state : tie.Need-mul-state
+mul-state c = omega (arith, here c)
+
+shared-slice-read-state : tie.Need-shared-slice-read-state
+shared-slice-read-state c = omega (arith, here (c .before))
+
+add-jobs : tie.Need-add-jobs
+add-jobs c = omega (arith, here (c .before))
+
+mul-jobs : tie.Need-mul-jobs
+mul-jobs c = omega (arith, here (c .before))
+
+shared-slice-read-jobs : tie.Need-shared-slice-read-jobs
+shared-slice-read-jobs c = omega (arith, here (c .before .before))
+
+add-done : tie.Need-add-done
+add-done c = omega (arith, here (c .before .before))
+
+mul-done : tie.Need-mul-done
+mul-done c = omega (arith, here (c .before .before))
+
+shared-slice-read-done : tie.Need-shared-slice-read-done
+shared-slice-read-done c = omega (arith, here (c .before .before .before))
+
+-- ---- the job's range
+
+job-limit-requires : tie.Need-job-limit-requires
+job-limit-requires c κs = search needs
+
+limited : (c : tie.After-job-limit) → let n = c .before .before .before .before in
+    let a = n .before .before .args in
+    let x = storeOf (a .words .now) .run (a .r) in
+    jobLimit (x .state) (x .jobs) ≡ c .job-limit .result
+limited c =
+    let n = c .before .before .before .before in
+    let a = n .before .before .args in
+    limit-in (a .words .now) (a .z) (a .r) (known n) _ (n .run-at .ensures)
+    ∙ sym (c .job-limit .ensures)
+
+returns : tie.Need-returns
+unfolding jobCause refuse
+returns c = rw (limited (c .before), le-leb _ _ (c .if1 .taken))
+
+-- ---- the state
+
+is-allowed-requires : tie.Need-is-allowed-requires
+is-allowed-requires c κs =
+    let n = c .before .before .before .before .before in
+    (omega arith, rw (n .run-at .ensures) (known n .state))
+
+stated : (c : tie.After-is-allowed) → let n = c .before .before .before .before .before .before in
+    let a = n .before .before .args in
+    allowed stepRow (storeOf (a .words .now) .run (a .r) .state) ≡ c .is-allowed .result
+stated c =
+    let n = c .before .before .before .before .before .before in
+    let a = n .before .before .args in
+    rw (state-in (a .words .now) (a .z) (a .r) (known n) _ (n .run-at .ensures))
+    (sym (c .is-allowed .ensures))
+
+returns-2 : tie.Need-returns-2
+unfolding jobCause refuse
+returns-2 c =
+    let t = c .before in
+    let e = t .before in
+    rw (
+      limited (e .before),
+      gt-leb _ _ (e .if1 .left),
+      stated t,
+      not-true (t .is-allowed .result) (c .if2 .taken),
+    )
+
+-- ---- the jobs done
+
+-- A job in range of a run that isn't free.
+ready : (c : tie.Else2) → let n = c .before .before .before .before .before .before .before in
+    let a = n .before .before .args in
+    UsedRun (a .words .now) (a .z) (a .r) × (a .j < storeOf (a .words .now) .run (a .r) .jobs)
+ready c =
+    let t = c .before in
+    let e = t .before in
+    let n = e .before .before .before .before .before in
+    let s = n .before .before in
+    let a = s .args in
+    job-open (a .words .now) (a .z) (a .r) (a .j) (s .pre .0) (s .pre .1)
+    (rw (limited (e .before)) (gt-leb _ _ (e .if1 .left)))
+    (stated t ∙ not-false (t .is-allowed .result) (c .if2 .left))
+
+job-of-requires : tie.Need-job-of-requires
+job-of-requires c κs = ready c
+
+low : (c : tie.After-job-of)
+    → let n = c .before .before .before .before .before .before .before .before in
+    (n .before .before .args .j < 8) × (c .job-of .result .upstream < 256)
+low c =
+    let e = c .before in
+    let n = e .before .before .before .before .before .before .before in
+    let a = n .before .before .args in
+    let U = ready e in (
+      job-low (a .words .now) (a .z) (a .r) (U .0) (a .j) (U .1),
+      rw (c .job-of .ensures)
+          (upstream-low (a .words .now) (a .z) (a .r) (U .0) (a .j) (U .1)),
+    )
+
+cast-is-unready : tie.Need-cast-is-unready
+cast-is-unready c = omega (arith, low c)
+
+is-unready-requires : tie.Need-is-unready-requires
+is-unready-requires c κs = low c
+
+-- What is left where the causes before it do not hold.
+tested : (c : tie.After-is-unready)
+    → let n = c .before .before .before .before .before .before .before .before .before in
+    let a = n .before .before .args in
+    jobCause (storeOf (a .words .now) .run (a .r)) (a .j) 0 ≡ refuse (c .is-unready .result) 6 0
+unfolding jobCause refuse
+tested c =
+    let j = c .before in
+    let t = j .before .before in
+    let e = t .before in
+    let n = e .before .before .before .before .before in
+    let a = n .before .before .args in
+    rw (
+      limited (e .before),
+      gt-leb _ _ (e .if1 .left),
+      stated t,
+      not-false (t .is-allowed .result) (j .before .if2 .left),
+      done-in (a .words .now) (a .z) (a .r) (known n) _ (n .run-at .ensures),
+      c .is-unready .ensures,
+      j .job-of .ensures,
+    )
+
+returns-3 : tie.Need-returns-3
+unfolding refuse
+returns-3 c = rw (tested (c .before), c .if3 .taken)
+
+returns-4 : tie.Need-returns-4
+unfolding refuse
+returns-4 c = rw (tested (c .before), c .if3 .left)
+
+pub job-cause-spec : {M : Type 1} → statement M
+job-cause-spec =
+    tie.close
+    (tie.spec
+    run-at-requires
+    mul-state
+    shared-slice-read-state
+    add-jobs
+    mul-jobs
+    shared-slice-read-jobs
+    add-done
+    mul-done
+    shared-slice-read-done
+    job-limit-requires
+    returns
+    is-allowed-requires
+    returns-2
+    job-of-requires
+    cast-is-unready
+    is-unready-requires
+    returns-3
+    returns-4)

@@ -1,0 +1,154 @@
+-- `try_at` tests the causes of the run, finds what is to be fetched, then T and C.
+-- Assumes nothing.
+use mathlib.Core.Path.{_≡_, sym, ap, _∙_}
+use mathlib.Core.Bool.{Bool}
+use Prim.Native.Nat.{_<_, _^_}
+use borrow.Author.Needs.{needs}
+use native.Mathlib.Omega.{arith}
+use Rattle.words.proofs.Bools.{ne-eqb}
+use Rattle.masks.proofs.Sets.{mask-lt}
+use Rattle.model.specs.Outcome.{refuse}
+use Rattle.model.specs.Step.{jobCause, stepCause}
+use Rattle.model.proofs.Steps.{step-below}
+use Rattle.layout.specs.Reading.{storeOf}
+use Rattle.form.proofs.Known.{form-counts}
+use Rattle.trial.specs.Jobs.{UsedRun}
+use Rattle.trial.proofs.Known.{job-ready}
+use Rattle.trial.proofs.Trials.{VisitKnown, tried-no, tried-yes, visit-known, cause-last, trial-found}
+use Rattle.trial.proofs.try_at.Statement.{statement}
+use Rattle.trial.proofs.try_at.Tie as tie
+
+-- ---- the causes of the run
+
+job-cause-requires : tie.Need-job-cause-requires
+job-cause-requires c κs = search needs
+
+returns : tie.Need-returns
+returns c =
+    let n = c .before in
+    let s = n .before .before in
+    let a = s .args in
+    let early = n .job-cause .result in
+    let cause : stepCause (storeOf (a .words .now)) (a .r) (a .j) ≡ early =
+    rw (
+      step-below (storeOf (a .words .now)) (a .r) (a .j)
+          (rw (form-counts (a .words .now) (a .z) (s .pre .0 .0)) (s .pre .0 .1)),
+      ← n .job-cause .ensures,
+      ne-eqb early 0 (c .if1 .taken),
+    ) in
+    tried-no _ (a .r) (a .j) _ early cause (c .if1 .taken)
+
+-- None of them holds.
+free : (c : tie.Else1) → let a = c .before .before .before .args in
+    jobCause (storeOf (a .words .now) .run (a .r)) (a .j) 0 ≡ 0
+free c = sym (c .before .job-cause .ensures) ∙ c .if1 .left
+
+ready : (c : tie.Else1) → let a = c .before .before .before .args in
+    UsedRun (a .words .now) (a .z) (a .r) × (a .j < storeOf (a .words .now) .run (a .r) .jobs)
+ready c =
+    let s = c .before .before .before in
+    let a = s .args in
+    job-ready (a .words .now) (a .z) (a .r) (a .j) (s .pre .0 .0) (s .pre .0 .1) (free c)
+
+visit-of-requires : tie.Need-visit-of-requires
+visit-of-requires c κs = (ready c, c .before .before .before .pre .1)
+
+-- ---- what is to be fetched
+
+known : (c : tie.After-visit-of) → let a = c .before .before .before .before .args in
+    VisitKnown (a .words .now) (a .z) (c .visit-of .result)
+known c =
+    let e = c .before in
+    let a = e .before .before .before .args in
+    visit-known (a .words .now) (a .z) (a .r) (a .j) (a .snapshot) (ready e .0) (ready e .1) _
+    (c .visit-of .ensures)
+
+lacking-requires : tie.Need-lacking-requires
+lacking-requires c κs = (c .before .before .before .before .pre .1 .area, known c .reads)
+
+wanted-low : (c : tie.After-lacking)
+    → c .lacking .result < 2 ^ c .before .before .before .before .before .args .z .keys
+wanted-low c = rw (c .lacking .ensures) (mask-lt _ _ _ (omega arith))
+
+lacking-requires-2 : tie.Need-lacking-requires-2
+lacking-requires-2 c κs = (known (c .before) .cache, wanted-low c)
+
+start-low : (c : tie.After-lacking2)
+    → c .lacking2 .result < 2 ^ c .before .before .before .before .before .before .args .z .keys
+start-low c = rw (c .lacking2 .ensures) (mask-lt _ _ _ (omega arith))
+
+is-unfetchable-requires : tie.Need-is-unfetchable-requires
+is-unfetchable-requires c κs = (known (c .before .before) .master, start-low c)
+
+-- What is left where the causes before it do not hold.
+tested : (c : tie.After-is-unfetchable)
+    → let a = c .before .before .before .before .before .before .before .args in
+    stepCause (storeOf (a .words .now)) (a .r) (a .j) ≡ refuse (c .is-unfetchable .result) 7 0
+tested c =
+    let n = c .before in
+    let w = n .before in
+    let v = w .before in
+    let e = v .before in
+    let s = e .before .before .before in
+    let a = s .args in
+    cause-last (a .words .now) (a .z) (a .r) (a .j) (a .snapshot) (ready e .0) (ready e .1)
+    (v .visit-of .result) (v .visit-of .ensures) (a .read) (s .pre .1) (w .lacking .result)
+    (n .lacking2 .result) (w .lacking .ensures) (n .lacking2 .ensures)
+    (c .is-unfetchable .result) (free e) (c .is-unfetchable .ensures)
+
+returns-2 : tie.Need-returns-2
+unfolding refuse
+returns-2 c =
+    let u = c .before in
+    let a = u .before .before .before .before .before .before .before .args in
+    tried-no _ (a .r) (a .j) _ 7 (tested u ∙ ap (λ (b : Bool). refuse b 7 0) (c .if2 .taken))
+    (λ e. absurd (omega arith))
+
+-- ---- T and C
+
+fetch-set-requires : tie.Need-fetch-set-requires
+fetch-set-requires c κs =
+    let n = c .before .before in
+    let K = known (n .before .before) in ((K .master, K .cache), start-low n)
+
+draw-set-requires : tie.Need-draw-set-requires
+draw-set-requires c κs =
+    let w = c .before .before .before .before in
+    let v = w .before in
+    let K = known v in
+    let L = v .before .before .before .before .pre .1 in
+    (record { target-in = L .area; first-in = K .master; second-in = K .cache }, wanted-low w)
+
+returns-3 : tie.Need-returns-3
+unfolding refuse
+returns-3 c =
+    let t = c .before in
+    let i = t .before in
+    let u = i .before in
+    let n = u .before in
+    let w = n .before in
+    let v = w .before in
+    let e = v .before in
+    let s = e .before .before .before in
+    let a = s .args in
+    tried-yes _ (a .r) (a .j) _ _ _
+    (tested u ∙ ap (λ (b : Bool). refuse b 7 0) (i .if2 .left)) (v .visit-of .ensures)
+    (trial-found (a .words .now) (a .z) (a .r) (a .j) (a .snapshot) (ready e .0) (ready e .1)
+    (v .visit-of .result) (v .visit-of .ensures) (a .read) (s .pre .1) (w .lacking .result)
+    (n .lacking2 .result) (w .lacking .ensures) (n .lacking2 .ensures)
+    (t .fetch-set .result) (c .draw-set .result) (t .fetch-set .ensures) (c .draw-set .ensures))
+
+pub try-at-spec : {M : Type 1} → statement M
+try-at-spec =
+    tie.close
+    (tie.spec
+    job-cause-requires
+    returns
+    visit-of-requires
+    lacking-requires
+    lacking-requires-2
+    is-unfetchable-requires
+    returns-2
+    fetch-set-requires
+    draw-set-requires
+    returns-3)

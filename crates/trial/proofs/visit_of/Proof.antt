@@ -1,0 +1,66 @@
+-- `visit_of` reads the job and the plan.
+-- Assumes nothing.
+use mathlib.Core.Path.{ap, _∙_}
+use borrow.Author.Needs.{needs}
+use Rattle.sizes.specs.Bounds.{siteAt}
+use Rattle.form.proofs.Known.{form-area, master-found}
+use Rattle.trial.proofs.Known.{job-known}
+use Rattle.trial.proofs.Trials.{visit-is}
+use Rattle.trial.proofs.visit_of.Statement.{statement}
+use Rattle.trial.proofs.visit_of.Tie as tie
+
+job-of-requires : tie.Need-job-of-requires
+job-of-requires c κs = c .before .pre .0
+
+plan-keys-requires : tie.Need-plan-keys-requires
+plan-keys-requires c κs = c .before .before .pre .0 .0
+
+areas-requires : tie.Need-areas-requires
+areas-requires c κs = form-area _ _ (c .before .before .before .pre .0 .0 .form) .ranged
+
+wide-requires : tie.Need-wide-requires
+wide-requires c κs = search needs
+
+site-at-requires : tie.Need-site-at-requires
+site-at-requires c κs =
+    let j = c .before .before .before in
+    let s = j .before .before in
+    let a = s .args in
+    let J = job-known (a .words .now) (a .z) (a .r) (s .pre .0 .0) (a .j) (s .pre .0 .1) in
+    let R = form-area (a .words .now) (a .z) (s .pre .0 .0 .form) in
+    (R .ranged, rw (c .wide .ensures, j .job-of .ensures) (J .site))
+
+mul-t11 : tie.Need-mul-t11
+mul-t11 c = search needs
+
+shared-slice-read-t13 : tie.Need-shared-slice-read-t13
+shared-slice-read-t13 c =
+    let j = c .before .before .before .before .before in j .before .before .pre .1 .low
+
+returns : tie.Need-returns
+returns c =
+    let o = c .before in
+    let w = o .before in
+    let m = w .before in
+    let p = m .before in
+    let j = p .before in
+    let s = j .before .before in
+    let a = s .args in
+    visit-is (a .words .now) (a .z) (a .r) (a .j) (a .snapshot) (a .read) (s .pre .0 .0 .form)
+    (s .pre .1) (m .areas .result .master) (o .site-at .result) (p .plan-keys .result)
+    (j .job-of .result) (master-found (a .z) (m .areas .result) (m .areas .ensures))
+    (o .site-at .ensures ∙ ap (siteAt (a .z)) (w .wide .ensures)) (p .plan-keys .ensures)
+    (j .job-of .ensures)
+
+pub visit-of-spec : {M : Type 1} → statement M
+visit-of-spec =
+    tie.close
+    (tie.spec
+    job-of-requires
+    plan-keys-requires
+    areas-requires
+    wide-requires
+    site-at-requires
+    mul-t11
+    shared-slice-read-t13
+    returns)

@@ -1,0 +1,61 @@
+-- What a step would do, by the model's sets.
+-- visitOf: what it looks at. trialOf: T and C. triedOf: refused for its cause, or these.
+-- LineAt: where the snapshot and the read mask of a run stand. Finds: what was found.
+-- Assumes nothing.
+use mathlib.Core.Path.{_≡_}
+use mathlib.Core.Bool.{cond}
+use mathlib.Core.List.{List}
+use Prim.Native.Nat.{ℕ, _<_}
+use lib.Dec.{eqb}
+use lib.ListN.{length, getD}
+use Rattle.masks.specs.Mask.{maskBelow}
+use Rattle.sizes.specs.declared.Counts.{Counts}
+use Rattle.sizes.specs.Bounds.{everyJob, masterAt, siteAt, snapshotAt}
+use Rattle.model.specs.Store.{Store}
+use Rattle.model.specs.Step.{stepSite, stepFetch, stepPull, stepCause}
+use Rattle.layout.specs.Reading.{readPlace, storeOf}
+use Rattle.version.specs.Places.{Area}
+use Rattle.form.specs.Parts.{readsOf, FormWith}
+use Rattle.trial.specs.declared.Visit.{Visit}
+use Rattle.trial.specs.declared.Trial.{Trial}
+use Rattle.trial.specs.declared.Tried.{Tried}
+
+module _ (s : Store) (r j : ℕ) where
+  -- Master, cache and reads (R) of job j of run r, the plan's keys, and the snapshot at an index.
+  unfoldable pub visitOf : ℕ → Visit
+  visitOf snapshot =
+      let a = s .run r in
+      record {
+        master = masterAt (s .counts);
+        cache = siteAt (s .counts) (stepSite s r j);
+        snapshot = snapshot;
+        plan = readsOf (a .jobs) (a .job) everyJob;
+        reads = a .job j .reads;
+        read = a .read;
+      }
+
+  -- T and C.
+  unfoldable pub trialOf : Trial
+  trialOf =
+      let K = s .counts .keys in
+      record { taken = maskBelow K (stepFetch s r j); pulled = maskBelow K (stepPull s r j) }
+
+  -- The cause of step, or where there is none what it looks at and would do.
+  unfoldable pub triedOf : ℕ → Tried
+  triedOf snapshot =
+      cond (eqb (stepCause s r j) 0) (Tried.Found (visitOf snapshot) trialOf)
+      (Tried.Refused (stepCause s r j))
+
+-- The snapshot and the read mask of run r stand at two indices of the buffer.
+pub record LineAt (l : List ℕ) (z : Counts) (r snapshot read : ℕ) : Type 0 where
+  pub area : Area (length l) z snapshot
+  pub place : storeOf l .run r .snapshot ≡ readPlace z l snapshot
+  pub low : read < length l
+  pub mask : storeOf l .run r .read ≡ getD l read 0
+
+-- What a trial of job j of run r found: no cause, and what the step looks at and would do.
+pub record Finds (l : List ℕ) (z : Counts) (r j : ℕ) (v : Visit) (t : Trial) : Type 0 where
+  pub form : FormWith l z
+  pub free : stepCause (storeOf l) r j ≡ 0
+  pub visit : v ≡ visitOf (storeOf l) r j (snapshotAt z r)
+  pub trial : t ≡ trialOf (storeOf l) r j

@@ -1,0 +1,107 @@
+// What a step would do, found without a store: the cause for which it is refused, or the keys that
+// the cache and the snapshot would take. Step acts by it; a call that only asks stops here.
+pub mod causes;
+pub mod jobs;
+
+use causes::job_cause;
+use jobs::job_of;
+use jobs::plan_keys;
+use sets::View;
+use sets::draw_set;
+use sets::fetch_set;
+use sets::missing::is_unfetchable;
+use sets::missing::lacking;
+use sizes::Counts;
+use sizes::run::RunOffset;
+use words::wide;
+ghost use mathlib.Core.Path.{_≡_};
+ghost use Prim.Native.Nat.{_<_};
+ghost use Rattle.sizes.specs.Bounds.{snapshotAt};
+ghost use Rattle.layout.specs.Reading.{storeOf};
+ghost use Rattle.form.specs.Parts.{FormWith};
+ghost use Rattle.trial.specs.Jobs.{UsedRun};
+ghost use Rattle.trial.specs.Trials.{visitOf, triedOf, LineAt};
+
+// What a step looks at: where three places begin, the plan's keys, the job's reads (R), and what
+// the run has read.
+pub struct Visit {
+    pub master: usize,
+    pub cache: usize,
+    pub snapshot: usize,
+    pub plan: u32,
+    pub reads: u32,
+    pub read: u32,
+}
+
+// What a step would do: the keys that the cache takes (T), and that the snapshot takes (C).
+pub struct Trial {
+    pub taken: u32,
+    pub pulled: u32,
+}
+
+// The number of the cause for which a step is refused, or what it looks at and would do.
+pub enum Tried {
+    Refused(u32),
+    Found(Visit, Trial),
+}
+
+// What a step of job j of run r would do, with the run's own snapshot and read mask.
+pub fn try_job(words: &[u32], z: Counts, r: usize, j: usize) -> Tried
+    requires { ⌜ FormWith (now words) z ⌝ }
+    ensures { λ t. ⌜ t ≡ triedOf (storeOf (now (words .entry))) r j (snapshotAt z r) ⌝ }
+{
+    let runs = z.runs;
+    if runs <= r {
+        return Tried::Refused(3);
+    }
+    let at = z.run_at(r);
+    let snapshot = z.snapshot_at(r);
+    try_at(words, z, r, j, snapshot, at + RunOffset::READ)
+}
+
+// The same, of one of the runs, where its snapshot and its read mask stand at two indices. T is
+// found once; C against the cache seen through T, as the fetch would leave it.
+pub fn try_at(words: &[u32], z: Counts, r: usize, j: usize, snapshot: usize, read: usize) -> Tried
+    requires { ⌜ FormWith (now words) z × (r < z .runs) ⌝ }
+    requires { ⌜ LineAt (now words) z r snapshot read ⌝ }
+    ensures { λ t. ⌜ t ≡ triedOf (storeOf (now (words .entry))) r j snapshot ⌝ }
+{
+    let early = job_cause(words, z, r, j);
+    if early != 0 {
+        return Tried::Refused(early);
+    }
+    let visit = visit_of(words, z, r, j, snapshot, read);
+    let wanted = lacking(words, z, snapshot, visit.reads);
+    let start = lacking(words, z, visit.cache, wanted);
+    if is_unfetchable(words, z, visit.master, start) {
+        return Tried::Refused(7);
+    }
+    let taken = fetch_set(words, z, visit.master, visit.cache, start);
+    let source = View {
+        mask: taken,
+        first: visit.master,
+        second: visit.cache,
+    };
+    let pulled = draw_set(words, z, visit.plan, snapshot, source, wanted);
+    Tried::Found(visit, Trial { taken, pulled })
+}
+
+// What a step of job j of run r looks at.
+fn visit_of(words: &[u32], z: Counts, r: usize, j: usize, snapshot: usize, read: usize) -> Visit
+    requires { ⌜ UsedRun (now words) z r × (j < storeOf (now words) .run r .jobs) ⌝ }
+    requires { ⌜ LineAt (now words) z r snapshot read ⌝ }
+    ensures { λ v. ⌜ v ≡ visitOf (storeOf (now (words .entry))) r j snapshot ⌝ }
+{
+    let job = job_of(words, z, r, j);
+    let plan = plan_keys(words, z, r);
+    let areas = z.areas();
+    let cache = z.site_at(wide(job.site));
+    Visit {
+        master: areas.master,
+        cache,
+        snapshot,
+        plan,
+        reads: job.reads,
+        read: words[read],
+    }
+}
