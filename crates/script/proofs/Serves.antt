@@ -1,12 +1,14 @@
 -- Bytes that are read one chunk after another are served as all of them.
--- served-none: before any read. served-more: one read more. served-last: the end of the input.
+-- front: a part of a buffer. served-none: before any read. served-more: one read more.
+-- served-last: the end of the input.
 -- Assumes nothing.
 use mathlib.Core.Path.{_≡_, refl, sym, ap, _∙_}
 use mathlib.Core.Bool.{false}
 use mathlib.Core.List.{List, [], _∷_, _++_, append-assoc, append-nil}
-use Prim.Native.Nat.{ℕ, _+_}
+use Prim.Native.Nat.{ℕ, _+_, _-_, _≤_}
+use native.Mathlib.Omega.{arith}
 use lib.Dec.{eqb}
-use lib.ListN.{length, length-append}
+use lib.ListN.{length, take, length-append, length-take}
 use Rattle.words.proofs.Bools.{test}
 use Rattle.layout.specs.Buffer.{inForm}
 use Rattle.layout.specs.Calls.{after}
@@ -58,6 +60,10 @@ fed-after (b ∷ bs) p =
 
 -- ---- the program
 
+-- A part from the start of l on, as the code takes it.
+pub front : (n : ℕ) (l : List ℕ) → n ≤ length l → length (take (n - 0) l) ≡ n
+front n l h = length-take (n - 0) l ∙ omega (arith, h)
+
 module _ (l : List ℕ) (bad : inForm l ≡ false) where
   pub served-none : (line : List ℕ) → Served l l line 0 0 0
   unfolding fed partIn callsFed after
@@ -71,12 +77,13 @@ module _ (l : List ℕ) (bad : inForm l ≡ false) where
   }
 
   -- The bytes c were read, and t handed over.
-  pub served-more : {m line m′ line′ : List ℕ} {n n′ read handed : ℕ} (c t : List ℕ)
+  pub served-more : {m line m′ line′ : List ℕ} {n n′ k read read′ handed handed′ : ℕ} (c t : List ℕ)
       → Served l m line n read handed → progress m′ line′ n′ t ≡ fed (progress m line n []) c
-      → Served l m′ line′ n′ (read + length c) (handed + length t)
-  served-more {m} {line} {m′} {line′} {n} {n′} c t s e =
+      → k ≡ n′ → read′ ≡ read + length c → handed′ ≡ handed + length t
+      → Served l m′ line′ k read′ handed′
+  served-more {m} {line} {m′} {line′} {n} {n′} c t s e x r h =
       let u = s .text in
-      let k : progress m′ line′ n′ (u ++ t) ≡ fed (fresh l) (s .input ++ c) =
+      let q : progress m′ line′ n′ (u ++ t) ≡ fed (fresh l) (s .input ++ c) =
       ap (textFirst u) e
       ∙ sym (fed-first c u (progress m line n []))
       ∙ ap (λ x. fed (progress m line n x) c) (append-nil u)
@@ -85,17 +92,17 @@ module _ (l : List ℕ) (bad : inForm l ≡ false) where
       record {
         input = s .input ++ c;
         text = u ++ t;
-        all-read = length-append (s .input) c ∙ ap (λ x. x + length c) (s .all-read);
-        all-handed = length-append u t ∙ ap (λ x. x + length t) (s .all-handed);
-        keeps = k;
-        claim = begun l bad _ m′ (ap (λ p. p .buffer) k ∙ fed-after (s .input ++ c) (fresh l));
+        all-read = omega (arith, length-append (s .input) c, s .all-read, r);
+        all-handed = omega (arith, length-append u t, s .all-handed, h);
+        keeps = rw x q;
+        claim = begun l bad _ m′ (ap (λ p. p .buffer) q ∙ fed-after (s .input ++ c) (fresh l));
       }
 
   -- The answer to a last line that lacks its end was handed over: q, after the end.
-  pub served-last : {m line : List ℕ} {n read handed : ℕ} {q : Progress}
+  pub served-last : {m line : List ℕ} {n read handed handed′ : ℕ} {q : Progress}
       → Served l m line n read handed → q ≡ finished (progress m line n [])
-      → Finished l (q .buffer) read (handed + length (q .text))
-  served-last {m} {line} {n} {q = q} s e =
+      → handed′ ≡ handed + length (q .text) → Finished l (q .buffer) read handed′
+  served-last {m} {line} {n} {q = q} s e h =
       let u = s .text in
       let k : textFirst u q
       ≡ record {
@@ -113,8 +120,7 @@ module _ (l : List ℕ) (bad : inForm l ≡ false) where
         input = s .input;
         all-read = s .all-read;
         all-handed = sym (ap (λ p. length (p .text)) k)
-            ∙ length-append u (q .text)
-            ∙ ap (λ x. x + length (q .text)) (s .all-handed);
+            ∙ omega (arith, length-append u (q .text), s .all-handed, h);
         leaves = b;
         claim = begun l bad _ _ (b ∙ after-lines (linesOf (s .input)) l);
       }

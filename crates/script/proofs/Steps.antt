@@ -1,6 +1,7 @@
 -- What the code does to a line buffer and an output, as steps of the fold.
--- words-..: an answer in words. performs-..: a call made. ended-..: a line's end. step-..: a byte.
--- finished-..: the end of the input. fed-byte: one byte of a chunk. whole: all of an input.
+-- taken: a part of a list. words-..: an answer in words. performs-..: a call made. ended-..: a
+-- line's end. step-..: a byte. finished-..: the end of the input. fed-byte: one byte of a chunk.
+-- whole: all of an input.
 -- Assumes nothing.
 use mathlib.Core.Path.{_≡_, refl, sym, ap, _∙_}
 use mathlib.Core.Logic.{_≢_}
@@ -32,7 +33,7 @@ unfolding wordsText
 words-some [] h = absurd (not-suc-le-zero h)
 words-some (x ∷ l) h = refl
 
-taken : (n : ℕ) (l : List ℕ) → n ≤ length l → length (take n l) ≡ n
+pub taken : (n : ℕ) (l : List ℕ) → n ≤ length l → length (take n l) ≡ n
 taken n l h = length-take n l ∙ omega (arith, h)
 
 pub words-taken : (n : ℕ) (l : List ℕ) → 0 < n → n ≤ length l
