@@ -77,11 +77,10 @@ module _ (l : List ℕ) (bad : inForm l ≡ false) where
   }
 
   -- The bytes c were read, and t handed over.
-  pub served-more : {m line m′ line′ : List ℕ} {n n′ k read read′ handed handed′ : ℕ} (c t : List ℕ)
-      → Served l m line n read handed → progress m′ line′ n′ t ≡ fed (progress m line n []) c
-      → k ≡ n′ → read′ ≡ read + length c → handed′ ≡ handed + length t
-      → Served l m′ line′ k read′ handed′
-  served-more {m} {line} {m′} {line′} {n} {n′} c t s e x r h =
+  pub served-more : (c t : List ℕ) {m line m′ line′ : List ℕ} {n n′ k r r′ h h′ : ℕ}
+      → Served l m line n r h → progress m′ line′ n′ t ≡ fed (progress m line n []) c
+      → k ≡ n′ → r′ ≡ r + length c → h′ ≡ h + length t → Served l m′ line′ k r′ h′
+  served-more c t {m} {line} {m′} {line′} {n} {n′} s e x i j =
       let u = s .text in
       let q : progress m′ line′ n′ (u ++ t) ≡ fed (fresh l) (s .input ++ c) =
       ap (textFirst u) e
@@ -92,8 +91,8 @@ module _ (l : List ℕ) (bad : inForm l ≡ false) where
       record {
         input = s .input ++ c;
         text = u ++ t;
-        all-read = omega (arith, length-append (s .input) c, s .all-read, r);
-        all-handed = omega (arith, length-append u t, s .all-handed, h);
+        all-read = omega (arith, length-append (s .input) c, s .all-read, i);
+        all-handed = omega (arith, length-append u t, s .all-handed, j);
         keeps = rw x q;
         claim = begun l bad _ m′ (ap (λ p. p .buffer) q ∙ fed-after (s .input ++ c) (fresh l));
       }

@@ -5,9 +5,10 @@ use libc::STDOUT_FILENO;
 use script::Buffers;
 use script::State;
 ghost use mathlib.Core.Path.{_≡_};
-ghost use mathlib.Core.Bool.{So, false};
+ghost use mathlib.Core.Bool.{false, not, _&&_};
 ghost use mathlib.Core.List.{[]};
 ghost use Prim.Native.Nat.{_+_, _*_, _≤_, _<_};
+ghost use lib.Dec.{ltb};
 ghost use lib.ListN.{length, take};
 ghost use Rattle.layout.specs.Buffer.{inForm};
 ghost use Rattle.script.specs.Limits.{lineRoom, readRoom, outRoom, maxInput, Lent};
@@ -27,17 +28,17 @@ fn read_chunk(chunk: &mut [u8]) -> usize
 // Bytes that were handed to write: how many, and whether it took all.
 struct Handed {
     count: usize,
-    is_written: bool,
+    taken: bool,
 }
 
 // Hands all of text to write. On an empty one there is no call.
 fn hand_over(text: &[u8]) -> Handed
     ensures { λ h. ⌜ h .count ≡ length (now (text .entry)) ⌝ }
 {
-    let is_written = io::write_all(STDOUT_FILENO, text);
+    let taken = io::write_all(STDOUT_FILENO, text);
     Handed {
         count: text.len(),
-        is_written,
+        taken,
     }
 }
 
@@ -45,13 +46,13 @@ fn hand_over(text: &[u8]) -> Handed
 
 // What one read came to. ready, len: as in script's State. got: the bytes that were read, at the
 // front of chunk. handed: the bytes of their answers, at the front of out, that were handed to
-// write. is_written: write took them all.
+// write. taken: write took them all.
 struct Turned {
     ready: bool,
     len: usize,
     got: usize,
     handed: usize,
-    is_written: bool,
+    taken: bool,
 }
 
 // Reads once, and writes the answers to all lines that ended.
@@ -94,7 +95,7 @@ fn turn(
         len: state.len,
         got,
         handed: text.count,
-        is_written: text.is_written,
+        taken: text.taken,
     }
 }
 
@@ -117,7 +118,8 @@ fn counted(kept: Kept, turn: Turned) -> Kept
     ensures { λ k. ⌜ (k .ready ≡ turn .ready) × (k .len ≡ turn .len) ⌝ }
     ensures { λ k. ⌜ (k .read ≡ kept .read + turn .got)
         × (k .handed ≡ kept .handed + turn .handed) ⌝ }
-    ensures { λ k. ⌜ (So (k .more) → (kept .read < k .read) × (k .read < maxInput)) ⌝ }
+    ensures { λ k. ⌜ (k .more ≡ turn .taken && (ltb 0 (turn .got) && ltb (k .read) maxInput))
+        × (k .stopped ≡ not (turn .taken)) ⌝ }
 {
     let read = kept.read + turn.got;
     Kept {
@@ -125,8 +127,8 @@ fn counted(kept: Kept, turn: Turned) -> Kept
         len: turn.len,
         read,
         handed: kept.handed + turn.handed,
-        more: turn.is_written & ((0 < turn.got) & (read < Buffers::INPUT)),
-        stopped: !turn.is_written,
+        more: turn.taken & ((0 < turn.got) & (read < Buffers::INPUT)),
+        stopped: !turn.taken,
     }
 }
 
@@ -145,7 +147,7 @@ fn turns(
     ensures { λ k. ⌜ k .ready ≡ inForm (now (store .exit)) ⌝ }
     ensures { λ k. ⌜ Served (now (store .entry)) (now (store .exit)) (now (line .exit)) (k .len)
         (k .read) (k .handed) ⌝ }
-    ensures { λ k. ⌜ k .handed ≤ lineRoom * (maxInput + readRoom) ⌝ }
+    ensures { λ k. ⌜ (k .more ≡ false) × (k .handed ≤ lineRoom * (maxInput + readRoom)) ⌝ }
 {
     let mut kept = Kept {
         ready: false,
@@ -192,13 +194,13 @@ fn last(
     let state = State { ready, len, end: 0 };
     let ended = script::finish(store, state, line, numbers, answer, out);
     let end = ended.end;
-    let text = hand_over(&out[0..end]);
+    let rest = hand_over(&out[0..end]);
     Turned {
         ready: ended.ready,
         len: ended.len,
         got: 0,
-        handed: text.count,
-        is_written: text.is_written,
+        handed: rest.count,
+        taken: rest.taken,
     }
 }
 

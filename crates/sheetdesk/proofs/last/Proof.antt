@@ -8,12 +8,15 @@ use Rattle.sheetdesk.proofs.last.Tie as tie
 
 returns : tie.Need-returns
 returns c =
-    let s = c .before .before .before .before .before .before .before .before .before .before .before .before .before in
-    let p = s .before .before .before .before .before .before .before .before .before .before .before .pre in
+    let s′ = c .before .before .before .before .before .before in
+    let s = s′ .before .before .before .before .before .before .before in
+    let p′ = s .before .before .before .before .before in
+    let p = p′ .before .before .before .before .before .before .pre in
     let f = s .finish in
+    let e = f .ensures in
     let w : c .hand-over .result .count ≡ f .result .end =
-    c .hand-over .ensures ∙ front _ _ (omega (arith, f .ensures, f .kept, p)) in
-    (rw w (f .ensures .1 .0), (omega (arith, w, f .ensures), omega (arith, w, f .ensures, f .kept, p)))
+    c .hand-over .ensures ∙ front _ _ (omega (arith, e, f .kept, p)) in
+    (rw w (e .1 .0), (omega (arith, w, e), omega (arith, w, e, f .kept, p)))
 
 pub last-spec : {M : Type 1} → statement M
 last-spec =

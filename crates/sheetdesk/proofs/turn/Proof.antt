@@ -18,7 +18,8 @@ feed-requires c κs =
 
 returns : tie.Need-returns
 returns c =
-    let s = c .before .before .before .before .before .before .before .before .before .before .before .before .before in
+    let s′ = c .before .before .before .before .before .before in
+    let s = s′ .before .before .before .before .before .before .before in
     let b = s .before .before .before .before .before .before .before .before .before .before in
     let p = b .before .before .before .before .before .before .before .before .pre in
     let f = s .feed in
