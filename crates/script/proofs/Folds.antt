@@ -1,6 +1,5 @@
 -- The fold over the bytes prints what the lines ask for, whatever the chunks.
 -- fed-append, fed-more: one chunk after another, one byte more. fed-whole: all of an input.
--- chunks-whole: an input in chunks. fed-after: the buffer after a chunk.
 -- Assumes nothing.
 use mathlib.Core.Path.{_≡_, refl, sym, ap, _∙_}
 use mathlib.Core.Bool.{false, So, cond}
@@ -12,8 +11,9 @@ use lib.ListN.{length, length-append}
 use Rattle.words.proofs.Bools.{test, leb-gt, le-leb, gt-leb, ltb-lt, ltb-ge}
 use Rattle.lines.specs.Grammar.{lineCall}
 use Rattle.lines.proofs.Calls.{line-long}
+use Rattle.script.specs.Limits.{maxLine}
 use Rattle.script.specs.Script.{callText, callLeaves, linesOf, outputs, bufferAfter, program}
-use Rattle.script.specs.Fold.{Part, bytes, tooLong, Progress, partCall, longer, ended, kept, byteStep, fed, finishedPart, finished}
+use Rattle.script.specs.Fold.{Part, bytes, tooLong, Progress, partCall, longer, fresh, ended, kept, byteStep, fed, finishedPart, finished}
 use Rattle.script.proofs.Lines.{joined, joined-last, lines-end, lines-more}
 
 -- ---- chunks
@@ -31,25 +31,25 @@ fed-more p bs b = fed-append p bs (b ∷ [])
 -- ---- a line under way, as a part
 
 unfoldable pub partOf : List ℕ → Part
-partOf s = cond (leb (length s) 400) (bytes s) tooLong
+partOf s = cond (leb (length s) maxLine) (bytes s) tooLong
 
 pub part-call : (s : List ℕ) → partCall (partOf s) ≡ lineCall s
 unfolding partCall partOf
 part-call s =
-    test (leb (length s) 400) (λ h. rw h refl)
-    (λ h. rw h (sym (line-long s (leb-gt (length s) 400 h))))
+    test (leb (length s) maxLine) (λ h. rw h refl)
+    (λ h. rw h (sym (line-long s (leb-gt (length s) maxLine h))))
 
 pub part-longer : (s : List ℕ) (b : ℕ) → longer (partOf s) b ≡ partOf (s ++ (b ∷ []))
 unfolding longer partOf
 part-longer s b =
     let m : ℕ = length (s ++ (b ∷ [])) in
     let e : m ≡ length s + 1 = length-append s (b ∷ []) in
-    test (leb (length s) 400)
+    test (leb (length s) maxLine)
     (λ h. rw h
-    (test (ltb (length s) 400)
-    (λ i. rw (i, le-leb m 400 (omega (arith, e, ltb-lt (length s) 400 i))) refl)
-    (λ i. rw (i, gt-leb m 400 (omega (arith, e, ltb-ge (length s) 400 i))) refl)))
-    (λ h. rw (h, gt-leb m 400 (omega (arith, e, leb-gt (length s) 400 h))) refl)
+    (test (ltb (length s) maxLine)
+    (λ i. rw (i, le-leb m maxLine (omega (arith, e, ltb-lt (length s) maxLine i))) refl)
+    (λ i. rw (i, gt-leb m maxLine (omega (arith, e, ltb-ge (length s) maxLine i))) refl)))
+    (λ h. rw (h, gt-leb m maxLine (omega (arith, e, leb-gt (length s) maxLine h))) refl)
 
 -- ---- all of an input
 
@@ -78,7 +78,7 @@ past-none l t = rw append-nil
 
 finished-some : (b : ℕ) (s : List ℕ) (p : Progress) → finishedPart (partOf (b ∷ s)) p ≡ ended p
 unfolding finishedPart partOf
-finished-some b s p = test (leb (length (b ∷ s)) 400) (λ h. rw h refl) (λ h. rw h refl)
+finished-some b s p = test (leb (length (b ∷ s)) maxLine) (λ h. rw h refl) (λ h. rw h refl)
 
 at-end : (l s t : List ℕ) → finished (under l s t) ≡ Past l t (joined s [])
 unfolding finishedPart partOf joined
@@ -119,7 +119,7 @@ fed-lines (b ∷ bs) l s t =
 
 -- "One line out for each", and the buffer after all of them.
 pub fed-whole : (l input : List ℕ)
-    → finished (fed (record { buffer = l; part = bytes []; text = [] }) input)
+    → finished (fed (fresh l) input)
     ≡ record { buffer = bufferAfter l (linesOf input); part = bytes []; text = program l input }
 unfolding partOf joined
 fed-whole l input = fed-lines input l [] []

@@ -1,7 +1,6 @@
 pub mod Lines
 pub mod Folds
-pub mod Chunks
-pub mod Calls
 pub mod Steps
 pub mod Ties
+pub mod Serves
 pub mod Examples

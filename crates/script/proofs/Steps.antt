@@ -1,6 +1,7 @@
 -- What the code does to a line buffer and an output, as steps of the fold.
--- words-..: an answer in words. performs-..: a call made. ended-..: a line's end. step-..: a byte.
--- finished-..: the end of the input. fed-byte: one byte of a chunk. whole: all of an input.
+-- taken: a part of a list. words-..: an answer in words. performs-..: a call made. ended-..: a
+-- line's end. step-..: a byte. finished-..: the end of the input. fed-byte: one byte of a chunk.
+-- whole: all of an input.
 -- Assumes nothing.
 use mathlib.Core.Path.{_≡_, refl, sym, ap, _∙_}
 use mathlib.Core.Logic.{_≢_}
@@ -20,6 +21,7 @@ use Rattle.layout.specs.Calls.{Call, callOn}
 use Rattle.print.specs.Print.{answerText, unreadText}
 use Rattle.dispatch.specs.Performs.{Performs}
 use Rattle.dispatch.specs.declared.Performed.{Performed}
+use Rattle.script.specs.Limits.{maxLine, overLine, maxAnswer}
 use Rattle.script.specs.Script.{callText, callLeaves, lineText, lineLeaves, linesOf, bufferAfter, program}
 use Rattle.script.specs.Fold.{bytes, Progress, partCall, longer, ended, kept, byteStep, fed, finishedPart, finished, partIn, progress, wordsText}
 use Rattle.script.proofs.Folds.{fed-more, fed-whole}
@@ -31,11 +33,12 @@ unfolding wordsText
 words-some [] h = absurd (not-suc-le-zero h)
 words-some (x ∷ l) h = refl
 
+pub taken : (n : ℕ) (l : List ℕ) → n ≤ length l → length (take n l) ≡ n
+taken n l h = length-take n l ∙ omega (arith, h)
+
 pub words-taken : (n : ℕ) (l : List ℕ) → 0 < n → n ≤ length l
     → wordsText (take n l) ≡ answerText (take n l)
-words-taken n l h f =
-    let e : length (take n l) ≡ n = length-take n l ∙ omega (arith, f) in
-    words-some (take n l) (omega (arith, e, h))
+words-taken n l h f = words-some (take n l) (omega (arith, taken n l f, h))
 
 words-answer : (x : Outcome) → wordsText (answer x) ≡ answerText (answer x)
 unfolding wordsText answer
@@ -46,7 +49,7 @@ words-answer (done a s) = refl
 -- ---- a call made
 
 module _ (l m b : List ℕ) (p : Performed) where
-  pub performs-few : (c : Option Call) → Performs c l m b p → p .count ≤ 18
+  pub performs-few : (c : Option Call) → Performs c l m b p → p .count ≤ maxAnswer
   unfolding Performs
   performs-few none h = omega (arith, h .1 .0)
   performs-few (some c) h = h .0 .few
@@ -79,16 +82,16 @@ pos zero d = absurd (d refl)
 pos (suc n) d = omega arith
 
 module _ (l line : List ℕ) (n : ℕ) (t : List ℕ) where
-  pub ended-long : (m : ℕ) (u : List ℕ) → 400 < n → m ≡ 0 → u ≡ t ++ unreadText
+  pub ended-long : (m : ℕ) (u : List ℕ) → maxLine < n → m ≡ 0 → u ≡ t ++ unreadText
       → progress l line m u ≡ ended (progress l line n t)
   unfolding ended partIn partCall callText callLeaves
-  ended-long m u h z e = rw (gt-leb n 400 h, z, e) refl
+  ended-long m u h z e = rw (gt-leb n maxLine h, z, e) refl
 
-  pub ended-line : (k : List ℕ) (m : ℕ) (u : List ℕ) → n ≤ 400 → m ≡ 0
+  pub ended-line : (k : List ℕ) (m : ℕ) (u : List ℕ) → n ≤ maxLine → m ≡ 0
       → k ≡ lineLeaves l (take n line) → u ≡ t ++ lineText l (take n line)
       → progress k line m u ≡ ended (progress l line n t)
   unfolding ended partIn partCall
-  ended-line k m u h z d e = rw (le-leb n 400 h, z, d, e) refl
+  ended-line k m u h z d e = rw (le-leb n maxLine h, z, d, e) refl
 
   -- ---- a byte
 
@@ -96,31 +99,31 @@ module _ (l line : List ℕ) (n : ℕ) (t : List ℕ) where
   unfolding byteStep
   step-ends b e = rw e refl
 
-  pub step-keeps : (b : ℕ) → b ≢ 10 → n < 400 → 400 ≤ length line
+  pub step-keeps : (b : ℕ) → b ≢ 10 → n < maxLine → maxLine ≤ length line
       → progress l (set line n b) (n + 1) t ≡ byteStep (progress l line n t) b
   unfolding byteStep kept longer partIn
   step-keeps b d h f =
-      let e : length (take n line) ≡ n = length-take n line ∙ omega (arith, h, f) in
+      let e = taken n line (omega (arith, h, f)) in
       let s : take (n + 1) (set line n b) ≡ take n line ++ (b ∷ []) =
       rw add-one (take-suc-set line n b (omega (arith, h, f))) in
       rw (
         ne-eqb b 10 d,
-        le-leb n 400 (omega (arith, h)),
-        le-leb (n + 1) 400 (omega (arith, h)),
-        lt-ltb (length (take n line)) 400 (omega (arith, e, h)),
+        le-leb n maxLine (omega (arith, h)),
+        le-leb (n + 1) maxLine (omega (arith, h)),
+        lt-ltb (length (take n line)) maxLine (omega (arith, e, h)),
         s,
       )
       refl
 
-  pub step-long : (b : ℕ) → b ≢ 10 → 400 ≤ n → 400 ≤ length line
-      → progress l line 401 t ≡ byteStep (progress l line n t) b
+  pub step-long : (b : ℕ) → b ≢ 10 → maxLine ≤ n → maxLine ≤ length line
+      → progress l line overLine t ≡ byteStep (progress l line n t) b
   unfolding byteStep kept longer partIn
   step-long b d h f =
       rw (ne-eqb b 10 d)
-      (test (leb n 400)
+      (test (leb n maxLine)
       (λ i.
-      let e : length (take n line) ≡ n = length-take n line ∙ omega (arith, leb-le n 400 i, f) in
-      rw (i, ge-ltb (length (take n line)) 400 (omega (arith, e, h))) refl)
+      let e = taken n line (omega (arith, leb-le n maxLine i, f)) in
+      rw (i, ge-ltb (length (take n line)) maxLine (omega (arith, e, h))) refl)
       (λ i. rw i refl))
 
   -- ---- the end of the input
@@ -129,13 +132,13 @@ module _ (l line : List ℕ) (n : ℕ) (t : List ℕ) where
   unfolding finishedPart partIn
   finished-none e = rw e refl
 
-  pub finished-some : n ≢ 0 → 400 ≤ length line
+  pub finished-some : n ≢ 0 → maxLine ≤ length line
       → finished (progress l line n t) ≡ ended (progress l line n t)
   unfolding finishedPart partIn
   finished-some d f =
-      test (leb n 400)
+      test (leb n maxLine)
       (λ i.
-      let e : length (take n line) ≡ n = length-take n line ∙ omega (arith, leb-le n 400 i, f) in
+      let e = taken n line (omega (arith, leb-le n maxLine i, f)) in
       rw i (some-ends (take n line) _ (omega (arith, e, pos n d))))
       (λ i. rw i refl)
 

@@ -1,7 +1,7 @@
 -- The program as a fold over the bytes of its input, so that it may be read in chunks.
 -- Part: the line under way. Progress: what is kept from one byte to the next. byteStep: one byte.
 -- fed: a chunk. finished: the end of the input. partIn, progress, wordsText: as the code keeps it.
--- callsFed, callsLast: the calls of a chunk and of the end. inChunks: all of an input, in chunks.
+-- fresh: before any byte. callsFed: the calls of a chunk.
 -- Assumes nothing.
 use mathlib.Core.Bool.{cond}
 use mathlib.Core.List.{List, [], _∷_, _++_}
@@ -12,6 +12,7 @@ use lib.ListN.{length, take}
 use Rattle.layout.specs.Calls.{Call}
 use Rattle.lines.specs.Grammar.{lineCall}
 use Rattle.print.specs.Print.{answerText, unreadText}
+use Rattle.script.specs.Limits.{maxLine}
 use Rattle.script.specs.Script.{callText, callLeaves, withCall}
 
 -- A line of more than 400 bytes isn't kept: it gives `unread` whatever it holds.
@@ -25,13 +26,17 @@ pub record Progress : Type 0 where
   pub part : Part
   pub text : List ℕ
 
+-- Before any byte.
+abbrev pub fresh : List ℕ → Progress
+fresh l = record { buffer = l; part = bytes []; text = [] }
+
 -- The call of a line that ends here.
 unfoldable pub partCall : Part → Option Call
 partCall (bytes s) = lineCall s
 partCall tooLong = none
 
 unfoldable pub longer : Part → ℕ → Part
-longer (bytes s) b = cond (ltb (length s) 400) (bytes (s ++ (b ∷ []))) tooLong
+longer (bytes s) b = cond (ltb (length s) maxLine) (bytes (s ++ (b ∷ []))) tooLong
 longer tooLong b = tooLong
 
 unfoldable pub ended : Progress → Progress
@@ -65,7 +70,7 @@ finished p = finishedPart (p .part) p
 -- that is too long
 
 unfoldable pub partIn : List ℕ → ℕ → Part
-partIn line n = cond (leb n 400) (bytes (take n line)) tooLong
+partIn line n = cond (leb n maxLine) (bytes (take n line)) tooLong
 
 abbrev pub progress : List ℕ → List ℕ → ℕ → List ℕ → Progress
 progress l line n text = record { buffer = l; part = partIn line n; text = text }
@@ -75,24 +80,9 @@ unfoldable pub wordsText : List ℕ → List ℕ
 wordsText [] = unreadText
 wordsText (t ∷ ns) = answerText (t ∷ ns)
 
--- ---- calls
+-- ---- the calls of the lines that end in a chunk
 
--- Those of the lines that end in a chunk.
 unfoldable pub callsFed : Part → List ℕ → List Call
 callsFed p [] = []
 callsFed p (b ∷ bs) =
     cond (eqb b 10) (withCall (partCall p) (callsFed (bytes []) bs)) (callsFed (longer p b) bs)
-
--- The call of a last line that lacks its end.
-unfoldable pub callsLast : Part → List Call
-callsLast (bytes []) = []
-callsLast (bytes (b ∷ s)) = withCall (lineCall (b ∷ s)) []
-callsLast tooLong = []
-
--- ---- the input in chunks: each chunk's text is printed at once, and the last line's at the end
-
-unfoldable pub inChunks : List ℕ → Part → List (List ℕ) → List ℕ
-inChunks l p [] = finished (record { buffer = l; part = p; text = [] }) .text
-inChunks l p (c ∷ cs) =
-    let q = fed (record { buffer = l; part = p; text = [] }) c in
-    q .text ++ inChunks (q .buffer) (q .part) cs

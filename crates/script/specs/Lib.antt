@@ -1,3 +1,4 @@
+pub mod Limits
 pub mod Script
 pub mod Fold
 pub mod Tie

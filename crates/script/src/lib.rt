@@ -3,24 +3,60 @@ mod ends;
 
 use ends::part_done;
 ghost use mathlib.Core.Path.{_≡_};
+ghost use mathlib.Core.Bool.{false};
 ghost use mathlib.Core.List.{[]};
-ghost use Prim.Native.Nat.{_+_, _*_, _≤_, _<_};
+ghost use Prim.Native.Nat.{_+_, _*_, _≤_};
 ghost use lib.ListN.{length, take};
 ghost use Rattle.layout.specs.Buffer.{inForm};
-ghost use Rattle.script.specs.Script.{linesOf, program, callsIn};
-ghost use Rattle.script.specs.Fold.{progress, byteStep, fed, finished, partIn, callsFed, callsLast};
-ghost use Rattle.script.specs.Tie.{Tied};
+ghost use Rattle.script.specs.Limits.{maxLine, overLine, answerRoom, lineRoom, readRoom, outRoom, maxInput, Lent};
+ghost use Rattle.script.specs.Script.{linesOf, bufferAfter, program, callsIn};
+ghost use Rattle.script.specs.Fold.{progress, byteStep, fed, finished};
+ghost use Rattle.script.specs.Tie.{Begun};
 
-// What is kept between chunks. ready: the buffer is in form. len: bytes of the line under way, 401
-// for one that is too long. end: bytes of output.
+// What is kept between chunks. ready: the buffer is in form. len: bytes of the line under way,
+// Buffers::OVER for one that is too long. end: bytes of output.
 pub struct State {
     pub ready: bool,
     pub len: usize,
     pub end: usize,
 }
 
-// The buffers that are lent beside the words of the store: line, at least 400 bytes, for the line
-// under way; numbers, 401 words, and answer, 24, for one call; out, 256 bytes for each byte read.
+// How much the buffers hold that are lent beside the words of the store: line, for the line under
+// way; numbers and answer, for one call; out, OUT_LINE for each byte read.
+pub struct Buffers {}
+
+impl Buffers {
+    pub const LINE: usize = 400;
+
+    // The length that stands for a line that is too long.
+    pub const OVER: usize = Buffers::LINE + 1;
+
+    pub const NUMBERS: usize = Buffers::OVER;
+
+    pub const ANSWER: usize = 24;
+
+    pub const OUT_LINE: usize = 256;
+
+    // One read, and the answers to it.
+    pub const READ: usize = 1024;
+
+    pub const OUT: usize = Buffers::OUT_LINE * Buffers::READ;
+
+    // The program reads no more bytes than these, so that it can count them.
+    pub const INPUT: usize = 36028797018963968;
+
+    // They are those of the definitions.
+    pub fn limits()
+        ensures line { λ _. do ⌜ (← ⟦Buffers::LINE⟧ .entry) ≡ maxLine ⌝ }
+        ensures over { λ _. do ⌜ (← ⟦Buffers::OVER⟧ .entry) ≡ overLine ⌝ }
+        ensures numbers { λ _. do ⌜ (← ⟦Buffers::NUMBERS⟧ .entry) ≡ overLine ⌝ }
+        ensures answer { λ _. do ⌜ (← ⟦Buffers::ANSWER⟧ .entry) ≡ answerRoom ⌝ }
+        ensures text { λ _. do ⌜ (← ⟦Buffers::OUT_LINE⟧ .entry) ≡ lineRoom ⌝ }
+        ensures read { λ _. do ⌜ (← ⟦Buffers::READ⟧ .entry) ≡ readRoom ⌝ }
+        ensures out { λ _. do ⌜ (← ⟦Buffers::OUT⟧ .entry) ≡ outRoom ⌝ }
+        ensures input { λ _. do ⌜ (← ⟦Buffers::INPUT⟧ .entry) ≡ maxInput ⌝ }
+    {}
+}
 
 // One byte of the input.
 fn step_byte(
@@ -33,21 +69,20 @@ fn step_byte(
     byte: u8,
 ) -> State
     requires { ⌜ state .ready ≡ inForm (now store) ⌝ }
-    requires { ⌜ 400 ≤ length (now line) ⌝ }
-    requires { ⌜ (400 < length (now numbers)) × (24 ≤ length (now answer)) ⌝ }
-    requires { ⌜ state .end + 256 ≤ length (now out) ⌝ }
+    requires { ⌜ Lent (now line) (now numbers) (now answer) ⌝ }
+    requires { ⌜ state .end + lineRoom ≤ length (now out) ⌝ }
     ensures { λ r. ⌜ r .ready ≡ inForm (now (store .exit)) ⌝ }
     ensures { λ r. ⌜ progress (now (store .exit)) (now (line .exit)) (r .len)
         (take (r .end) (now (out .exit)))
         ≡ byteStep (progress (now (store .entry)) (now (line .entry)) (state .len)
         (take (state .end) (now (out .entry)))) byte ⌝ }
-    ensures { λ r. ⌜ r .end ≤ state .end + 256 ⌝ }
+    ensures { λ r. ⌜ r .end ≤ state .end + lineRoom ⌝ }
 {
     if byte == 10 {
         return part_done(store, state, line, numbers, answer, out);
     }
     let n = state.len;
-    if n < 400 {
+    if n < Buffers::LINE {
         line[n] = byte;
         return State {
             ready: state.ready,
@@ -57,7 +92,7 @@ fn step_byte(
     }
     State {
         ready: state.ready,
-        len: 401,
+        len: Buffers::OVER,
         end: state.end,
     }
 }
@@ -75,16 +110,13 @@ pub fn feed(
     chunk: &[u8],
 ) -> State
     requires { ⌜ ready ≡ inForm (now store) ⌝ }
-    requires { ⌜ 400 ≤ length (now line) ⌝ }
-    requires { ⌜ (400 < length (now numbers)) × (24 ≤ length (now answer)) ⌝ }
-    requires { ⌜ 256 * length (now chunk) ≤ length (now out) ⌝ }
+    requires { ⌜ Lent (now line) (now numbers) (now answer) ⌝ }
+    requires { ⌜ lineRoom * length (now chunk) ≤ length (now out) ⌝ }
     ensures { λ r. ⌜ r .ready ≡ inForm (now (store .exit)) ⌝ }
     ensures { λ r. ⌜ progress (now (store .exit)) (now (line .exit)) (r .len)
         (take (r .end) (now (out .exit)))
         ≡ fed (progress (now (store .entry)) (now (line .entry)) len []) (now (chunk .entry)) ⌝ }
-    ensures { λ r. ⌜ r .end ≤ 256 * length (now (chunk .entry)) ⌝ }
-    ensures { λ _. ⌜ Tied (now (store .entry))
-        (callsFed (partIn (now (line .entry)) len) (now (chunk .entry))) (now (store .exit)) ⌝ }
+    ensures { λ r. ⌜ r .end ≤ lineRoom * length (now (chunk .entry)) ⌝ }
 {
     let mut is_ready = ready;
     let mut kept = len;
@@ -120,17 +152,14 @@ pub fn finish(
     out: &mut [u8],
 ) -> State
     requires { ⌜ state .ready ≡ inForm (now store) ⌝ }
-    requires { ⌜ 400 ≤ length (now line) ⌝ }
-    requires { ⌜ (400 < length (now numbers)) × (24 ≤ length (now answer)) ⌝ }
-    requires { ⌜ state .end + 256 ≤ length (now out) ⌝ }
+    requires { ⌜ Lent (now line) (now numbers) (now answer) ⌝ }
+    requires { ⌜ state .end + lineRoom ≤ length (now out) ⌝ }
     ensures { λ r. ⌜ r .ready ≡ inForm (now (store .exit)) ⌝ }
     ensures { λ r. ⌜ progress (now (store .exit)) (now (line .exit)) (r .len)
         (take (r .end) (now (out .exit)))
         ≡ finished (progress (now (store .entry)) (now (line .entry)) (state .len)
         (take (state .end) (now (out .entry)))) ⌝ }
-    ensures { λ r. ⌜ r .end ≤ state .end + 256 ⌝ }
-    ensures { λ _. ⌜ Tied (now (store .entry))
-        (callsLast (partIn (now (line .entry)) (state .len))) (now (store .exit)) ⌝ }
+    ensures { λ r. ⌜ r .end ≤ state .end + lineRoom ⌝ }
 {
     if state.len == 0 {
         return state;
@@ -149,14 +178,16 @@ pub fn run_script(
     input: &[u8],
 ) -> State
     requires { ⌜ ready ≡ inForm (now store) ⌝ }
-    requires { ⌜ 400 ≤ length (now line) ⌝ }
-    requires { ⌜ (400 < length (now numbers)) × (24 ≤ length (now answer)) ⌝ }
-    requires { ⌜ 256 * (length (now input) + 1) ≤ length (now out) ⌝ }
+    requires { ⌜ Lent (now line) (now numbers) (now answer) ⌝ }
+    requires { ⌜ lineRoom * (length (now input) + 1) ≤ length (now out) ⌝ }
     ensures { λ r. ⌜ r .ready ≡ inForm (now (store .exit)) ⌝ }
     ensures { λ r. ⌜ take (r .end) (now (out .exit))
         ≡ program (now (store .entry)) (now (input .entry)) ⌝ }
-    ensures { λ _. ⌜ Tied (now (store .entry)) (callsIn (linesOf (now (input .entry))))
-        (now (store .exit)) ⌝ }
+    ensures { λ _. ⌜ now (store .exit)
+        ≡ bufferAfter (now (store .entry)) (linesOf (now (input .entry))) ⌝ }
+    ensures { λ _. ⌜ (inForm (now (store .entry)) ≡ false
+        → Begun (now (store .entry)) (callsIn (linesOf (now (input .entry))))
+        (now (store .exit))) ⌝ }
 {
     let state = feed(store, ready, 0, line, numbers, answer, out, input);
     finish(store, state, line, numbers, answer, out)

@@ -1,9 +1,8 @@
 -- `script::feed` meets its contract: at each turn the fold has taken in the bytes so far. Assumes
 -- nothing.
 use lib.Seq.{take-all}
+use Rattle.script.specs.Limits.{lineRoom}
 use Rattle.script.specs.Fold.{byteStep}
-use Rattle.script.proofs.Chunks.{fed-after}
-use Rattle.script.proofs.Ties.{tied-by}
 use native.Mathlib.Omega.{arith}
 use mathlib.Core.Path.{_≡_, refl, ap, _∙_}
 use mathlib.Core.List.{[]}
@@ -20,7 +19,7 @@ Inv-loop store₀ ready len line₀ numbers₀ answer₀ out₀ chunk is-ready�
     store line numbers answer out is-ready kept end i =
     (i ≤ length chunk) × (length store ≡ length store₀) × (length line ≡ length line₀)
     × (length numbers ≡ length numbers₀) × (length answer ≡ length answer₀)
-    × (length out ≡ length out₀) × (end ≤ 256 * i) × (is-ready ≡ inForm store)
+    × (length out ≡ length out₀) × (end ≤ lineRoom * i) × (is-ready ≡ inForm store)
     × (progress store line kept (take end out) ≡ fed (progress store₀ line₀ len []) (take i chunk))
 
 abbrev μ-loop : tie.MeasureT-loop
@@ -34,19 +33,19 @@ loop-holds c =
     let k = c .before .before .before .before .before .before in
     (omega arith, refl, refl, refl, refl, refl, omega arith, k .pre .0, refl)
 
-shared-slice-read-step-byte : tie.Need-shared-slice-read-step-byte Inv-loop μ-loop
-shared-slice-read-step-byte c = omega arith
-
 step-byte-requires : tie.Need-step-byte-requires Inv-loop μ-loop
 step-byte-requires c κs =
-    let o = c .before .before .before .before .before .before .before .loop in
-    (o .inv .7, (omega arith, ((omega arith, omega arith), omega arith)))
-
-add-i : tie.Need-add-i Inv-loop μ-loop
-add-i c = omega arith
-
-loop-less : tie.Need-loop-less Inv-loop μ-loop
-loop-less c = omega arith
+    let o = c .before .before .before .before .before .before .before .loop in (
+      o .inv .7,
+      (
+        record {
+          line-room = omega arith;
+          numbers-room = omega arith;
+          answer-room = omega arith;
+        },
+        omega arith,
+      ),
+    )
 
 loop-again : tie.Need-loop-again Inv-loop μ-loop
 loop-again c =
@@ -69,21 +68,6 @@ loop-again c =
           ∙ fed-byte _ b (o .i) (omega arith),
     )
 
-same-length : tie.Need-same-length Inv-loop μ-loop
-same-length c = c .before .loop .inv .1
-
-same-length-2 : tie.Need-same-length-2 Inv-loop μ-loop
-same-length-2 c = c .before .loop .inv .2
-
-same-length-3 : tie.Need-same-length-3 Inv-loop μ-loop
-same-length-3 c = c .before .loop .inv .3
-
-same-length-4 : tie.Need-same-length-4 Inv-loop μ-loop
-same-length-4 c = c .before .loop .inv .4
-
-same-length-5 : tie.Need-same-length-5 Inv-loop μ-loop
-same-length-5 c = c .before .loop .inv .5
-
 returns : tie.Need-returns Inv-loop μ-loop
 returns c =
     let a = c .before .before .before .before .before .before .before .before .args in
@@ -91,7 +75,7 @@ returns c =
     let p = progress (a .store .now) (a .line .now) (a .len) [] in
     let e = o .inv .8 ∙ ap (fed p) (take-all (o .i) (a .chunk .now) (omega arith)) in (
       o .inv .7,
-      (e, (omega arith, tied-by _ _ _ (ap (λ q. q .buffer) e ∙ fed-after (a .chunk .now) p))),
+      (e, omega arith),
     )
 
 pub feed-spec : {M : Type 1} → statement M
@@ -101,14 +85,14 @@ feed-spec =
     Inv-loop
     μ-loop
     loop-holds
-    shared-slice-read-step-byte
+    (λ c. omega arith)
     step-byte-requires
-    add-i
-    loop-less
+    (λ c. omega arith)
+    (λ c. omega arith)
     loop-again
-    same-length
-    same-length-2
-    same-length-3
-    same-length-4
-    same-length-5
+    (λ c. c .before .loop .inv .1)
+    (λ c. c .before .loop .inv .2)
+    (λ c. c .before .loop .inv .3)
+    (λ c. c .before .loop .inv .4)
+    (λ c. c .before .loop .inv .5)
     returns)

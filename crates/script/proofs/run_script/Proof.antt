@@ -3,7 +3,7 @@ use mathlib.Core.Path.{ap, _∙_}
 use Rattle.script.specs.Script.{linesOf}
 use Rattle.script.proofs.Lines.{after-lines}
 use Rattle.script.proofs.Steps.{whole}
-use Rattle.script.proofs.Ties.{tied-by}
+use Rattle.script.proofs.Ties.{begun}
 use native.Mathlib.Omega.{arith}
 use borrow.Author.Needs.{needs}
 use Rattle.script.proofs.run_script.Statement.{statement}
@@ -13,7 +13,7 @@ feed-requires : tie.Need-feed-requires
 feed-requires c κs =
     let b = c .before .before .before .before .before in
     let p = b .before .before .before .before .before .before .pre in
-    (p .0, (omega arith, ((omega arith, omega arith), omega arith)))
+    (p .0, (p .1 .0, omega arith))
 
 finish-requires : tie.Need-finish-requires
 finish-requires c κs =
@@ -24,23 +24,15 @@ finish-requires c κs =
     let k = t .feed .kept in
     let e = t .feed .ensures in (
       e .0,
-      (omega (arith, k, p), ((omega (arith, k, p), omega (arith, k, p)), omega (arith, k, p, e))),
+      (
+        record {
+          line-room = omega (arith, k, p);
+          numbers-room = omega (arith, k, p);
+          answer-room = omega (arith, k, p);
+        },
+        omega (arith, k, p, e),
+      ),
     )
-
-same-length : tie.Need-same-length
-same-length c = search needs
-
-same-length-2 : tie.Need-same-length-2
-same-length-2 c = search needs
-
-same-length-3 : tie.Need-same-length-3
-same-length-3 c = search needs
-
-same-length-4 : tie.Need-same-length-4
-same-length-4 c = search needs
-
-same-length-5 : tie.Need-same-length-5
-same-length-5 c = search needs
 
 returns : tie.Need-returns
 returns c =
@@ -51,11 +43,12 @@ returns c =
     let s = t .before .before .before .before .before .before in
     let a = s .before .before .before .before .before .before .args in
     let l = a .store .now in
-    let e = whole l (a .line .now) (a .input .now) (t .feed .ensures .1 .0) (f .1 .0) in (
+    let e = whole l (a .line .now) (a .input .now) (t .feed .ensures .1 .0) (f .1 .0) in
+    let b = ap (λ p. p .buffer) e in (
       f .0,
       (
         ap (λ p. p .text) e,
-        tied-by _ _ _ (ap (λ p. p .buffer) e ∙ after-lines (linesOf (a .input .now)) l),
+        (b, λ bad. begun l bad _ _ (b ∙ after-lines (linesOf (a .input .now)) l)),
       ),
     )
 
@@ -65,9 +58,9 @@ run-script-spec =
     (tie.spec
     feed-requires
     finish-requires
-    same-length
-    same-length-2
-    same-length-3
-    same-length-4
-    same-length-5
+    (λ c. search needs)
+    (λ c. search needs)
+    (λ c. search needs)
+    (λ c. search needs)
+    (λ c. search needs)
     returns)

@@ -1,97 +1,75 @@
 -- `sheetdesk::run` meets its contract. Assumes what `libc` says of reading and writing.
+use mathlib.Core.Path.{_≡_}
 use native.Mathlib.Omega.{arith}
 use borrow.Author.Needs.{needs}
+use Rattle.script.proofs.Steps.{taken}
+use Rattle.script.proofs.Serves.{served-last}
 use Rattle.sheetdesk.proofs.run.Statement.{statement}
 use Rattle.sheetdesk.proofs.run.Tie as tie
 
-turns-requires : tie.Need-turns-requires
-turns-requires c κs = search needs
-
-same-length : tie.Need-same-length
-same-length c = search needs
-
-same-length-2 : tie.Need-same-length-2
-same-length-2 c = search needs
-
-same-length-3 : tie.Need-same-length-3
-same-length-3 c = search needs
-
-same-length-4 : tie.Need-same-length-4
-same-length-4 c = search needs
-
-same-length-5 : tie.Need-same-length-5
-same-length-5 c = search needs
-
 returns : tie.Need-returns
-returns c = search needs
+returns c =
+    let t′ = c .before .before .before .before .before .before in
+    let t = t′ .before .before .before .before .before .before .before in
+    rw (c .if1 .taken) (t .turns .ensures .1 .0)
 
-finish-requires : tie.Need-finish-requires
-finish-requires c κs =
-    let b = c .before .before .before .before .before .before .before .before in
-    let t = b .before .before .before .before .before .before .before .before .before in
-    let s = t .before .before .before .before .before in
-    let p = s .before .before .before .before .before .before .pre in
-    let k = t .turns .kept in (
-      t .turns .ensures,
-      (omega (arith, k, p), ((omega (arith, k, p), omega (arith, k, p)), omega (arith, k, p))),
+last-requires : tie.Need-last-requires
+last-requires c κs =
+    let s′ = c .before .before .before .before .before .before .before .before .before in
+    let s = s′ .before .before .before .before .before .before .before .before .before in
+    let p′ = s .before .before .before .before .before .before in
+    let p = p′ .before .before .before .before .before .before .before .pre in
+    let k = s .turns .kept in (
+      s .turns .ensures .0,
+      (
+        record {
+          line-room = omega (arith, k, p);
+          numbers-room = omega (arith, k, p);
+          answer-room = omega (arith, k, p);
+        },
+        omega (arith, k, p),
+      ),
     )
 
-sub-write-all : tie.Need-sub-write-all
-sub-write-all c = search needs
-
-part-write-all-start : tie.Need-part-write-all-start
-part-write-all-start c = search needs
-
-part-write-all-end : tie.Need-part-write-all-end
-part-write-all-end c =
-    let w = c .before .before .before .before .before in
-    let f = w .before .before .before .before .before .before in
-    let b = f .before .before .before .before .before .before .before .before .before in
-    let t = b .before .before .before .before .before .before .before .before .before in
-    let s = t .before .before .before .before .before in
-    let p = s .before .before .before .before .before .before .pre in
-    omega (arith, f .finish .kept, f .finish .ensures, t .turns .kept, p)
-
-write-all-requires : tie.Need-write-all-requires
-write-all-requires c κs = search needs
-
-same-length-6 : tie.Need-same-length-6
-same-length-6 c = search needs
-
-same-length-7 : tie.Need-same-length-7
-same-length-7 c = search needs
-
-same-length-8 : tie.Need-same-length-8
-same-length-8 c = search needs
-
-same-length-9 : tie.Need-same-length-9
-same-length-9 c = search needs
-
-same-length-10 : tie.Need-same-length-10
-same-length-10 c = search needs
+add-t32 : tie.Need-add-t32
+add-t32 c =
+    let l′ = c .before .before .before .before .before .before in
+    let l = l′ .before .before .before .before .before .before in
+    let t′ = l .before .before .before .before .before .before .before .before .before in
+    let t = t′ .before .before .before .before .before .before .before .before .before .before in
+    omega (arith, l .last .ensures .1, t .turns .ensures .1 .1)
 
 returns-2 : tie.Need-returns-2
-returns-2 c = search needs
+returns-2 c =
+    let l′ = c .before .before .before .before .before .before in
+    let l = l′ .before .before .before .before .before .before in
+    let t′ = l .before .before .before .before .before .before .before .before .before in
+    let t = t′ .before .before .before .before .before .before .before .before .before .before in
+    let p′ = t .before .before .before .before .before .before in
+    let p = p′ .before .before .before .before .before .before .before .pre in
+    let e = l .last .ensures in
+    let out = l .last .last .1 .1 .1 .1 .1 .1 .0 in
+    served-last _ (p .0) (t .turns .ensures .1 .0) (e .0)
+    (omega (arith, taken (l .last .result .handed) out (e .1 .1)))
 
 pub run-spec : {M : Type 1} → statement M
 run-spec =
     tie.close
     (tie.spec
-    turns-requires
-    same-length
-    same-length-2
-    same-length-3
-    same-length-4
-    same-length-5
+    (λ c κs. search needs)
+    (λ c. search needs)
+    (λ c. search needs)
+    (λ c. search needs)
+    (λ c. search needs)
+    (λ c. search needs)
+    (λ c. search needs)
     returns
-    finish-requires
-    sub-write-all
-    part-write-all-start
-    part-write-all-end
-    write-all-requires
-    same-length-6
-    same-length-7
-    same-length-8
-    same-length-9
-    same-length-10
+    last-requires
+    add-t32
+    (λ c. search needs)
+    (λ c. search needs)
+    (λ c. search needs)
+    (λ c. search needs)
+    (λ c. search needs)
+    (λ c. search needs)
     returns-2)

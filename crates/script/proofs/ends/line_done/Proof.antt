@@ -10,9 +10,6 @@ use borrow.Author.Needs.{needs}
 use Rattle.script.proofs.ends.line_done.Statement.{statement}
 use Rattle.script.proofs.ends.line_done.Tie as tie
 
-read-line-requires : tie.Need-read-line-requires
-read-line-requires c κs = search needs
-
 perform-requires : tie.Need-perform-requires
 perform-requires c κs =
     let r = c .before .before .before .before .before in
@@ -23,18 +20,6 @@ print-words-requires : tie.Need-print-words-requires
 print-words-requires c κs =
     let m = c .before .before .before .before .before .before .perform in
     (omega arith, (performs-few _ _ _ _ _ (m .ensures), omega arith))
-
-same-length : tie.Need-same-length
-same-length c = search needs
-
-same-length-2 : tie.Need-same-length-2
-same-length-2 c = search needs
-
-same-length-3 : tie.Need-same-length-3
-same-length-3 c = search needs
-
-same-length-4 : tie.Need-same-length-4
-same-length-4 c = search needs
 
 returns : tie.Need-returns
 returns c =
@@ -60,11 +45,11 @@ pub line-done-spec : {M : Type 1} → statement M
 line-done-spec =
     tie.close
     (tie.spec
-    read-line-requires
+    (λ c κs. search needs)
     perform-requires
     print-words-requires
-    same-length
-    same-length-2
-    same-length-3
-    same-length-4
+    (λ c. search needs)
+    (λ c. search needs)
+    (λ c. search needs)
+    (λ c. search needs)
     returns)

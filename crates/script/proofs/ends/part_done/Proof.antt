@@ -7,12 +7,6 @@ use borrow.Author.Needs.{needs}
 use Rattle.script.proofs.ends.part_done.Statement.{statement}
 use Rattle.script.proofs.ends.part_done.Tie as tie
 
-print-unread-requires : tie.Need-print-unread-requires
-print-unread-requires c κs = search needs
-
-same-length : tie.Need-same-length
-same-length c = search needs
-
 returns : tie.Need-returns
 returns c =
     let u = c .before .before in
@@ -25,30 +19,6 @@ returns c =
         omega arith,
       ),
     )
-
-sub-line-done : tie.Need-sub-line-done
-sub-line-done c = search needs
-
-part-line-done-start : tie.Need-part-line-done-start
-part-line-done-start c = search needs
-
-part-line-done-end : tie.Need-part-line-done-end
-part-line-done-end c = search needs
-
-line-done-requires : tie.Need-line-done-requires
-line-done-requires c κs = search needs
-
-same-length-2 : tie.Need-same-length-2
-same-length-2 c = search needs
-
-same-length-3 : tie.Need-same-length-3
-same-length-3 c = search needs
-
-same-length-4 : tie.Need-same-length-4
-same-length-4 c = search needs
-
-same-length-5 : tie.Need-same-length-5
-same-length-5 c = search needs
 
 returns-2 : tie.Need-returns-2
 returns-2 c =
@@ -69,15 +39,15 @@ pub part-done-spec : {M : Type 1} → statement M
 part-done-spec =
     tie.close
     (tie.spec
-    print-unread-requires
-    same-length
+    (λ c κs. search needs)
+    (λ c. search needs)
     returns
-    sub-line-done
-    part-line-done-start
-    part-line-done-end
-    line-done-requires
-    same-length-2
-    same-length-3
-    same-length-4
-    same-length-5
+    (λ c. search needs)
+    (λ c. search needs)
+    (λ c. search needs)
+    (λ c κs. (search needs, ((omega arith, omega arith), omega arith)))
+    (λ c. search needs)
+    (λ c. search needs)
+    (λ c. search needs)
+    (λ c. search needs)
     returns-2)

@@ -8,33 +8,12 @@ use borrow.Author.Needs.{needs}
 use Rattle.script.proofs.ends.print_words.Statement.{statement}
 use Rattle.script.proofs.ends.print_words.Tie as tie
 
-print-unread-requires : tie.Need-print-unread-requires
-print-unread-requires c κs = search needs
-
-same-length : tie.Need-same-length
-same-length c = search needs
-
 returns : tie.Need-returns
 unfolding wordsText
 returns c =
     let a = c .before .before .before .before .before .before .before .args in
     let z : a .count ≡ 0 = omega arith in
     (rw z (c .before .before .print-unread .ensures .0), omega arith)
-
-sub-print-answer : tie.Need-sub-print-answer
-sub-print-answer c = search needs
-
-part-print-answer-start : tie.Need-part-print-answer-start
-part-print-answer-start c = search needs
-
-part-print-answer-end : tie.Need-part-print-answer-end
-part-print-answer-end c = search needs
-
-print-answer-requires : tie.Need-print-answer-requires
-print-answer-requires c κs = search needs
-
-same-length-2 : tie.Need-same-length-2
-same-length-2 c = search needs
 
 returns-2 : tie.Need-returns-2
 returns-2 c =
@@ -50,12 +29,12 @@ pub print-words-spec : {M : Type 1} → statement M
 print-words-spec =
     tie.close
     (tie.spec
-    print-unread-requires
-    same-length
+    (λ c κs. search needs)
+    (λ c. search needs)
     returns
-    sub-print-answer
-    part-print-answer-start
-    part-print-answer-end
-    print-answer-requires
-    same-length-2
+    (λ c. search needs)
+    (λ c. search needs)
+    (λ c. search needs)
+    (λ c κs. search needs)
+    (λ c. search needs)
     returns-2)

@@ -1,0 +1,44 @@
+-- How much the program's buffers hold, in bytes and words.
+-- maxLine, overLine, answerRoom, maxAnswer, lineRoom, readRoom, outRoom, maxInput. Lent: buffers
+-- that suffice.
+-- Assumes nothing.
+use mathlib.Core.List.{List}
+use Prim.Native.Nat.{ℕ, _+_, _*_, _≤_}
+use lib.ListN.{length}
+
+-- The bytes of a line: "over 400 bytes" it is unread.
+abbrev pub maxLine : ℕ
+maxLine = 400
+
+-- The length that stands for a line that is too long. A line has fewer numbers than that.
+abbrev pub overLine : ℕ
+overLine = maxLine + 1
+
+-- The words of the buffer for an answer, and those of the longest answer.
+abbrev pub answerRoom : ℕ
+answerRoom = 24
+
+abbrev pub maxAnswer : ℕ
+maxAnswer = 18
+
+-- The bytes that an answer takes as a line.
+abbrev pub lineRoom : ℕ
+lineRoom = 256
+
+-- The bytes of one read, each of which may end a line, and those of the answers to it.
+abbrev pub readRoom : ℕ
+readRoom = 1024
+
+abbrev pub outRoom : ℕ
+outRoom = lineRoom * readRoom
+
+-- The bytes after which the program reads no more: its counts of bytes stay below 2 ^ 64. No run
+-- comes to it.
+abbrev pub maxInput : ℕ
+maxInput = 36028797018963968
+
+-- The buffers for the line under way, its numbers and its answer.
+pub record Lent (line numbers answer : List ℕ) : Type 0 where
+  pub line-room : maxLine ≤ length line
+  pub numbers-room : overLine ≤ length numbers
+  pub answer-room : answerRoom ≤ length answer
