@@ -28,7 +28,7 @@ use Rattle.layout.proofs.Whole.{store-kept}
 use Rattle.layout.proofs.Updates.{put-cache}
 use Rattle.layout.proofs.Readings.{counts-in, master-in, cache-in}
 use Rattle.layout.proofs.Follow.{form-fine}
-use Rattle.layout.proofs.Forms.{no-form, form-refused, form-done, form-kept}
+use Rattle.layout.proofs.Forms.{no-form, form-refused, form-done}
 use Rattle.form.specs.Parts.{StoreArea, FormWith}
 use Rattle.form.proofs.Stores.{shaped-area, shaped-long}
 
@@ -82,18 +82,14 @@ master-found z s e = ap (λ (s : Sizes). s .master) e
 
 -- ---- a call
 
--- The answer's words w, and the buffer m after it, which is in form if it was.
+-- The answer's words w, and the buffer m after it.
 module _ (c : StoreCall) (l : List ℕ) where
   abbrev pub Ends : List ℕ → List ℕ → Type 0
-  Ends w m =
-      (w ≡ answer (callOn (on c) l))
-      × ((m ≡ leaves (callOn (on c) l) l) × (So (inForm l) → So (inForm m)))
+  Ends w m = (w ≡ answer (callOn (on c) l)) × (m ≡ leaves (callOn (on c) l) l)
 
   pub ends : (y : Outcome) (w m : List ℕ) → callOn (on c) l ≡ y → w ≡ answer y → m ≡ leaves y l
       → Ends w m
-  ends y w m out p q =
-      let left : m ≡ leaves (callOn (on c) l) l = rw out q in
-      (rw out p, (left, λ F. rw left (form-kept c l F)))
+  ends y w m out p q = (rw out p, rw out q)
 
   pub ends-unformed : inForm l ≡ false → Ends (2 ∷ 1 ∷ []) l
   unfolding answer leaves
