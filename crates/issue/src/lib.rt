@@ -1,8 +1,8 @@
 // Issue: a writer saves keys from a finished run. Causes are all tested before a word is stored.
 mod past;
 
+use answers::Answered;
 use form::header::counts;
-use form::in_form;
 use form::job::is_below;
 use masks::has;
 use numbers::IssueNumber;
@@ -22,6 +22,7 @@ ghost use Prim.Native.Nat.{_+_, _≤_, _<_, _^_};
 ghost use lib.Dec.{leb};
 ghost use Rattle.words.specs.Tests.{allBelow};
 ghost use Rattle.masks.specs.Mask.{testBit};
+ghost use Rattle.answers.specs.Answers.{answeredWords};
 ghost use Rattle.sizes.specs.Bounds.{Ranged};
 ghost use Rattle.model.specs.Outcome.{answer};
 ghost use Rattle.model.specs.Issue.{raiseCause, issueCause, issuedNumber, issuedStore};
@@ -30,51 +31,29 @@ ghost use Rattle.layout.specs.Reading.{storeOf};
 ghost use Rattle.layout.specs.Buffer.{written, inForm};
 ghost use Rattle.layout.specs.Calls.{on, callOn, leaves};
 ghost use Rattle.form.specs.Parts.{FormWith};
-ghost use Rattle.issue.specs.Answers.{issuedWords};
 ghost use Rattle.issue.specs.Saves.{Savable};
 
-// The issue number, 0 where no key is saved, or the cause's number.
-pub enum Issued {
-    Done(IssueNumber),
-    Refused(u32),
-}
-
-// A writer saves the keys of a mask from a run whose jobs are all done, and the run is freed.
-pub fn issue(words: &mut [u32], run: u32, writer: u32, mask: u32) -> Issued
-    ensures answers { λ r. ⌜ issuedWords r
-        ≡ answer (callOn (on (issue run writer mask)) (now (words .entry))) ⌝ }
-    ensures leaves { λ _. ⌜ now (words .exit)
-        ≡ leaves (callOn (on (issue run writer mask)) (now (words .entry)))
-        (now (words .entry)) ⌝ }
-    ensures form { λ _. ⌜ (So (inForm (now (words .entry))) → So (inForm (now (words .exit)))) ⌝ }
-{
-    if !in_form(words) {
-        return Issued::Refused(1);
-    }
-    issue_in(words, run, writer, mask)
-}
-
-// Issue on a buffer in form.
-pub fn issue_in(words: &mut [u32], run: u32, writer: u32, mask: u32) -> Issued
+// A writer saves the keys of a mask from a run whose jobs are all done, and the run is freed, in a
+// buffer that is in form. Answers the issue number, 0 where no key is saved.
+pub fn issue(words: &mut [u32], run: u32, writer: u32, mask: u32) -> Answered
     requires { ⌜ So (inForm (now words)) ⌝ }
-    ensures answers { λ r. ⌜ issuedWords r
+    ensures answers { λ r. ⌜ answeredWords r
         ≡ answer (callOn (on (issue run writer mask)) (now (words .entry))) ⌝ }
     ensures leaves { λ _. ⌜ now (words .exit)
         ≡ leaves (callOn (on (issue run writer mask)) (now (words .entry)))
         (now (words .entry)) ⌝ }
-    ensures form { λ _. ⌜ (So (inForm (now (words .entry))) → So (inForm (now (words .exit)))) ⌝ }
 {
     let z = counts(words);
     let r = run as usize;
     let w = writer as usize;
     let cause = issue_cause(words, z, r, w, mask);
     if cause != 0 {
-        return Issued::Refused(cause);
+        return Answered::Refused(cause);
     }
     let number = save(words, z, r, w, mask);
     let freed = z.run_at(r);
     clear_run(words, z, freed);
-    Issued::Done(number)
+    Answered::Done(number.0)
 }
 
 // The first cause for which an issue is refused, or 0.

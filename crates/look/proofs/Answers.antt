@@ -1,10 +1,9 @@
 -- What a look comes to on a buffer.
 -- area-in, held-in, cause-in: what the tests rest on. Found, found: the version is there.
--- Says: what the answer shows, and that nothing is changed; look-unformed, look-refused,
--- look-done.
+-- Says: what the answer shows, and that nothing is changed; look-refused, look-done.
 -- Assumes nothing.
 use mathlib.Core.Path.{_≡_, refl, sym, ap, ap₂, _∙_}
-use mathlib.Core.Bool.{false, not, So}
+use mathlib.Core.Bool.{not, So}
 use mathlib.Core.Logic.{_≢_}
 use mathlib.Core.List.{List, _∷_}
 use Prim.Native.Nat.{ℕ, _<_}
@@ -24,7 +23,7 @@ use Rattle.layout.specs.Calls.{on, callOn, leaves}
 use Rattle.model.proofs.Outcomes.{no-cause}
 use Rattle.layout.proofs.Places.{place-at}
 use Rattle.layout.proofs.Readings.{counts-in}
-use Rattle.layout.proofs.Forms.{no-form, form-refused, form-done}
+use Rattle.layout.proofs.Forms.{form-refused, form-done}
 use Rattle.version.specs.Places.{Area}
 use Rattle.version.proofs.Areas.{row-in}
 use Rattle.form.proofs.Known.{form-area, form-again}
@@ -92,9 +91,6 @@ module _ (l : List ℕ) (p i k : ℕ) where
   says-refused : (n : ℕ) → callOn (on (look p i k)) l ≡ refused n → Says (Refused n)
   unfolding shown answer RowIn leaves
   says-refused n e = rw e (refl, (tt, refl))
-
-  pub look-unformed : inForm l ≡ false → Says (Refused 1)
-  look-unformed F = says-refused 1 (no-form (look p i k) l F)
 
   pub look-refused : (n : ℕ) → So (inForm l) → n ≡ lookCause (storeOf l) p i k → n ≢ 0
       → Says (Refused n)
