@@ -18,12 +18,12 @@ ghost use Rattle.sizes.specs.Bounds.{Ranged};
 ghost use Rattle.model.specs.Outcome.{answer};
 ghost use Rattle.model.specs.Look.{lookLimit, lookCause};
 ghost use Rattle.model.specs.Calls.{look};
-ghost use Rattle.layout.specs.Reading.{storeOf};
+ghost use Rattle.layout.specs.Reading.{countsIn, storeOf};
 ghost use Rattle.layout.specs.Buffer.{inForm};
 ghost use Rattle.layout.specs.Calls.{on, callOn, leaves};
 ghost use Rattle.form.specs.Parts.{FormWith};
 ghost use Rattle.look.specs.Places.{placeAt};
-ghost use Rattle.look.specs.Answer.{shown, RowIn};
+ghost use Rattle.look.specs.Answer.{shown, OwnRow, RowIn};
 
 // The issue number, and where the own row's counts begin and how many they are; or the number of
 // the cause for which a look is refused.
@@ -87,7 +87,7 @@ pub fn look(words: &[u32], place: u32, number: u32, key: u32) -> Looked
     requires { ⌜ So (inForm (now words)) ⌝ }
     ensures answers { λ r. ⌜ shown (now (words .entry)) r
         ≡ answer (callOn (on (look place number key)) (now (words .entry))) ⌝ }
-    ensures row { λ r. ⌜ RowIn (now (words .entry)) r ⌝ }
+    ensures row { λ r. ⌜ OwnRow (countsIn (now (words .entry))) place number key r ⌝ }
     ensures leaves { λ _. ⌜ now (words .entry)
         ≡ leaves (callOn (on (look place number key)) (now (words .entry)))
         (now (words .entry)) ⌝ }
