@@ -7,8 +7,10 @@ use form::job::is_below;
 use masks::has;
 use numbers::IssueNumber;
 use numbers::Tally;
-use numbers::WriterCount;
+use numbers::count_at;
+use numbers::last_issue;
 use numbers::raised;
+use numbers::set_last_issue;
 use past::merge_saved;
 use past::save_writer;
 use sizes::Counts;
@@ -53,7 +55,8 @@ pub fn issue(words: &mut [u32], run: u32, writer: u32, mask: u32) -> Answered
     let number = save(words, z, r, w, mask);
     let freed = z.run_at(r);
     clear_run(words, z, freed);
-    Answered::Done(number.0)
+    let answer = number.word();
+    Answered::Done(answer)
 }
 
 // The first cause for which an issue is refused, or 0.
@@ -112,6 +115,19 @@ fn has_all(mask: u32, n: u32) -> bool
     true
 }
 
+// The last issue number and the count of writer w.
+fn numbers_of(words: &[u32], z: Counts, w: usize) -> Tally
+    requires { ⌜ FormWith (now words) z ⌝ }
+    requires { ⌜ w < z .writers ⌝ }
+    ensures issue { λ t. ⌜ t .issue .0 ≡ storeOf (now (words .entry)) .last ⌝ }
+    ensures count { λ t. ⌜ t .count .0 ≡ storeOf (now (words .entry)) .writer w .count ⌝ }
+{
+    let issue = last_issue(words);
+    let at = z.writer_at(w);
+    let count = count_at(words, at);
+    Tally { issue, count }
+}
+
 // The first cause for which no key can be saved: the last issue number, or the count of writer w,
 // can't be raised. 0: none.
 fn raise_cause(words: &[u32], z: Counts, w: usize) -> u32
@@ -119,13 +135,11 @@ fn raise_cause(words: &[u32], z: Counts, w: usize) -> u32
     requires { ⌜ w < z .writers ⌝ }
     ensures { λ c. ⌜ c ≡ raiseCause (storeOf (now (words .entry))) w ⌝ }
 {
-    let issue = IssueNumber(words[4]);
-    if issue.is_last() {
+    let old = numbers_of(words, z, w);
+    if old.issue.is_last() {
         return 9;
     }
-    let at = z.writer_at(w);
-    let count = WriterCount(words[at]);
-    if count.is_last() {
+    if old.count.is_last() {
         return 10;
     }
     0
@@ -142,7 +156,7 @@ fn save(words: &mut [u32], z: Counts, r: usize, w: usize, mask: u32) -> IssueNum
     if 0 < mask {
         return save_keys(words, z, r, w, mask);
     }
-    IssueNumber(0)
+    IssueNumber::none()
 }
 
 // The read mask of run r.
@@ -162,8 +176,8 @@ fn next_numbers(words: &[u32], z: Counts, w: usize) -> Tally
     ensures issue { λ t. ⌜ t .issue .0 ≡ storeOf (now (words .entry)) .last + 1 ⌝ }
     ensures count { λ t. ⌜ t .count .0 ≡ storeOf (now (words .entry)) .writer w .count + 1 ⌝ }
 {
-    let at = z.writer_at(w);
-    raised(IssueNumber(words[4]), WriterCount(words[at]))
+    let old = numbers_of(words, z, w);
+    raised(old.issue, old.count)
 }
 
 // Saves the keys of a mask that isn't empty. The rows are all set before the first version is made
@@ -180,7 +194,7 @@ fn save_keys(words: &mut [u32], z: Counts, r: usize, w: usize, mask: u32) -> Iss
     let snapshot = z.snapshot_at(r);
     let read = read_mask(words, z, r);
     let tally = next_numbers(words, z, w);
-    words[4] = tally.issue.0;
+    set_last_issue(words, tally.issue);
     save_writer(words, z, at, snapshot, read, w, mask, tally.count);
     merge_saved(words, z, areas.master, at, mask, tally.issue);
     tally.issue

@@ -4,8 +4,10 @@ use clock::merge_into;
 use masks::has;
 use numbers::IssueNumber;
 use numbers::WriterCount;
+use numbers::set_count;
+use numbers::set_version_issue;
+use numbers::version_issue;
 use sizes::Counts;
-use words::larger;
 ghost use mathlib.Core.Path.{_≡_};
 ghost use mathlib.Core.Bool.{So};
 ghost use Prim.Native.Nat.{_+_, _≤_, _<_};
@@ -74,7 +76,7 @@ fn set_if(words: &mut [u32], z: Counts, at: usize, w: usize, mask: u32, new: Wri
 {
     if has(mask, k as u32) {
         let row = z.row_at(at, k);
-        words[row + w] = new.0;
+        set_count(words, row + w, new);
     }
 }
 
@@ -118,7 +120,7 @@ pub fn save_writer(
 {
     take_in(words, z, at, place, read);
     set_rows(words, z, at, w, mask, new);
-    words[at] = new.0;
+    set_count(words, at, new);
 }
 
 // Merges key k of the place with the saved version, if k is in the mask: the issue number, and the
@@ -140,7 +142,9 @@ fn merge_if(
 {
     if has(mask, k as u32) {
         let version = z.key_at(place, k);
-        words[version] = larger(words[version], number.0);
+        let old = version_issue(words, version);
+        let new = old.later(number);
+        set_version_issue(words, version, new);
         merge_past(words, z, version, at);
     }
 }

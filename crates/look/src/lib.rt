@@ -4,6 +4,7 @@ mod row;
 use answers::put_two;
 use form::header::counts;
 use numbers::IssueNumber;
+use numbers::version_issue;
 use row::put_version;
 use sizes::Counts;
 use version::held;
@@ -100,9 +101,10 @@ pub fn look(words: &[u32], place: u32, number: u32, key: u32) -> Looked
         return Looked::Refused(no);
     }
     let at = place_at(z, place, i);
-    let issue = z.key_at(at, k);
+    let version = z.key_at(at, k);
+    let issue = version_issue(words, version);
     let row = row_of(z, at, k, k);
-    Looked::Done(IssueNumber(words[issue]), row, z.writers)
+    Looked::Done(issue, row, z.writers)
 }
 
 // The words of a look at this buffer, laid over an answer slice.
@@ -113,7 +115,7 @@ pub fn put_looked(answer: &mut [u32], store: &[u32], r: Looked) -> usize
         (now (answer .entry)) (now (answer .exit)) n ⌝ }
 {
     match r {
-        Looked::Done(issue, at, n) => put_version(answer, store, issue.0, at, n),
+        Looked::Done(issue, at, n) => put_version(answer, store, issue, at, n),
         Looked::Refused(no) => put_two(answer, 2, no),
     }
 }

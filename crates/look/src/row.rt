@@ -1,5 +1,6 @@
 // The words of a version that a look answers: its issue number and a row of counts.
 use answers::put_two;
+use numbers::IssueNumber;
 ghost use mathlib.Core.Path.{_≡_};
 ghost use mathlib.Core.List.{_∷_};
 ghost use Prim.Native.Nat.{_+_, _≤_};
@@ -24,13 +25,20 @@ fn put_counts(answer: &mut [u32], store: &[u32], at: usize, n: usize)
 }
 
 // An issue number, and a row of n counts from an index of the buffer on.
-pub fn put_version(answer: &mut [u32], store: &[u32], issue: u32, at: usize, n: usize) -> usize
+pub fn put_version(
+    answer: &mut [u32],
+    store: &[u32],
+    issue: IssueNumber,
+    at: usize,
+    n: usize,
+) -> usize
     requires { ⌜ (at + n ≤ length (now store)) × (n ≤ maxWriters) ⌝ }
     requires { ⌜ answerRoom ≤ length (now answer) ⌝ }
-    ensures { λ r. ⌜ Lays (0 ∷ issue ∷ window (now (store .entry)) at n)
+    ensures { λ r. ⌜ Lays (0 ∷ issue .0 ∷ window (now (store .entry)) at n)
         (now (answer .entry)) (now (answer .exit)) r ⌝ }
 {
-    let two = put_two(answer, 0, issue);
+    let number = issue.word();
+    let two = put_two(answer, 0, number);
     put_counts(answer, store, at, n);
     two + n
 }

@@ -4,6 +4,7 @@ use clock::merge_into;
 use clock::present;
 use masks::has;
 use masks::with_if;
+use numbers::version_issue;
 use sizes::Counts;
 use words::copy;
 use words::zero;
@@ -36,8 +37,9 @@ pub fn held(words: &[u32], z: Counts, at: usize, k: usize) -> bool
     requires { ⌜ k < z .keys ⌝ }
     ensures { λ r. ⌜ r ≡ held (readPlace z (now (words .entry)) at k) ⌝ }
 {
-    let issue = z.key_at(at, k);
-    1 <= words[issue]
+    let version = z.key_at(at, k);
+    let number = version_issue(words, version);
+    number.is_held()
 }
 
 // Whether key k of the place needs key d.

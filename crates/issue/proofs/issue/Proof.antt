@@ -77,18 +77,23 @@ clear-run-requires c κs =
 same-length-2 : tie.Need-same-length-2
 same-length-2 c = search needs
 
+word-requires : tie.Need-word-requires
+word-requires c κs = search needs
+
 returns-2 : tie.Need-returns-2
 unfolding answeredWords
 returns-2 c =
-    let n = c .before .before .before .before in
+    let r = c .before .before .before in
+    let n = r .before .before in
     let v = n .before .before .before in
     let e = v .before .before in
     let s = e .before .before .before .before .before .before in
     let a = s .args in
     let z = e .before .before .before .counts .result in
-    issue-done (a .words .now) z (a .run) (a .writer) (a .mask) (v .save .result .0)
-    (v .save .last .0) _ (holds e) (free e) (below e) (v .save .ensures .0) (v .save .ensures .1)
-    (c .before .before .clear-run .ensures
+    issue-done (a .words .now) z (a .run) (a .writer) (a .mask) _
+    (v .save .last .0) _ (holds e) (free e) (below e) (c .word .ensures ∙ v .save .ensures .0)
+    (v .save .ensures .1)
+    (r .clear-run .ensures
     ∙ ap (λ (k : ℕ). putRun z (v .save .last .0) k freeRun) (n .run-at .ensures))
 
 pub issue-spec : {M : Type 1} → statement M
@@ -102,5 +107,6 @@ issue-spec =
     save-requires
     run-at-requires
     clear-run-requires
+    word-requires
     same-length-2
     returns-2)

@@ -70,47 +70,40 @@ key-at-requires c κs =
     let A = area (c .before) in
     (A .ranged, (rw (c .place-at .ensures) (A .low), omega (arith, there (c .before) .key)))
 
-row-of-requires : tie.Need-row-of-requires
-row-of-requires c κs =
-    let p = c .before in
-    let A = area (p .before) in
-    let h = there (p .before) .key in
-    (A .ranged, (rw (p .place-at .ensures) (A .low), h, omega (arith, h)))
-
--- Its issue number is a word of the buffer.
-here : (c : tie.After-key-at)
-    → let n = c .before .before .before .before .before .before in
-    c .key-at .result < length (n .before .before .args .words .now)
-here c =
+version-issue-requires : tie.Need-version-issue-requires
+version-issue-requires c κs =
     let e = c .before .before in
     rw (c .key-at .ensures, c .before .place-at .ensures)
     (issue-in _ _ _ (area e) _ (omega (arith, there e .key)))
 
-mul-t13 : tie.Need-mul-t13
-mul-t13 c = omega (arith, here (c .before))
-
-shared-slice-read-t15 : tie.Need-shared-slice-read-t15
-shared-slice-read-t15 c = here (c .before .before)
+row-of-requires : tie.Need-row-of-requires
+row-of-requires c κs =
+    let p = c .before .before in
+    let A = area (p .before) in
+    let h = there (p .before) .key in
+    (A .ranged, (rw (p .place-at .ensures) (A .low), h, omega (arith, h)))
 
 returns-2 : tie.Need-returns-2
 unfolding ownRowAt
 returns-2 c =
-    let r = c .before in
-    let v = r .before in
+    let n = c .before in
+    let v = n .before in
     let e = v .before .before in
     let k = e .before .before in
     let i = k .before in
-    let n = i .before in
-    let a = n .before .before .args in
+    let z = i .before in
+    let s = z .before .before in
+    let a = s .args in
     rw (
       ← i .wide .ensures,
       ← k .wide2 .ensures,
-      r .row-of .ensures,
+      c .row-of .ensures,
+      n .version-issue .ensures,
       v .key-at .ensures,
       v .before .place-at .ensures,
     )
     (look-done (a .words .now) (a .place) (i .wide .result) (k .wide2 .result)
-    (n .counts .result) (n .counts .ensures) (n .before .before .pre) (there e))
+    (z .counts .result) (z .counts .ensures) (s .pre) (there e))
 
 pub look-spec : {M : Type 1} → statement M
 look-spec =
@@ -123,7 +116,6 @@ look-spec =
     returns
     place-at-requires
     key-at-requires
+    version-issue-requires
     row-of-requires
-    mul-t13
-    shared-slice-read-t15
     returns-2)

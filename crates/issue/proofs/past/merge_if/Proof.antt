@@ -1,9 +1,10 @@
 -- `merge_if` stores the larger issue number and the larger past, if the key is in the mask.
 -- Assumes nothing.
-use mathlib.Core.Path.{sym, _∙_}
+use mathlib.Core.Path.{_≡_, sym, _∙_}
+use Prim.Native.Nat.{max}
 use borrow.Author.Needs.{needs}
 use native.Mathlib.Omega.{arith}
-use lib.ListN.{length, length-set}
+use lib.ListN.{length, getD, set}
 use Rattle.issue.proofs.Areas.{Room, save-room}
 use Rattle.issue.proofs.Masters.{save-yes}
 use Rattle.issue.proofs.past.merge_if.Statement.{statement}
@@ -26,44 +27,41 @@ room c =
     let a = s .args in
     rw (c .key-at .ensures) (save-room _ (a .z) (a .place) (a .at) (a .k) (s .pre .0) (s .pre .1))
 
-mul-larger : tie.Need-mul-larger
-mul-larger c = omega (arith, room c .0, room c .2)
+version-issue-requires : tie.Need-version-issue-requires
+version-issue-requires c κs =
+    let k = c .before in omega (arith, room k .0, room k .2)
 
-slice-read-larger : tie.Need-slice-read-larger
-slice-read-larger c = omega (arith, room (c .before) .0, room (c .before) .2)
+later-requires : tie.Need-later-requires
+later-requires c κs = search needs
 
-larger-requires : tie.Need-larger-requires
-larger-requires c κs = search needs
-
-mul-words : tie.Need-mul-words
-mul-words c =
-    let k = c .before .before in omega (arith, room k .0, room k .2)
-
-slice-write-words : tie.Need-slice-write-words
-slice-write-words c =
-    let k = c .before .before in omega (arith, room k .0, room k .2)
+set-version-issue-requires : tie.Need-set-version-issue-requires
+set-version-issue-requires c κs =
+    let k = c .before .before .before .before in omega (arith, room k .0, room k .2)
 
 merge-past-requires : tie.Need-merge-past-requires
 merge-past-requires c κs =
-    let k = c .before .before .before in
-    (k .before .before .before .before .pre .0 .ranged, rw length-set (room k))
+    let n = c .before .before .before in
+    let k = n .before .before .before .before .before in
+    (k .before .before .before .before .pre .0 .ranged, rw (n .set-version-issue .kept .0) (room k))
 
 same-length : tie.Need-same-length
-same-length c =
-    let lg = c .before .before .before .before in
-    let k = lg .before .before in
-    let l = k .before .before .before .before .args .words .now in
-    c .before .before .merge-past .kept .0
-    ∙ length-set l (k .key-at .result) (lg .larger .result)
+same-length c = search needs
 
 returns : tie.Need-returns
 returns c =
-    let lg = c .before .before .before .before in
-    let k = lg .before .before in
+    let m = c .before .before in
+    let n = m .before .before .before .before in
+    let lg = n .before .before in
+    let v = lg .before in
+    let k = v .before .before in
     let t = k .before in
     let s = t .before .before .before in
     let a = s .args in
-    (rw (lg .larger .ensures) at (c .before .before .merge-past .ensures))
+    let l = a .words .now in
+    let at = k .key-at .result in
+    let stored : n .set-version-issue .last .0 ≡ set l at (max (getD l at 0) (a .number .0)) =
+    rw (← v .version-issue .ensures, ← lg .later .ensures) (n .set-version-issue .ensures) in
+    (rw stored at (m .merge-past .ensures))
     ∙ save-yes (a .z) (a .words .now) (a .place) (a .at) (a .mask) (a .number .0) (a .k)
     (k .key-at .result) (s .pre .1) (sym (t .before .has .ensures) ∙ t .if1 .taken)
     (k .key-at .ensures) (room k .0)
@@ -78,11 +76,9 @@ merge-if-spec =
     cast-has
     has-requires
     key-at-requires
-    mul-larger
-    slice-read-larger
-    larger-requires
-    mul-words
-    slice-write-words
+    version-issue-requires
+    later-requires
+    set-version-issue-requires
     merge-past-requires
     same-length
     returns

@@ -13,6 +13,9 @@ use Rattle.answers.proofs.Fronts.{over-more}
 use Rattle.look.proofs.row.put_version.Statement.{statement}
 use Rattle.look.proofs.row.put_version.Tie as tie
 
+word-requires : tie.Need-word-requires
+word-requires c κs = search needs
+
 put-two-requires : tie.Need-put-two-requires
 put-two-requires c κs = search needs
 
@@ -27,20 +30,24 @@ same-length c = search needs
 
 returns : tie.Need-returns
 returns c =
-    let t = c .before .before .before .before .before .before .put-two in
-    let s = c .before .before .before .before .before .before .before .before .before .before in
+    let p = c .before .before .before .before .before .before in
+    let w = p .before .before in
+    let s = w .before .before .before in
     let a = s .args in
+    let t = p .put-two in
     let row = window (a .store .now) (a .at) (a .n) in
     let long = length-window (a .store .now) (a .at) (a .n) in
     record {
       laid = c .before .before .put-counts .ensures
           ∙ put-window (t .last .0) (a .store .now) 2 (a .at) (a .n)
           ∙ ap (λ (l : List ℕ). sets l 2 row) (t .ensures .laid)
-          ∙ over-more (0 ∷ a .issue ∷ []) row (a .answer .now)
-          (omega (arith, long, s .pre .0 .1, s .pre .1));
+          ∙ rw (w .word .ensures)
+          (over-more (0 ∷ a .issue .0 ∷ []) row (a .answer .now)
+          (omega (arith, long, s .pre .0 .1, s .pre .1)));
       count = rw (t .ensures .count) (omega (arith, long));
     }
 
 pub put-version-spec : {M : Type 1} → statement M
 put-version-spec =
-    tie.close (tie.spec put-two-requires put-counts-requires add-result same-length returns)
+    tie.close
+    (tie.spec word-requires put-two-requires put-counts-requires add-result same-length returns)
