@@ -25,7 +25,7 @@ P
   case $said in
     *"error[mismatched-types]: expected \`IssueNumber\`, found \`WriterCount\`"*) refused=$((refused + 1)) ;;
     *"error[mismatched-types]: expected \`WriterCount\`, found \`IssueNumber\`"*) refused=$((refused + 1)) ;;
-    *"error[private-field]"* | *"error[no-method]"*) refused=$((refused + 1)) ;;
+    *"error[private-field]"* | *"error[unknown-method]"*) refused=$((refused + 1)) ;;
     *) echo "swapped: the compiler took it: $1/$2: $4"; printf '%s\n' "$said" | tail -n 5; failed=1 ;;
   esac
 }

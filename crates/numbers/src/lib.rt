@@ -1,5 +1,5 @@
-// Issue numbers and writers' counts: two types, so that one is never taken for the other. Only this
-// crate takes one out of a word or puts one into it.
+// Issue numbers and writers' counts: two types, so that one is never taken for the other. Only
+// this crate takes one out of a word or puts one into it.
 use words::larger;
 ghost use mathlib.Core.Path.{_≡_};
 ghost use Prim.Native.Nat.{_+_, _≤_, _<_, max};
