@@ -35,13 +35,14 @@ swap issue lib.rt 'raised(old.issue, old.count)' 'raised(old.count, old.issue)'
 # read
 swap issue lib.rt 'let issue = last_issue(words);' 'let issue = count_at(words, 4);'
 swap issue lib.rt 'let count = count_at(words, at);' 'let count = numbers::version_issue(words, at);'
-swap issue past.rt 'let old = version_issue(words, version);' 'let old = numbers::count_at(words, version);'
+swap version lib.rt 'let old = version_issue(words, dst);' 'let old = numbers::count_at(words, dst);'
+swap version lib.rt 'let number = version_issue(words, s);' 'let number = numbers::count_at(words, s);'
 swap look lib.rt 'let issue = version_issue(words, version);' 'let issue = numbers::count_at(words, version);'
 # stored
 swap issue lib.rt 'set_last_issue(words, tally.issue);' 'set_last_issue(words, tally.count);'
-swap issue past.rt 'set_version_issue(words, version, new);' 'set_count(words, version, new);'
-swap issue past.rt 'set_count(words, row + w, new);' 'set_version_issue(words, row + w, new);'
-swap issue past.rt 'set_count(words, at, new);' 'set_version_issue(words, at, new);'
+swap version lib.rt 'set_version_issue(words, dst, new);' 'numbers::set_count(words, dst, new);'
+swap issue past.rt 'set_count(words, row + w, new);' 'numbers::set_version_issue(words, row + w, new);'
+swap issue past.rt 'set_count(words, at, new);' 'numbers::set_version_issue(words, at, new);'
 # handed on
 swap issue lib.rt 'w, mask, tally.count);' 'w, mask, tally.issue);'
 swap issue lib.rt 'at, mask, tally.issue);' 'at, mask, tally.count);'
