@@ -1,6 +1,7 @@
 #!/usr/bin/env bash
 # A writer's count taken for an issue number, or the reverse, must not compile: the compiler refuses it before the prover
-# sees it, so it can't be a must-fail edit. Swaps the two in a copy of crate numbers and wants the compiler's refusal.
+# sees it, so it can't be a must-fail edit. Swaps the two in a copy, at each place where one is read, stored or handed on,
+# and wants the compiler's refusal. Each swap: crate, file, text, other text.
 set -u
 cd "$(dirname "$0")/.." || exit 2
 copy=$(mktemp -d) || exit 2
@@ -8,10 +9,45 @@ trap 'rm -rf "$copy"' EXIT
 cp -r crates crates.txt "$copy/" || exit 2
 [ ! -d target ] || cp -r target "$copy/" || exit 2
 cd "$copy" && git init -q . || exit 2
-sed -i 's/issue: number,/issue: made,/; s/count: made,/count: number,/' crates/numbers/src/lib.rt
-grep -q 'issue: made,' crates/numbers/src/lib.rt || { echo "swapped: the text to swap is gone"; exit 1; }
-said=$(rt mir numbers 2>&1)
-case $said in
-  *"expected \`IssueNumber\`, found \`WriterCount\`"*) echo "swapped: refused, expected IssueNumber, found WriterCount" ;;
-  *) echo "swapped: the compiler took it:"; printf '%s\n' "$said" | tail -n 5; exit 1 ;;
-esac
+failed=0 refused=0
+swap() { # CRATE FILE OLD NEW
+  local file=crates/$1/src/$2 said
+  cp "$file" kept
+  OLD=$3 NEW=$4 python3 - "$file" <<'P' || { echo "swapped: the text to swap is gone: $1/$2: $3"; failed=1; return; }
+import os, sys
+text = open(sys.argv[1]).read()
+old = os.environ['OLD']
+if text.count(old) != 1: sys.exit(1)
+open(sys.argv[1], 'w').write(text.replace(old, os.environ['NEW']))
+P
+  said=$(rt mir "$1" 2>&1)
+  mv kept "$file"
+  case $said in
+    *"error[mismatched-types]: expected \`IssueNumber\`, found \`WriterCount\`"*) refused=$((refused + 1)) ;;
+    *"error[mismatched-types]: expected \`WriterCount\`, found \`IssueNumber\`"*) refused=$((refused + 1)) ;;
+    *"error[private-field]"* | *"error[unknown-method]"*) refused=$((refused + 1)) ;;
+    *) echo "swapped: the compiler took it: $1/$2: $4"; printf '%s\n' "$said" | tail -n 5; failed=1 ;;
+  esac
+}
+# raised
+swap numbers lib.rt 'issue: number,' 'issue: made,'
+swap issue lib.rt 'raised(old.issue, old.count)' 'raised(old.count, old.issue)'
+# read
+swap issue lib.rt 'let issue = last_issue(words);' 'let issue = count_at(words, 4);'
+swap issue lib.rt 'let count = count_at(words, at);' 'let count = numbers::version_issue(words, at);'
+swap version lib.rt 'let old = version_issue(words, dst);' 'let old = numbers::count_at(words, dst);'
+swap version lib.rt 'let number = version_issue(words, s);' 'let number = numbers::count_at(words, s);'
+swap look lib.rt 'let issue = version_issue(words, version);' 'let issue = numbers::count_at(words, version);'
+# stored
+swap issue lib.rt 'set_last_issue(words, tally.issue);' 'set_last_issue(words, tally.count);'
+swap version lib.rt 'set_version_issue(words, dst, new);' 'numbers::set_count(words, dst, new);'
+swap issue past.rt 'set_count(words, row + w, new);' 'numbers::set_version_issue(words, row + w, new);'
+swap issue past.rt 'set_count(words, at, new);' 'numbers::set_version_issue(words, at, new);'
+# handed on
+swap issue lib.rt 'w, mask, tally.count);' 'w, mask, tally.issue);'
+swap issue lib.rt 'at, mask, tally.issue);' 'at, mask, tally.count);'
+# answered, or taken out of its type
+swap look row.rt 'issue: IssueNumber,' 'issue: numbers::WriterCount,'
+swap issue lib.rt 'set_last_issue(words, tally.issue);' 'words[4] = tally.count.0;'
+echo "swapped: $refused swaps refused by the compiler"
+exit $failed

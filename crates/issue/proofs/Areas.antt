@@ -2,11 +2,14 @@
 -- takes-area, saves-area: writer and place of a store. takes-writer, writer-first: the writer.
 -- ..-room: words of a writer, and of key k.
 -- Assumes nothing.
+use mathlib.Core.Logic.{inl}
 use Prim.Native.Nat.{ℕ, _+_, _≤_, _<_}
 use native.Mathlib.Omega.{arith}
+use Rattle.words.specs.Words.{Apart}
 use Rattle.sizes.specs.declared.Counts.{Counts}
 use Rattle.sizes.specs.Bounds.{pastSize, versionSize, writerSize, masterAt, writerAt, snapshotAt, keyAt, rowAt}
-use Rattle.sizes.proofs.Offsets.{largest, ordered, writer-lies, run-lies, snapshot-lies, key-lies, row-lies}
+use Rattle.sizes.proofs.Offsets.{ordered, writer-lies, run-lies, snapshot-lies, key-lies, row-lies}
+use Rattle.version.specs.Places.{Merges}
 use Rattle.form.specs.Parts.{StoreArea}
 use Rattle.issue.specs.Saves.{WriterArea, Takes, Saves}
 
@@ -46,30 +49,32 @@ writer-first len z at A = omega (arith, A .fits)
 
 -- ---- one key
 
--- A word at src and the past behind it, and a word at dst before it.
-abbrev pub Room : ℕ → Counts → ℕ → ℕ → Type 0
-Room len z dst src = (dst < src) × (src < 2000000) × (src + 1 + pastSize z ≤ len)
-
+-- The writer's past, and the past of key k of the place behind it.
 pub take-room : (len : ℕ) (z : Counts) (at place k : ℕ) → Takes len z at place → k < z .keys
-    → Room len z at (keyAt z place k)
+    → Apart len (at + 1) (keyAt z place k + 1) (pastSize z)
 unfolding versionSize writerSize
 take-room len z at place k A h =
-    let m = largest z (A .ranged) in
     let v = key-lies z place k h in
     let a = A .apart in
     let b = A .fits in
-    let c = A .low in
-    (omega arith, omega arith, omega arith)
+    record { dst-in = omega arith; src-in = omega arith; apart = inl (omega arith) }
 
+-- The version of key k of the place, and the past of the writer behind it.
 pub save-room : (len : ℕ) (z : Counts) (place at k : ℕ) → Saves len z place at → k < z .keys
-    → Room len z (keyAt z place k) at
+    → Merges len z (keyAt z place k) (at + 1)
 unfolding versionSize writerSize
 save-room len z place at k A h =
     let v = key-lies z place k h in
     let a = A .apart in
     let b = A .fits in
     let c = A .low in
-    (omega arith, omega arith, omega arith)
+    record {
+      ranged = A .ranged;
+      low = omega arith;
+      target = omega arith;
+      source = omega arith;
+      apart = inl (omega arith);
+    }
 
 pub row-room : (len : ℕ) (z : Counts) (at k w : ℕ) → at + writerSize z ≤ len → k < z .keys
     → w < z .writers → rowAt z at k + w < len

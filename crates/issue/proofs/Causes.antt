@@ -1,5 +1,5 @@
 -- The cause of an issue as the code tests it.
--- raise-word: causes 9 and 10 by their words, raise-free: none.
+-- raise-free: neither number is the largest word.
 -- beyond, in-range: out of range or not. issue-cause: the chain. cause-state, cause-jobs: its
 -- lower rows, jobsCause. issue-ready: no cause.
 -- Assumes nothing.
@@ -10,31 +10,20 @@ use mathlib.Core.List.{List}
 use Prim.Native.Nat.{ℕ, _<_, _^_}
 use native.Mathlib.Omega.{arith}
 use lib.Dec.{eqb, leb}
-use lib.ListN.{getD}
 use Rattle.words.specs.Tests.{allBelow}
 use Rattle.words.proofs.Bools.{test, or-none, leb-gt, gt-leb, eqb-ne}
 use Rattle.masks.specs.Mask.{testBit}
 use Rattle.sizes.specs.declared.Counts.{Counts}
-use Rattle.sizes.specs.Bounds.{writerAt}
 use Rattle.model.specs.Store.{Store}
 use Rattle.model.specs.Outcome.{refuse, allowed, issueRow, runCause}
 use Rattle.model.specs.Issue.{maxWord, raiseCause, issueCause}
 use Rattle.model.proofs.Outcomes.{no-cause, no-lack}
 use Rattle.layout.specs.Reading.{storeOf}
-use Rattle.layout.proofs.Readings.{last-in}
 use Rattle.form.specs.Parts.{FormWith}
 use Rattle.form.proofs.Known.{form-counts}
 use Rattle.issue.specs.Saves.{Savable}
-use Rattle.issue.proofs.Known.{count-word}
 
 -- ---- the numbers that an issue raises
-
-pub raise-word : (l : List ℕ) (z : Counts) → FormWith l z → (w : ℕ) → w < z .writers
-    → raiseCause (storeOf l) w
-    ≡ refuse (eqb (getD l 4 0) maxWord) 9
-    (refuse (eqb (getD l (writerAt z w) 0) maxWord) 10 0)
-unfolding raiseCause
-raise-word l z H w h = rw (last-in l, count-word l z H w h)
 
 pub raise-free : (s : Store) (w : ℕ) → raiseCause s w ≡ 0
     → (s .last ≢ maxWord) × (s .writer w .count ≢ maxWord)

@@ -5,30 +5,30 @@ use mathlib.Core.Path.{_≡_, ap, _∙_}
 use mathlib.Core.Bool.{So}
 use mathlib.Core.Logic.{inr}
 use mathlib.Core.List.{List}
-use Prim.Native.Nat.{ℕ, _+_, _≤_, _<_, max}
+use Prim.Native.Nat.{ℕ, _+_, _≤_, _<_}
 use native.Mathlib.Omega.{arith}
-use lib.ListN.{length, getD, set}
+use lib.ListN.{length}
 use Rattle.words.specs.Numbers.{foldBelow}
 use Rattle.words.proofs.Bools.{clash}
 use Rattle.masks.specs.Mask.{testBit}
 use Rattle.sizes.specs.declared.Counts.{Counts}
 use Rattle.sizes.specs.Bounds.{keyAt}
 use Rattle.model.specs.Algebra.{Place}
-use Rattle.model.specs.Version.{Version, larger, merge, joinPasts}
+use Rattle.model.specs.Version.{Version, larger, merge}
 use Rattle.model.specs.Form.{placeFormed}
 use Rattle.model.specs.Issue.{newVersion, issuedMaster}
 use Rattle.model.proofs.Formed.{place-out}
 use Rattle.model.proofs.Merges.{held-iff, merge-larger}
 use Rattle.layout.specs.Words.{placeWords}
-use Rattle.layout.specs.Reading.{readPast, readPlace, readWriter}
-use Rattle.layout.specs.Stored.{putPlace, putPast}
+use Rattle.layout.specs.Reading.{readPast, readVersion, readPlace, readWriter}
+use Rattle.layout.specs.Stored.{putPlace, putVersion}
 use Rattle.layout.proofs.Parts.{place-laws, writer-laws}
 use Rattle.layout.proofs.Places.{place-at, place-ext, place-run, key-back}
 use Rattle.layout.proofs.Merges.{formed-blank}
 use Rattle.layout.proofs.Windows.{part-beside}
-use Rattle.version.specs.Places.{putKey, choice}
+use Rattle.version.specs.Places.{versionOf, putKey, choice}
 use Rattle.issue.specs.Saves.{Saves}
-use Rattle.issue.proofs.Pasts.{writer-read, version-merged}
+use Rattle.issue.proofs.Pasts.{writer-read}
 
 abbrev pub saveStep : Counts → ℕ → ℕ → ℕ → ℕ → ℕ → List ℕ → List ℕ
 saveStep z place at S n k l =
@@ -36,13 +36,12 @@ saveStep z place at S n k l =
     (larger (readPlace z l place k) (newVersion n (readWriter z l at .past)))
 
 -- What the code stores for a key of the mask.
-pub save-yes : (z : Counts) (l : List ℕ) (place at S n k v : ℕ) → k < z .keys
-    → So (testBit S k) → v ≡ keyAt z place k → v < at
-    → let m = set l v (max (getD l v 0) n) in
-    putPast z m (v + 1) (joinPasts (readPast z m (v + 1)) (readPast z m (at + 1)))
+pub save-yes : (z : Counts) (l : List ℕ) (place at S n k : ℕ) → k < z .keys → So (testBit S k)
+    → let v = keyAt z place k in
+    putVersion z l v (larger (readVersion z l v) (versionOf n (readPast z l (at + 1))))
     ≡ saveStep z place at S n k l
-save-yes z l place at S n k v h t e i =
-    rw (t, place-at z l place k h, writer-read z l at, ← e) (version-merged z l v at n i)
+unfolding newVersion
+save-yes z l place at S n k h t = rw (t, place-at z l place k h, writer-read z l at)
 
 module _ (z : Counts) (l : List ℕ) (place at S n : ℕ) (A : Saves (length l) z place at) where
   abbrev p : Place Version

@@ -1,10 +1,9 @@
 -- The past of a writer or of a version in the words of a buffer.
--- writer-..: a writer by count and past. version-..: a version by issue number and past.
+-- writer-..: a writer by count and past. version-read: the past of a version.
 -- Assumes nothing.
 use mathlib.Core.Path.{_≡_, refl, sym, ap, _∙_}
-use mathlib.Core.Logic.{inr}
 use mathlib.Core.List.{List, [], _∷_}
-use Prim.Native.Nat.{ℕ, suc, _+_, _≤_, _<_, max}
+use Prim.Native.Nat.{ℕ, suc, _+_, _≤_, _<_}
 use native.Mathlib.Nat.{add-zero}
 use native.Mathlib.Numerals.{add-one}
 use native.Mathlib.Omega.{arith}
@@ -13,14 +12,12 @@ use lib.Seq.{sets, set-getD}
 use Rattle.clock.specs.Clock.{Clock}
 use Rattle.sizes.specs.declared.Counts.{Counts}
 use Rattle.sizes.specs.Bounds.{writerSize}
-use Rattle.model.specs.Version.{larger, joinPasts}
 use Rattle.model.specs.Store.{Writer}
-use Rattle.model.specs.Issue.{newVersion}
-use Rattle.layout.specs.Words.{pastWords, versionWords, writerWords}
+use Rattle.layout.specs.Words.{pastWords, writerWords}
 use Rattle.layout.specs.Reading.{readPast, readVersion, readWriter}
-use Rattle.layout.specs.Stored.{putVersion, putWriter, putPast}
-use Rattle.layout.proofs.Parts.{past-laws, writer-laws}
-use Rattle.layout.proofs.Windows.{part-beside, part-twice}
+use Rattle.layout.specs.Stored.{putWriter, putPast}
+use Rattle.layout.proofs.Parts.{writer-laws}
+use Rattle.layout.proofs.Windows.{part-twice}
 use Rattle.layout.proofs.Pasts.{past-ext}
 use Rattle.issue.specs.Saves.{withPast}
 
@@ -61,19 +58,3 @@ pub version-read : (z : Counts) (l : List ℕ) (at : ℕ)
     → readVersion z l at .past ≡ readPast z l (at + 1)
 unfolding readVersion
 version-read z l at = refl
-
--- The larger issue number is stored, then the larger counts: of the version at v, and of the
--- number n and the past behind the word at s.
-pub version-merged : (z : Counts) (l : List ℕ) (v s n : ℕ) → v < s
-    → let m = set l v (max (getD l v 0) n) in
-    putPast z m (v + 1) (joinPasts (readPast z m (v + 1)) (readPast z m (s + 1)))
-    ≡ putVersion z l v (larger (readVersion z l v) (newVersion n (readPast z l (s + 1))))
-unfolding versionWords readVersion larger newVersion
-version-merged z l v s n h =
-    let x = max (getD l v 0) n in
-    let own : readPast z (set l v x) (v + 1) ≡ readPast z l (v + 1) =
-    part-beside (past-laws z) l (x ∷ []) v (v + 1) (inr (omega arith)) in
-    let other : readPast z (set l v x) (s + 1) ≡ readPast z l (s + 1) =
-    part-beside (past-laws z) l (x ∷ []) v (s + 1) (inr (omega arith)) in
-    let p = joinPasts (readPast z l (v + 1)) (readPast z l (s + 1)) in
-    rw (own, other) (ap (λ (j : ℕ). sets (set l v x) j (pastWords z p)) (add-one v))

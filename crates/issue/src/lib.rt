@@ -1,14 +1,16 @@
 // Issue: a writer saves keys from a finished run. Causes are all tested before a word is stored.
 mod past;
 
+use answers::Answered;
 use form::header::counts;
-use form::in_form;
 use form::job::is_below;
 use masks::has;
 use numbers::IssueNumber;
 use numbers::Tally;
-use numbers::WriterCount;
+use numbers::count_at;
+use numbers::last_issue;
 use numbers::raised;
+use numbers::set_last_issue;
 use past::merge_saved;
 use past::save_writer;
 use sizes::Counts;
@@ -22,6 +24,7 @@ ghost use Prim.Native.Nat.{_+_, _≤_, _<_, _^_};
 ghost use lib.Dec.{leb};
 ghost use Rattle.words.specs.Tests.{allBelow};
 ghost use Rattle.masks.specs.Mask.{testBit};
+ghost use Rattle.answers.specs.Answers.{answeredWords};
 ghost use Rattle.sizes.specs.Bounds.{Ranged};
 ghost use Rattle.model.specs.Outcome.{answer};
 ghost use Rattle.model.specs.Issue.{raiseCause, issueCause, issuedNumber, issuedStore};
@@ -30,51 +33,30 @@ ghost use Rattle.layout.specs.Reading.{storeOf};
 ghost use Rattle.layout.specs.Buffer.{written, inForm};
 ghost use Rattle.layout.specs.Calls.{on, callOn, leaves};
 ghost use Rattle.form.specs.Parts.{FormWith};
-ghost use Rattle.issue.specs.Answers.{issuedWords};
 ghost use Rattle.issue.specs.Saves.{Savable};
 
-// The issue number, 0 where no key is saved, or the cause's number.
-pub enum Issued {
-    Done(IssueNumber),
-    Refused(u32),
-}
-
-// A writer saves the keys of a mask from a run whose jobs are all done, and the run is freed.
-pub fn issue(words: &mut [u32], run: u32, writer: u32, mask: u32) -> Issued
-    ensures answers { λ r. ⌜ issuedWords r
-        ≡ answer (callOn (on (issue run writer mask)) (now (words .entry))) ⌝ }
-    ensures leaves { λ _. ⌜ now (words .exit)
-        ≡ leaves (callOn (on (issue run writer mask)) (now (words .entry)))
-        (now (words .entry)) ⌝ }
-    ensures form { λ _. ⌜ (So (inForm (now (words .entry))) → So (inForm (now (words .exit)))) ⌝ }
-{
-    if !in_form(words) {
-        return Issued::Refused(1);
-    }
-    issue_in(words, run, writer, mask)
-}
-
-// Issue on a buffer in form.
-pub fn issue_in(words: &mut [u32], run: u32, writer: u32, mask: u32) -> Issued
+// A writer saves the keys of a mask from a run whose jobs are all done, and the run is freed, in a
+// buffer that is in form. Answers the issue number, 0 where no key is saved.
+pub fn issue(words: &mut [u32], run: u32, writer: u32, mask: u32) -> Answered
     requires { ⌜ So (inForm (now words)) ⌝ }
-    ensures answers { λ r. ⌜ issuedWords r
+    ensures answers { λ r. ⌜ answeredWords r
         ≡ answer (callOn (on (issue run writer mask)) (now (words .entry))) ⌝ }
     ensures leaves { λ _. ⌜ now (words .exit)
         ≡ leaves (callOn (on (issue run writer mask)) (now (words .entry)))
         (now (words .entry)) ⌝ }
-    ensures form { λ _. ⌜ (So (inForm (now (words .entry))) → So (inForm (now (words .exit)))) ⌝ }
 {
     let z = counts(words);
     let r = run as usize;
     let w = writer as usize;
     let cause = issue_cause(words, z, r, w, mask);
     if cause != 0 {
-        return Issued::Refused(cause);
+        return Answered::Refused(cause);
     }
     let number = save(words, z, r, w, mask);
     let freed = z.run_at(r);
     clear_run(words, z, freed);
-    Issued::Done(number)
+    let answer = number.word();
+    Answered::Done(answer)
 }
 
 // The first cause for which an issue is refused, or 0.
@@ -133,6 +115,19 @@ fn has_all(mask: u32, n: u32) -> bool
     true
 }
 
+// The last issue number and the count of writer w.
+fn numbers_of(words: &[u32], z: Counts, w: usize) -> Tally
+    requires { ⌜ FormWith (now words) z ⌝ }
+    requires { ⌜ w < z .writers ⌝ }
+    ensures issue { λ t. ⌜ t .issue .0 ≡ storeOf (now (words .entry)) .last ⌝ }
+    ensures count { λ t. ⌜ t .count .0 ≡ storeOf (now (words .entry)) .writer w .count ⌝ }
+{
+    let issue = last_issue(words);
+    let at = z.writer_at(w);
+    let count = count_at(words, at);
+    Tally { issue, count }
+}
+
 // The first cause for which no key can be saved: the last issue number, or the count of writer w,
 // can't be raised. 0: none.
 fn raise_cause(words: &[u32], z: Counts, w: usize) -> u32
@@ -140,13 +135,11 @@ fn raise_cause(words: &[u32], z: Counts, w: usize) -> u32
     requires { ⌜ w < z .writers ⌝ }
     ensures { λ c. ⌜ c ≡ raiseCause (storeOf (now (words .entry))) w ⌝ }
 {
-    let issue = IssueNumber(words[4]);
-    if issue.is_last() {
+    let old = numbers_of(words, z, w);
+    if old.issue.is_last() {
         return 9;
     }
-    let at = z.writer_at(w);
-    let count = WriterCount(words[at]);
-    if count.is_last() {
+    if old.count.is_last() {
         return 10;
     }
     0
@@ -163,7 +156,7 @@ fn save(words: &mut [u32], z: Counts, r: usize, w: usize, mask: u32) -> IssueNum
     if 0 < mask {
         return save_keys(words, z, r, w, mask);
     }
-    IssueNumber(0)
+    IssueNumber::none()
 }
 
 // The read mask of run r.
@@ -183,8 +176,8 @@ fn next_numbers(words: &[u32], z: Counts, w: usize) -> Tally
     ensures issue { λ t. ⌜ t .issue .0 ≡ storeOf (now (words .entry)) .last + 1 ⌝ }
     ensures count { λ t. ⌜ t .count .0 ≡ storeOf (now (words .entry)) .writer w .count + 1 ⌝ }
 {
-    let at = z.writer_at(w);
-    raised(IssueNumber(words[4]), WriterCount(words[at]))
+    let old = numbers_of(words, z, w);
+    raised(old.issue, old.count)
 }
 
 // Saves the keys of a mask that isn't empty. The rows are all set before the first version is made
@@ -201,7 +194,7 @@ fn save_keys(words: &mut [u32], z: Counts, r: usize, w: usize, mask: u32) -> Iss
     let snapshot = z.snapshot_at(r);
     let read = read_mask(words, z, r);
     let tally = next_numbers(words, z, w);
-    words[4] = tally.issue.0;
+    set_last_issue(words, tally.issue);
     save_writer(words, z, at, snapshot, read, w, mask, tally.count);
     merge_saved(words, z, areas.master, at, mask, tally.issue);
     tally.issue

@@ -1,39 +1,25 @@
 // A writer's past: it takes in what a run read, its rows get the new count, and the master's
 // versions are merged with it.
-use clock::merge_into;
 use masks::has;
 use numbers::IssueNumber;
 use numbers::WriterCount;
+use numbers::set_count;
 use sizes::Counts;
-use words::larger;
+use version::merge_past;
+use version::merge_version;
+use version::row_of;
 ghost use mathlib.Core.Path.{_≡_};
 ghost use mathlib.Core.Bool.{So};
-ghost use Prim.Native.Nat.{_+_, _≤_, _<_};
+ghost use Prim.Native.Nat.{_≤_, _<_};
 ghost use lib.ListN.{length};
 ghost use Rattle.masks.specs.Mask.{testBit};
-ghost use Rattle.sizes.specs.Bounds.{Ranged, pastSize};
-ghost use Rattle.model.specs.Version.{larger, joinPasts};
+ghost use Rattle.model.specs.Version.{larger};
 ghost use Rattle.model.specs.Form.{placeFormed};
 ghost use Rattle.model.specs.Issue.{takenIn, rowsSet, newVersion, issuedMaster};
-ghost use Rattle.layout.specs.Reading.{readPast, readPlace, readWriter};
-ghost use Rattle.layout.specs.Stored.{putPlace, putWriter, putPast};
+ghost use Rattle.layout.specs.Reading.{readPlace, readWriter};
+ghost use Rattle.layout.specs.Stored.{putPlace, putWriter};
 ghost use Rattle.version.specs.Places.{putKey};
 ghost use Rattle.issue.specs.Saves.{withPast, takes, rowSet, WriterArea, Takes, Saves};
-
-// Merges the past behind the word at src into the one behind the word at dst: each count becomes
-// the larger of the two. The words are a writer's count or a version's issue number, and stay.
-fn merge_past(words: &mut [u32], z: Counts, dst: usize, src: usize)
-    requires { ⌜ Ranged z ⌝ }
-    requires { ⌜ (dst < src) × (src < 2000000) × (src + 1 + pastSize z ≤ length (now words)) ⌝ }
-    ensures { λ _. ⌜ now (words .exit) ≡ putPast z (now (words .entry)) (dst + 1)
-        (joinPasts (readPast z (now (words .entry)) (dst + 1))
-        (readPast z (now (words .entry)) (src + 1))) ⌝ }
-{
-    let n = z.past_size();
-    let to = z.row_at(dst, 0);
-    let from = z.row_at(src, 0);
-    merge_into(words, to, from, n);
-}
 
 // The writer at an index takes in the past of key k of the place, if k is in the mask.
 fn take_if(words: &mut [u32], z: Counts, at: usize, place: usize, read: u32, k: usize)
@@ -44,8 +30,9 @@ fn take_if(words: &mut [u32], z: Counts, at: usize, place: usize, read: u32, k: 
         (readWriter z (now (words .entry)) at)) ⌝ }
 {
     if has(read, k as u32) {
-        let version = z.key_at(place, k);
-        merge_past(words, z, at, version);
+        let own = z.row_at(at, 0);
+        let past = row_of(z, place, k, 0);
+        merge_past(words, z, own, past);
     }
 }
 
@@ -74,7 +61,7 @@ fn set_if(words: &mut [u32], z: Counts, at: usize, w: usize, mask: u32, new: Wri
 {
     if has(mask, k as u32) {
         let row = z.row_at(at, k);
-        words[row + w] = new.0;
+        set_count(words, row + w, new);
     }
 }
 
@@ -118,7 +105,7 @@ pub fn save_writer(
 {
     take_in(words, z, at, place, read);
     set_rows(words, z, at, w, mask, new);
-    words[at] = new.0;
+    set_count(words, at, new);
 }
 
 // Merges key k of the place with the saved version, if k is in the mask: the issue number, and the
@@ -140,8 +127,8 @@ fn merge_if(
 {
     if has(mask, k as u32) {
         let version = z.key_at(place, k);
-        words[version] = larger(words[version], number.0);
-        merge_past(words, z, version, at);
+        let past = z.row_at(at, 0);
+        merge_version(words, z, version, number, past);
     }
 }
 

@@ -1,17 +1,17 @@
 -- What a look comes to on a buffer.
 -- area-in, held-in, cause-in: what the tests rest on. Found, found: the version is there.
--- Says: what the answer shows, and that nothing is changed; look-unformed, look-refused,
--- look-done.
+-- Says: what the answer shows, and that nothing is changed; look-refused, look-done. row-lies.
 -- Assumes nothing.
 use mathlib.Core.Path.{_≡_, refl, sym, ap, ap₂, _∙_}
-use mathlib.Core.Bool.{false, not, So}
+use mathlib.Core.Bool.{not, So}
 use mathlib.Core.Logic.{_≢_}
-use mathlib.Core.List.{List, _∷_}
+use mathlib.Core.List.{List, [], _∷_}
 use Prim.Native.Nat.{ℕ, _<_}
 use native.Mathlib.Omega.{arith}
-use lib.Dec.{leb}
-use lib.ListN.{length}
-use Rattle.words.proofs.Bools.{leb-gt}
+use lib.Dec.{eqb, leb}
+use lib.ListN.{length, getD}
+use Rattle.words.specs.Lists.{window}
+use Rattle.words.proofs.Bools.{test, leb-gt, eqb-eq, eqb-ne}
 use Rattle.sizes.specs.declared.Counts.{Counts}
 use Rattle.sizes.specs.Bounds.{keyAt}
 use Rattle.model.specs.Version.{Version, held}
@@ -24,14 +24,14 @@ use Rattle.layout.specs.Calls.{on, callOn, leaves}
 use Rattle.model.proofs.Outcomes.{no-cause}
 use Rattle.layout.proofs.Places.{place-at}
 use Rattle.layout.proofs.Readings.{counts-in}
-use Rattle.layout.proofs.Forms.{no-form, form-refused, form-done}
+use Rattle.layout.proofs.Forms.{form-refused, form-done}
 use Rattle.version.specs.Places.{Area}
 use Rattle.version.proofs.Areas.{row-in}
 use Rattle.form.proofs.Known.{form-area, form-again}
 use Rattle.look.specs.declared.Looked.{Looked}
 use Rattle.look.specs.declared.Looked.the-variants.{Done, Refused}
 use Rattle.look.specs.Places.{placeAt, ownRowAt}
-use Rattle.look.specs.Answer.{shown, RowIn}
+use Rattle.look.specs.Answer.{shown, OwnRow, RowIn}
 use Rattle.look.proofs.Places.{place-in, place-area, row-window}
 
 -- ---- the tests
@@ -83,18 +83,15 @@ module _ (l : List ℕ) (p i k : ℕ) where
         result = form-done (look p i k) l (lookCause s p i k) (lookDone s p i k) F as-rule e;
       }
 
-  -- What it says, where its row lies, and that nothing is changed.
+  -- What it says, which row it has, and that nothing is changed.
   abbrev pub Says : Looked → Type 0
   Says r =
       (shown l r ≡ answer (callOn (on (look p i k)) l))
-      × (RowIn l r × (l ≡ leaves (callOn (on (look p i k)) l) l))
+      × (OwnRow (countsIn l) p i k r × (l ≡ leaves (callOn (on (look p i k)) l) l))
 
   says-refused : (n : ℕ) → callOn (on (look p i k)) l ≡ refused n → Says (Refused n)
-  unfolding shown answer RowIn leaves
+  unfolding shown answer OwnRow leaves
   says-refused n e = rw e (refl, (tt, refl))
-
-  pub look-unformed : inForm l ≡ false → Says (Refused 1)
-  look-unformed F = says-refused 1 (no-form (look p i k) l F)
 
   pub look-refused : (n : ℕ) → So (inForm l) → n ≡ lookCause (storeOf l) p i k → n ≢ 0
       → Says (Refused n)
@@ -106,17 +103,33 @@ module _ (l : List ℕ) (p i k : ℕ) where
   pub look-done : (z : Counts) → z ≡ countsIn l → So (inForm l) → Found l z p i k
       → Says (Done (record { 0 = readWord l (keyAt z (placeAt z p i) k) }) (ownRowAt z p i k)
       (z .writers))
-  unfolding lookDone shown answer RowIn ownRowAt readVersion leaves
+  unfolding lookDone shown answer OwnRow ownRowAt readVersion leaves
   look-done z d F T =
       let at = placeAt z p i in
       let issue = ap (λ (v : Version). v .issue) (place-at z l at k (T .key)) in
       let row = row-window z l at k k (T .key) (T .key) in
-      let A = area-in l z d p i F (T .number) in
       let r = Done (record { 0 = readWord l (keyAt z at k) }) (ownRowAt z p i k) (z .writers) in
       let says : shown l r ≡ answer (callOn (on (look p i k)) l) =
       rw (T .result, place-in l z d p i (T .number), counts-in l, ← d)
       (ap₂ (λ (n : ℕ) (t : List ℕ). 0 ∷ n ∷ t) (sym issue) (sym row)) in
       let same : l ≡ leaves (callOn (on (look p i k)) l) l =
       rw (T .result) (sym (form-again l z (record { form = F; counts = d }))) in
-      let lies = row-in (length l) z at A k k (T .key) (T .key) in
-      (says, ((lies, A .ranged .writers-high), same))
+      let e = ap (λ (y : Counts). ownRowAt y p i k) d in
+      (says, ((e, ap (λ (y : Counts). y .writers) d), same))
+
+  -- Such a row lies in the buffer.
+  pub row-lies : (r : Looked) → So (inForm l) → shown l r ≡ answer (callOn (on (look p i k)) l)
+      → OwnRow (countsIn l) p i k r → RowIn l r
+  unfolding shown answer OwnRow RowIn ownRowAt
+  row-lies (Refused n) F e o = tt
+  row-lies (Done n at c) F e o =
+      let s = storeOf l in
+      let x = lookCause s p i k in
+      test (eqb x 0)
+      (λ t. let T = found (countsIn l) refl F (eqb-eq x 0 t) in
+      let A = area-in l (countsIn l) refl p i F (T .number) in
+      rw (o .0, o .1)
+      (row-in (length l) (countsIn l) _ A k k (T .key) (T .key), A .ranged .writers-high))
+      (λ t. let no = form-refused (look p i k) l x (lookDone s p i k) F as-rule (eqb-ne x 0 t) in
+      let two : 0 ∷ n .0 ∷ window l at c ≡ 2 ∷ x ∷ [] = e ∙ rw no in
+      absurd (omega (arith, ap (λ (t : List ℕ). getD t 0 0) two)))

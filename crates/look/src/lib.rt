@@ -1,24 +1,30 @@
 // The call look: the issue number and the own row of a version, read in a buffer.
+mod row;
+
+use answers::put_two;
 use form::header::counts;
-use form::in_form;
 use numbers::IssueNumber;
+use numbers::version_issue;
+use row::put_version;
 use sizes::Counts;
 use version::held;
 use version::row_of;
 use words::wide;
 ghost use mathlib.Core.Path.{_≡_};
 ghost use mathlib.Core.Bool.{So};
-ghost use Prim.Native.Nat.{_<_};
+ghost use Prim.Native.Nat.{_≤_, _<_};
+ghost use lib.ListN.{length};
+ghost use Rattle.answers.specs.Answers.{answerRoom, Lays};
 ghost use Rattle.sizes.specs.Bounds.{Ranged};
 ghost use Rattle.model.specs.Outcome.{answer};
 ghost use Rattle.model.specs.Look.{lookLimit, lookCause};
 ghost use Rattle.model.specs.Calls.{look};
-ghost use Rattle.layout.specs.Reading.{storeOf};
+ghost use Rattle.layout.specs.Reading.{countsIn, storeOf};
 ghost use Rattle.layout.specs.Buffer.{inForm};
 ghost use Rattle.layout.specs.Calls.{on, callOn, leaves};
 ghost use Rattle.form.specs.Parts.{FormWith};
 ghost use Rattle.look.specs.Places.{placeAt};
-ghost use Rattle.look.specs.Answer.{shown, RowIn};
+ghost use Rattle.look.specs.Answer.{shown, OwnRow, RowIn};
 
 // The issue number, and where the own row's counts begin and how many they are; or the number of
 // the cause for which a look is refused.
@@ -76,12 +82,13 @@ fn cause(words: &[u32], z: Counts, place: u32, i: usize, k: usize) -> u32
     0
 }
 
-// A look on a buffer in form.
-pub fn look_in(words: &[u32], place: u32, number: u32, key: u32) -> Looked
+// The version of a key in place 0 (the master), 1 (the cache of site `number`) or 2 (the
+// snapshot of run `number`), in a buffer that is in form.
+pub fn look(words: &[u32], place: u32, number: u32, key: u32) -> Looked
     requires { ⌜ So (inForm (now words)) ⌝ }
-    ensures shows { λ r. ⌜ shown (now (words .entry)) r
+    ensures answers { λ r. ⌜ shown (now (words .entry)) r
         ≡ answer (callOn (on (look place number key)) (now (words .entry))) ⌝ }
-    ensures row { λ r. ⌜ RowIn (now (words .entry)) r ⌝ }
+    ensures row { λ r. ⌜ OwnRow (countsIn (now (words .entry))) place number key r ⌝ }
     ensures leaves { λ _. ⌜ now (words .entry)
         ≡ leaves (callOn (on (look place number key)) (now (words .entry)))
         (now (words .entry)) ⌝ }
@@ -94,23 +101,21 @@ pub fn look_in(words: &[u32], place: u32, number: u32, key: u32) -> Looked
         return Looked::Refused(no);
     }
     let at = place_at(z, place, i);
-    let issue = z.key_at(at, k);
+    let version = z.key_at(at, k);
+    let issue = version_issue(words, version);
     let row = row_of(z, at, k, k);
-    Looked::Done(IssueNumber(words[issue]), row, z.writers)
+    Looked::Done(issue, row, z.writers)
 }
 
-// The version of a key in place 0 (the master), 1 (the cache of site `number`) or 2 (the
-// snapshot of run `number`). Any buffer and any numbers.
-pub fn look(words: &[u32], place: u32, number: u32, key: u32) -> Looked
-    ensures shows { λ r. ⌜ shown (now (words .entry)) r
-        ≡ answer (callOn (on (look place number key)) (now (words .entry))) ⌝ }
-    ensures row { λ r. ⌜ RowIn (now (words .entry)) r ⌝ }
-    ensures leaves { λ _. ⌜ now (words .entry)
-        ≡ leaves (callOn (on (look place number key)) (now (words .entry)))
-        (now (words .entry)) ⌝ }
+// The words of a look at this buffer, laid over an answer slice.
+pub fn put_looked(answer: &mut [u32], store: &[u32], r: Looked) -> usize
+    requires { ⌜ answerRoom ≤ length (now answer) ⌝ }
+    requires { ⌜ RowIn (now store) r ⌝ }
+    ensures { λ n. ⌜ Lays (shown (now (store .entry)) r)
+        (now (answer .entry)) (now (answer .exit)) n ⌝ }
 {
-    if !in_form(words) {
-        return Looked::Refused(1);
+    match r {
+        Looked::Done(issue, at, n) => put_version(answer, store, issue, at, n),
+        Looked::Refused(no) => put_two(answer, 2, no),
     }
-    look_in(words, place, number, key)
 }

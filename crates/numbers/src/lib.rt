@@ -1,15 +1,18 @@
-// Issue numbers and writers' counts: two types, so that one is never taken for the other.
+// Issue numbers and writers' counts: two types, so that one is never taken for the other. Only
+// this crate takes one out of a word or puts one into it.
+use words::larger;
 ghost use mathlib.Core.Path.{_≡_};
-ghost use Prim.Native.Nat.{_+_, _<_};
-ghost use lib.Dec.{eqb};
+ghost use Prim.Native.Nat.{_+_, _≤_, _<_, max};
+ghost use lib.Dec.{eqb, leb};
+ghost use lib.ListN.{length, getD, set};
 ghost use Rattle.model.specs.Issue.{maxWord};
 ghost use Rattle.numbers.specs.Rising.{issueAfter, countAfter, risen};
 
 // The number of an issue; 0 where nothing is held.
-pub struct IssueNumber(pub u32);
+pub struct IssueNumber(u32);
 
 // How many issues a writer has made.
-pub struct WriterCount(pub u32);
+pub struct WriterCount(u32);
 
 // What an issue raises: the last issue number and its writer's count.
 pub struct Tally {
@@ -18,6 +21,34 @@ pub struct Tally {
 }
 
 impl IssueNumber {
+    // The number where nothing is held, or saved.
+    pub fn none() -> IssueNumber
+        ensures { λ r. ⌜ r .0 ≡ 0 ⌝ }
+    {
+        IssueNumber(0)
+    }
+
+    // The number in an answer.
+    pub fn word(self) -> u32
+        ensures { λ r. ⌜ r ≡ self .0 ⌝ }
+    {
+        self.0
+    }
+
+    // Whether a version with this number is held.
+    pub fn is_held(self) -> bool
+        ensures { λ r. ⌜ r ≡ leb 1 (self .0) ⌝ }
+    {
+        1 <= self.0
+    }
+
+    // The larger of two.
+    pub fn later(self, other: IssueNumber) -> IssueNumber
+        ensures { λ r. ⌜ r .0 ≡ max (self .0) (other .0) ⌝ }
+    {
+        IssueNumber(larger(self.0, other.0))
+    }
+
     // Whether no issue can follow.
     pub fn is_last(self) -> bool
         ensures { λ r. ⌜ r ≡ eqb (self .0) maxWord ⌝ }
@@ -63,4 +94,49 @@ pub fn raised(issue: IssueNumber, count: WriterCount) -> Tally
         issue: number,
         count: made,
     }
+}
+
+// The last issue number, a word of the header.
+pub fn last_issue(words: &[u32]) -> IssueNumber
+    requires { ⌜ 10 ≤ length (now words) ⌝ }
+    ensures { λ r. ⌜ r .0 ≡ getD (now (words .entry)) 4 0 ⌝ }
+{
+    IssueNumber(words[4])
+}
+
+pub fn set_last_issue(words: &mut [u32], new: IssueNumber)
+    requires { ⌜ 10 ≤ length (now words) ⌝ }
+    ensures { λ _. ⌜ now (words .exit) ≡ set (now (words .entry)) 4 (new .0) ⌝ }
+{
+    words[4] = new.0;
+}
+
+// The issue number of the version at an index.
+pub fn version_issue(words: &[u32], at: usize) -> IssueNumber
+    requires { ⌜ at < length (now words) ⌝ }
+    ensures { λ r. ⌜ r .0 ≡ getD (now (words .entry)) at 0 ⌝ }
+{
+    IssueNumber(words[at])
+}
+
+pub fn set_version_issue(words: &mut [u32], at: usize, new: IssueNumber)
+    requires { ⌜ at < length (now words) ⌝ }
+    ensures { λ _. ⌜ now (words .exit) ≡ set (now (words .entry)) at (new .0) ⌝ }
+{
+    words[at] = new.0;
+}
+
+// The count at an index: a writer's, or one of a row.
+pub fn count_at(words: &[u32], at: usize) -> WriterCount
+    requires { ⌜ at < length (now words) ⌝ }
+    ensures { λ r. ⌜ r .0 ≡ getD (now (words .entry)) at 0 ⌝ }
+{
+    WriterCount(words[at])
+}
+
+pub fn set_count(words: &mut [u32], at: usize, new: WriterCount)
+    requires { ⌜ at < length (now words) ⌝ }
+    ensures { λ _. ⌜ now (words .exit) ≡ set (now (words .entry)) at (new .0) ⌝ }
+{
+    words[at] = new.0;
 }

@@ -11,10 +11,10 @@ use Rattle.clock.specs.Clock.{dominates, clockAt}
 use Rattle.clock.proofs.Order.{dominates-same}
 use Rattle.sizes.specs.declared.Counts.{Counts}
 use Rattle.sizes.specs.Bounds.{versionSize, keyAt, rowAt}
-use Rattle.sizes.proofs.Offsets.{key-lies, row-lies}
+use Rattle.sizes.proofs.Offsets.{largest, key-lies, row-lies}
 use Rattle.layout.specs.Reading.{readPlace}
 use Rattle.layout.proofs.Readings.{row-word}
-use Rattle.version.specs.Places.{Area, Areas}
+use Rattle.version.specs.Places.{Area, Areas, Merges}
 
 module _ (len : ℕ) (z : Counts) (at : ℕ) (A : Area len z at) where
   pub key-in : (k : ℕ) → k < z .keys → keyAt z at k + versionSize z ≤ len
@@ -51,3 +51,19 @@ dominates-word z l a k b t d h i j =
     dominates-same (z .writers) (readPlace z l a k .past d) (clockAt l (rowAt z (keyAt z a k) d))
     (readPlace z l b t .past d) (clockAt l (rowAt z (keyAt z b t) d))
     (λ w u. row-word z l a k d w h j u) (λ w u. row-word z l b t d w i j u)
+
+-- The version of a key and the past of the same key in another place.
+pub key-merges : (len : ℕ) (z : Counts) (dst src : ℕ) → Areas len z dst src → (k : ℕ) → k < z .keys
+    → Merges len z (keyAt z dst k) (keyAt z src k + 1)
+unfolding versionSize
+key-merges len z dst src A k h =
+    let m = largest z (A .target .ranged) in
+    let a = key-lies z dst k h in
+    let P = key-apart len z dst src A k h in
+    record {
+      ranged = A .target .ranged;
+      low = omega (arith, A .target .low);
+      target = P .dst-in;
+      source = omega (arith, P .src-in);
+      apart = ⊎-elim (λ l. inl (omega arith)) (λ l. inr (omega arith)) (P .apart);
+    }

@@ -4,21 +4,27 @@
 -- Assumes nothing.
 use mathlib.Core.Path.{_≡_, refl, sym, ap, _∙_, fun-ext}
 use mathlib.Core.Bool.{Bool, true, false, cond}
-use mathlib.Core.List.{List, []}
-use Prim.Native.Nat.{ℕ, _+_}
+use mathlib.Core.List.{List, [], _∷_}
+use mathlib.Core.Logic.{_⊎_, inl, inr, ⊎-elim}
+use Prim.Native.Nat.{ℕ, _+_, _≤_, _<_, max}
+use native.Mathlib.Numerals.{add-one}
+use native.Mathlib.Omega.{arith}
 use lib.Dec.{ltb}
-use lib.ListN.{getD}
+use lib.ListN.{getD, set}
 use lib.Seq.{sets}
 use Rattle.words.specs.Words.{put}
 use Rattle.words.specs.Lists.{upto}
-use Rattle.clock.specs.Clock.{Clock, join, clockAt}
+use Rattle.clock.specs.Clock.{Clock}
 use Rattle.sizes.specs.declared.Counts.{Counts}
-use Rattle.sizes.specs.Bounds.{versionSize}
-use Rattle.model.specs.Version.{unheld, zeroPast, larger}
+use Rattle.sizes.specs.Bounds.{pastSize, versionSize}
+use Rattle.model.specs.Version.{unheld, zeroPast, larger, joinPasts}
+use Rattle.layout.specs.Words.{pastWords, versionWords}
 use Rattle.layout.specs.Reading.{readClock, readPast, readVersion}
-use Rattle.layout.proofs.Parts.{version-laws}
-use Rattle.layout.proofs.Merges.{larger-version, put-window}
-use Rattle.layout.specs.Stored.{putVersion}
+use Rattle.layout.proofs.Parts.{past-laws, version-laws}
+use Rattle.layout.proofs.Merges.{put-window}
+use Rattle.layout.proofs.Windows.{part-beside}
+use Rattle.layout.specs.Stored.{putPast, putVersion}
+use Rattle.version.specs.Places.{versionOf}
 
 -- The words of a version of any buffer m, stored at an index of l.
 pub copy-version : (z : Counts) (l m : List ℕ) (dst src : ℕ)
@@ -51,8 +57,19 @@ pub clear-version : (z : Counts) (l : List ℕ) (at : ℕ)
 clear-version z l at =
     copy-version z l [] at 0 ∙ ap (putVersion z l at) (nothing-read z)
 
-pub merge-version : (z : Counts) (l : List ℕ) (dst src : ℕ)
-    → put l dst (versionSize z) (join (clockAt l dst) (clockAt l src))
-    ≡ putVersion z l dst (larger (readVersion z l dst) (readVersion z l src))
-unfolding join clockAt
-merge-version z l dst src = larger-version z l dst src
+-- The larger issue number is stored, then the larger counts: of the version at v, and of the
+-- number n and the past at p.
+pub merge-version : (z : Counts) (l : List ℕ) (v p n : ℕ) → (v < p) ⊎ (p + pastSize z ≤ v)
+    → let m = set l v (max (getD l v 0) n) in
+    putPast z m (v + 1) (joinPasts (readPast z m (v + 1)) (readPast z m p))
+    ≡ putVersion z l v (larger (readVersion z l v) (versionOf n (readPast z l p)))
+unfolding versionWords readVersion larger
+merge-version z l v p n h =
+    let x = max (getD l v 0) n in
+    let own : readPast z (set l v x) (v + 1) ≡ readPast z l (v + 1) =
+    part-beside (past-laws z) l (x ∷ []) v (v + 1) (inr (omega arith)) in
+    let other : readPast z (set l v x) p ≡ readPast z l p =
+    part-beside (past-laws z) l (x ∷ []) v p
+    (⊎-elim (λ i. inr (omega arith)) (λ i. inl (omega arith)) h) in
+    let q = joinPasts (readPast z l (v + 1)) (readPast z l p) in
+    rw (own, other) (ap (λ (j : ℕ). sets (set l v x) j (pastWords z q)) (add-one v))

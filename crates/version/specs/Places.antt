@@ -1,6 +1,6 @@
 -- Versions and places in the words of a buffer: stored at an index, and where they lie.
--- putKey: one key stored. choice: a place by a set of keys.
--- Area, Areas: where places lie.
+-- versionOf: a version by its parts. putKey: one key stored. choice: a place by a set of keys.
+-- Area, Areas: where places lie. Merges: where a version and a past lie.
 -- Assumes nothing.
 use mathlib.Core.Path.{_≡_}
 use mathlib.Core.Bool.{cond}
@@ -8,11 +8,16 @@ use mathlib.Core.List.{List}
 use mathlib.Core.Logic.{_⊎_}
 use Prim.Native.Nat.{ℕ, _+_, _≤_, _<_}
 use Rattle.words.specs.Tests.{Items}
+use Rattle.clock.specs.Clock.{Clock}
 use Rattle.sizes.specs.declared.Counts.{Counts}
-use Rattle.sizes.specs.Bounds.{Ranged, placeSize, keyAt}
+use Rattle.sizes.specs.Bounds.{Ranged, pastSize, versionSize, placeSize, keyAt}
 use Rattle.model.specs.Algebra.{Place}
 use Rattle.model.specs.Version.{Version}
 use Rattle.layout.specs.Stored.{putVersion}
+
+-- The version with an issue number and a past.
+abbrev pub versionOf : ℕ → (ℕ → Clock) → Version
+versionOf n p = record { issue = n; past = p }
 
 -- The words l with version v stored for key k of the place at an index, if k is in the set.
 abbrev pub putKey : Counts → List ℕ → ℕ → Items → ℕ → Version → List ℕ
@@ -33,3 +38,11 @@ pub record Areas (len : ℕ) (z : Counts) (dst src : ℕ) : Type 0 where
   pub target : Area len z dst
   pub source : Area len z src
   pub apart : (dst ≡ src) ⊎ ((dst + placeSize z ≤ src) ⊎ (src + placeSize z ≤ dst))
+
+-- The version at an index, and a past that is its own or lies beside it.
+pub record Merges (len : ℕ) (z : Counts) (dst past : ℕ) : Type 0 where
+  pub ranged : Ranged z
+  pub low : dst < 2000000
+  pub target : dst + versionSize z ≤ len
+  pub source : past + pastSize z ≤ len
+  pub apart : (dst < past) ⊎ (past + pastSize z ≤ dst)

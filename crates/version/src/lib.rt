@@ -4,6 +4,9 @@ use clock::merge_into;
 use clock::present;
 use masks::has;
 use masks::with_if;
+use numbers::IssueNumber;
+use numbers::set_version_issue;
+use numbers::version_issue;
 use sizes::Counts;
 use words::copy;
 use words::zero;
@@ -13,12 +16,12 @@ ghost use Prim.Native.Nat.{_+_, _≤_, _<_};
 ghost use lib.ListN.{length};
 ghost use Rattle.words.specs.Words.{Apart};
 ghost use Rattle.masks.specs.Mask.{testBit, maskBelow};
-ghost use Rattle.sizes.specs.Bounds.{Ranged, versionSize, keyAt, rowAt};
-ghost use Rattle.model.specs.Version.{unheld, held, dependency, supersedes, larger, merge};
+ghost use Rattle.sizes.specs.Bounds.{Ranged, pastSize, versionSize, keyAt, rowAt};
+ghost use Rattle.model.specs.Version.{unheld, held, dependency, supersedes, larger, joinPasts, merge};
 ghost use Rattle.model.specs.Form.{placeFormed};
-ghost use Rattle.layout.specs.Reading.{readVersion, readPlace};
-ghost use Rattle.version.specs.Places.{putKey, choice, Area, Areas};
-ghost use Rattle.layout.specs.Stored.{putVersion, putPlace};
+ghost use Rattle.layout.specs.Reading.{readPast, readVersion, readPlace};
+ghost use Rattle.version.specs.Places.{versionOf, putKey, choice, Area, Areas, Merges};
+ghost use Rattle.layout.specs.Stored.{putPast, putVersion, putPlace};
 
 // Where row d of key k begins in the place at an index.
 pub fn row_of(z: Counts, at: usize, k: usize, d: usize) -> usize
@@ -36,8 +39,9 @@ pub fn held(words: &[u32], z: Counts, at: usize, k: usize) -> bool
     requires { ⌜ k < z .keys ⌝ }
     ensures { λ r. ⌜ r ≡ held (readPlace z (now (words .entry)) at k) ⌝ }
 {
-    let issue = z.key_at(at, k);
-    1 <= words[issue]
+    let version = z.key_at(at, k);
+    let number = version_issue(words, version);
+    number.is_held()
 }
 
 // Whether key k of the place needs key d.
@@ -105,16 +109,30 @@ pub fn clear_version(words: &mut [u32], z: Counts, at: usize)
     zero(words, at, n);
 }
 
-// Merges the version at src into the one at dst: each word becomes the larger of the two.
-pub fn merge_version(words: &mut [u32], z: Counts, dst: usize, src: usize)
+// Merges the past at an index into the one at another: each count becomes the larger of the two.
+pub fn merge_past(words: &mut [u32], z: Counts, to: usize, from: usize)
     requires { ⌜ Ranged z ⌝ }
-    requires { ⌜ Apart (length (now words)) dst src (versionSize z) ⌝ }
+    requires { ⌜ Apart (length (now words)) to from (pastSize z) ⌝ }
+    ensures { λ _. ⌜ now (words .exit) ≡ putPast z (now (words .entry)) to
+        (joinPasts (readPast z (now (words .entry)) to) (readPast z (now (words .entry)) from)) ⌝ }
+{
+    let n = z.past_size();
+    merge_into(words, to, from, n);
+}
+
+// Merges a version into the one at dst: an issue number, and the past at an index. The number and
+// each count become the larger of the two.
+pub fn merge_version(words: &mut [u32], z: Counts, dst: usize, number: IssueNumber, past: usize)
+    requires { ⌜ Merges (length (now words)) z dst past ⌝ }
     ensures { λ _. ⌜ now (words .exit) ≡ putVersion z (now (words .entry)) dst
         (larger (readVersion z (now (words .entry)) dst)
-        (readVersion z (now (words .entry)) src)) ⌝ }
+        (versionOf (number .0) (readPast z (now (words .entry)) past))) ⌝ }
 {
-    let n = z.version_size();
-    merge_into(words, dst, src, n);
+    let old = version_issue(words, dst);
+    let new = old.later(number);
+    set_version_issue(words, dst, new);
+    let own = z.row_at(dst, 0);
+    merge_past(words, z, own, past);
 }
 
 // Copies key k of the place at src to the place at dst, if it is in the mask.
@@ -184,7 +202,9 @@ fn merge_if(words: &mut [u32], z: Counts, dst: usize, src: usize, mask: u32, k: 
     if has(mask, k as u32) {
         let d = z.key_at(dst, k);
         let s = z.key_at(src, k);
-        merge_version(words, z, d, s);
+        let number = version_issue(words, s);
+        let past = row_of(z, src, k, 0);
+        merge_version(words, z, d, number, past);
     }
 }
 

@@ -1,6 +1,6 @@
 -- `save` leaves the store as it is where the mask is empty.
 -- Assumes nothing.
-use mathlib.Core.Path.{refl, sym}
+use mathlib.Core.Path.{sym}
 use borrow.Author.Needs.{needs}
 use native.Mathlib.Omega.{arith}
 use Rattle.words.proofs.Bools.{eq-eqb}
@@ -20,12 +20,16 @@ same-length c = search needs
 returns : tie.Need-returns
 returns c = c .before .before .save-keys .ensures
 
+none-requires : tie.Need-none-requires
+none-requires c κs = search needs
+
 returns-2 : tie.Need-returns-2
 unfolding issuedStore issuedNumber
 returns-2 c =
-    let s = c .before .before in
-    rw (eq-eqb (s .args .mask) 0 (omega (arith, c .if1 .left)))
-    (refl, sym (form-again (s .args .words .now) (s .args .z) (s .pre .0)))
+    let e = c .before in
+    let s = e .before .before in
+    rw (eq-eqb (s .args .mask) 0 (omega (arith, e .if1 .left)))
+    (c .none .ensures, sym (form-again (s .args .words .now) (s .args .z) (s .pre .0)))
 
 pub save-spec : {M : Type 1} → statement M
-save-spec = tie.close (tie.spec save-keys-requires same-length returns returns-2)
+save-spec = tie.close (tie.spec save-keys-requires same-length returns none-requires returns-2)

@@ -1,9 +1,10 @@
 -- `save_keys` stores the issue number, the writer, then the master.
 -- Assumes nothing.
-use mathlib.Core.Path.{_≡_, refl, sym, _∙_}
+use mathlib.Core.Path.{_≡_, sym, _∙_}
 use Prim.Native.Nat.{_<_, _^_}
+use borrow.Author.Needs.{needs}
 use native.Mathlib.Omega.{arith}
-use lib.ListN.{length, length-set}
+use lib.ListN.{length}
 use Rattle.words.proofs.Bools.{ne-eqb}
 use Rattle.layout.specs.Reading.{storeOf}
 use Rattle.layout.specs.Buffer.{written}
@@ -87,22 +88,26 @@ saves n =
     rw (x .writer-at .ensures, master-found (a .z) (e .areas .result) (e .areas .ensures))
     (saves-area _ (a .z) (form-area (a .words .now) (a .z) (s .pre .0)) (a .w) (range n .1))
 
-slice-write-words : tie.Need-slice-write-words
-slice-write-words c =
-    let s = c .before .before .before .before .before .before .before .before in
-    omega (arith, form-long (s .args .words .now) (s .pre .0 .form))
+set-last-issue-requires : tie.Need-set-last-issue-requires
+set-last-issue-requires c κs =
+    let s = c .before .before .before .before .before .before .before .before .before in
+    form-long (s .args .words .now) (s .pre .0 .form)
 
 save-writer-requires : tie.Need-save-writer-requires
-save-writer-requires c κs = (rw length-set (takes (c .before)), range (c .before) .1)
+save-writer-requires c κs =
+    let o = c .before .before .before in
+    let n = o .before .before in
+    (rw (o .set-last-issue .kept .0) (takes n), range n .1)
 
 -- Number and writer are stored.
 counted : (v : tie.After-save-writer)
-    → let n = v .before .before in
+    → let n = v .before .before .before .before .before .before in
     let a = n .before .before .before .before .before .before .before .before .args in
     let l = a .words .now in
     v .save-writer .last .0 ≡ written (countedStore (storeOf l) (a .r) (a .w) (a .mask)) l
 counted v =
-    let n = v .before .before in
+    let o = v .before .before .before .before in
+    let n = o .before .before in
     let p = n .before .before .before .before in
     let s = p .before .before .before .before in
     let a = s .args in
@@ -110,19 +115,18 @@ counted v =
     writer-done (a .words .now) (a .z) (s .pre .0) (a .r) (a .w) (a .mask) (R .0) (R .1) (R .2)
     _ _ _ _ _ _ _ (p .before .writer-at .ensures) (p .snapshot-at .ensures)
     (n .before .before .read-mask .ensures) (n .next-numbers .ensures .0)
-    (n .next-numbers .ensures .1) refl (v .save-writer .ensures)
+    (n .next-numbers .ensures .1) (o .set-last-issue .ensures) (v .save-writer .ensures)
 
 merge-saved-requires : tie.Need-merge-saved-requires
 merge-saved-requires c κs =
     let v = c .before .before .before in
-    let n = v .before .before in
+    let o = v .before .before .before .before in
+    let n = o .before .before in
     let x = n .before .before .before .before .before in
     let s = x .before .before .before in
     let a = s .args in
-    let R = range n in
-    let i = n .next-numbers .result .issue .0 in
-    let long = v .save-writer .kept .0 ∙ length-set (a .words .now) 4 i in (
-      rw long (saves n),
+    let R = range n in (
+      rw (v .save-writer .kept .0 ∙ o .set-last-issue .kept .0) (saves n),
       (
         kept-formed (a .words .now) (a .z) (s .pre .0) (a .r) (a .w) (a .mask) (R .0) (R .1)
             (R .2) _ _ (master-found (a .z) (x .before .areas .result) (x .before .areas .ensures))
@@ -132,19 +136,13 @@ merge-saved-requires c κs =
     )
 
 same-length : tie.Need-same-length
-same-length c =
-    let m = c .before .before .before in
-    let v = m .before .before .before .before in
-    let n = v .before .before in
-    let s = n .before .before .before .before .before .before .before .before in
-    m .merge-saved .kept .0 ∙ v .save-writer .kept .0
-    ∙ length-set (s .args .words .now) 4 (n .next-numbers .result .issue .0)
+same-length c = search needs
 
 returns : tie.Need-returns
 returns c =
     let m = c .before .before .before in
     let v = m .before .before .before .before in
-    let n = v .before .before in
+    let n = v .before .before .before .before .before .before in
     let x = n .before .before .before .before .before in
     let s = x .before .before .before in
     let a = s .args in
@@ -167,7 +165,7 @@ save-keys-spec =
     snapshot-at-requires
     read-mask-requires
     next-numbers-requires
-    slice-write-words
+    set-last-issue-requires
     save-writer-requires
     merge-saved-requires
     same-length

@@ -1,27 +1,120 @@
--- `look` refuses a buffer that isn't in form, or is `look_in`.
+-- `look` is refused by its cause, or reads where the version is.
 -- Assumes nothing.
 use mathlib.Core.Path.{sym, _∙_}
 use borrow.Author.Needs.{needs}
-use borrow.Author.Tests.{not-true, not-false}
-use Rattle.look.proofs.Answers.{look-unformed}
+use native.Mathlib.Omega.{arith}
+use lib.ListN.{length}
+use Rattle.version.specs.Places.{Area}
+use Rattle.version.proofs.Areas.{issue-in}
+use Rattle.form.proofs.Known.{form-long}
+use Rattle.look.specs.Places.{placeAt, ownRowAt}
+use Rattle.look.proofs.Answers.{area-in, Found, found, look-refused, look-done}
 use Rattle.look.proofs.look.Statement.{statement}
 use Rattle.look.proofs.look.Tie as tie
 
-in-form-requires : tie.Need-in-form-requires
-in-form-requires c κs = search needs
+counts-requires : tie.Need-counts-requires
+counts-requires c κs = form-long _ (c .before .pre)
+
+wide-requires : tie.Need-wide-requires
+wide-requires c κs = search needs
+
+wide-requires-2 : tie.Need-wide-requires-2
+wide-requires-2 c κs = search needs
+
+cause-requires : tie.Need-cause-requires
+cause-requires c κs = search needs
 
 returns : tie.Need-returns
 returns c =
-    let b = c .before in
-    let a = b .before .before .args in
-    look-unformed (a .words .now) (a .place) (a .number) (a .key)
-    (sym (b .in-form .ensures) ∙ not-true _ (c .if1 .taken))
+    let k = c .before .before in
+    let i = k .before in
+    let s = i .before .before .before in
+    let a = s .args in
+    rw (← i .wide .ensures, ← k .wide2 .ensures)
+    (look-refused (a .words .now) (a .place) (i .wide .result) (k .wide2 .result)
+    (c .before .cause .result) (s .pre) (c .before .cause .ensures) (c .if1 .taken))
 
-look-in-requires : tie.Need-look-in-requires
-look-in-requires c κs = sym (c .before .in-form .ensures) ∙ not-false _ (c .if1 .left)
+-- The version is there.
+there : (c : tie.Else1) → let k = c .before .before in
+    let i = k .before in
+    let n = i .before in
+    let a = n .before .before .args in
+    Found (a .words .now) (n .counts .result) (a .place) (i .wide .result) (k .wide2 .result)
+there c =
+    let k = c .before .before in
+    let i = k .before in
+    let n = i .before in
+    let s = n .before .before in
+    let a = s .args in
+    found (a .words .now) (a .place) (i .wide .result) (k .wide2 .result) (n .counts .result)
+    (n .counts .ensures) (s .pre) (sym (c .before .cause .ensures) ∙ c .if1 .left)
+
+area : (c : tie.Else1) → let i = c .before .before .before in
+    let n = i .before in
+    let a = n .before .before .args in
+    let z = n .counts .result in
+    Area (length (a .words .now)) z (placeAt z (a .place) (i .wide .result))
+area c =
+    let i = c .before .before .before in
+    let n = i .before in
+    let s = n .before .before in
+    area-in (s .args .words .now) (n .counts .result) (n .counts .ensures) (s .args .place)
+    (i .wide .result) (s .pre) (there c .number)
+
+place-at-requires : tie.Need-place-at-requires
+place-at-requires c κs = (area c .ranged, there c .number)
+
+key-at-requires : tie.Need-key-at-requires
+key-at-requires c κs =
+    let A = area (c .before) in
+    (A .ranged, (rw (c .place-at .ensures) (A .low), omega (arith, there (c .before) .key)))
+
+version-issue-requires : tie.Need-version-issue-requires
+version-issue-requires c κs =
+    let e = c .before .before in
+    rw (c .key-at .ensures, c .before .place-at .ensures)
+    (issue-in _ _ _ (area e) _ (omega (arith, there e .key)))
+
+row-of-requires : tie.Need-row-of-requires
+row-of-requires c κs =
+    let p = c .before .before in
+    let A = area (p .before) in
+    let h = there (p .before) .key in
+    (A .ranged, (rw (p .place-at .ensures) (A .low), h, omega (arith, h)))
 
 returns-2 : tie.Need-returns-2
-returns-2 c = c .look-in .ensures
+unfolding ownRowAt
+returns-2 c =
+    let n = c .before in
+    let v = n .before in
+    let e = v .before .before in
+    let k = e .before .before in
+    let i = k .before in
+    let z = i .before in
+    let s = z .before .before in
+    let a = s .args in
+    rw (
+      ← i .wide .ensures,
+      ← k .wide2 .ensures,
+      c .row-of .ensures,
+      n .version-issue .ensures,
+      v .key-at .ensures,
+      v .before .place-at .ensures,
+    )
+    (look-done (a .words .now) (a .place) (i .wide .result) (k .wide2 .result)
+    (z .counts .result) (z .counts .ensures) (s .pre) (there e))
 
 pub look-spec : {M : Type 1} → statement M
-look-spec = tie.close (tie.spec in-form-requires returns look-in-requires returns-2)
+look-spec =
+    tie.close
+    (tie.spec
+    counts-requires
+    wide-requires
+    wide-requires-2
+    cause-requires
+    returns
+    place-at-requires
+    key-at-requires
+    version-issue-requires
+    row-of-requires
+    returns-2)

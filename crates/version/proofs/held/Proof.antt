@@ -1,8 +1,6 @@
 -- `held` reads the issue number of a key.
 -- Assumes nothing.
-use Prim.Native.Nat.{_<_}
 use borrow.Author.Needs.{needs}
-use native.Mathlib.Omega.{arith}
 use lib.ListN.{length}
 use Rattle.layout.proofs.Readings.{held-word}
 use Rattle.version.proofs.Areas.{issue-in}
@@ -12,24 +10,29 @@ use Rattle.version.proofs.held.Tie as tie
 key-at-requires : tie.Need-key-at-requires
 key-at-requires c κs = search needs
 
-here : (c : tie.After-key-at) → c .key-at .result < length (c .before .before .args .words .now)
-here c =
+version-issue-requires : tie.Need-version-issue-requires
+version-issue-requires c κs =
     let s = c .before .before in
     let a = s .args in
     rw (c .key-at .ensures)
     (issue-in (length (a .words .now)) (a .z) (a .at) (s .pre .0) (a .k) (s .pre .1))
 
-mul-result : tie.Need-mul-result
-mul-result c = omega (arith, here c)
-
-shared-slice-read-result : tie.Need-shared-slice-read-result
-shared-slice-read-result c = here (c .before)
+is-held-requires : tie.Need-is-held-requires
+is-held-requires c κs = search needs
 
 returns : tie.Need-returns
 returns c =
-    let s = c .before .before .before in
+    let n = c .before in
+    let v = n .before in
+    let s = v .before .before in
     let a = s .args in
-    rw (held-word (a .z) (a .words .now) (a .at) (a .k) (s .pre .1), ← c .before .key-at .ensures)
+    rw (
+      held-word (a .z) (a .words .now) (a .at) (a .k) (s .pre .1),
+      ← v .key-at .ensures,
+      ← n .version-issue .ensures,
+    )
+    (c .is-held .ensures)
 
 pub held-spec : {M : Type 1} → statement M
-held-spec = tie.close (tie.spec key-at-requires mul-result shared-slice-read-result returns)
+held-spec =
+    tie.close (tie.spec key-at-requires version-issue-requires is-held-requires returns)

@@ -1,10 +1,14 @@
 -- `merge_if` stores one key, if it is in the mask.
 -- Assumes nothing.
 use mathlib.Core.Path.{sym, _∙_}
+use native.Mathlib.Omega.{arith}
 use borrow.Author.Needs.{needs}
 use lib.ListN.{length}
+use Rattle.sizes.specs.Bounds.{keyAt}
+use Rattle.layout.specs.Reading.{readVersion}
 use Rattle.layout.proofs.Places.{place-at}
-use Rattle.version.proofs.Areas.{key-apart}
+use Rattle.layout.proofs.Pasts.{row-first}
+use Rattle.version.proofs.Areas.{issue-in, key-merges}
 use Rattle.version.proofs.merge_if.Statement.{statement}
 use Rattle.version.proofs.merge_if.Tie as tie
 
@@ -20,34 +24,54 @@ key-at-requires c κs = search needs
 key-at-requires-2 : tie.Need-key-at-requires-2
 key-at-requires-2 c κs = search needs
 
+version-issue-requires : tie.Need-version-issue-requires
+version-issue-requires c κs =
+    let k = c .before in
+    let s = k .before .before .before .before .before in
+    let a = s .args in
+    rw (k .key-at2 .ensures)
+    (issue-in (length (a .words .now)) (a .z) (a .src) (s .pre .0 .source) (a .k) (s .pre .1))
+
+row-of-requires : tie.Need-row-of-requires
+row-of-requires c κs =
+    let s = c .before .before .before .before .before .before .before in
+    let P = s .pre in
+    (P .0 .source .ranged, (P .0 .source .low, P .1, omega (arith, P .1)))
+
 merge-version-requires : tie.Need-merge-version-requires
 merge-version-requires c κs =
-    let b = c .before .before in
-    let s = b .before .before .before .before in
+    let r = c .before in
+    let k = r .before .before .before .before in
+    let s = k .before .before .before .before in
     let a = s .args in
-    let n = length (a .words .now) in (
-      s .pre .0 .target .ranged,
-      rw (c .before .key-at2 .ensures, b .key-at .ensures)
-          (key-apart n (a .z) (a .dst) (a .src) (s .pre .0) (a .k) (s .pre .1)),
-    )
+    rw (k .key-at .ensures, r .row-of .ensures ∙ row-first _ _)
+    (key-merges (length (a .words .now)) (a .z) (a .dst) (a .src) (s .pre .0) (a .k) (s .pre .1))
 
 same-length : tie.Need-same-length
 same-length c = search needs
 
 returns : tie.Need-returns
+unfolding readVersion
 returns c =
-    let d = c .before .before .before .before in
-    let t = d .before .before in
+    let m = c .before .before in
+    let r = m .before .before in
+    let n = r .before in
+    let u = n .before .before in
+    let d = u .before in
+    let t = d .before in
     let s = t .before .before .before in
     let a = s .args in
     rw (
       sym (t .before .has .ensures) ∙ t .if1 .taken,
       place-at (a .z) (a .words .now) (a .dst) (a .k) (s .pre .1),
       place-at (a .z) (a .words .now) (a .src) (a .k) (s .pre .1),
-      ← d .before .key-at .ensures,
-      ← d .key-at2 .ensures,
+      ← row-first (a .z) (keyAt (a .z) (a .src) (a .k)),
+      ← r .row-of .ensures,
+      ← u .key-at2 .ensures,
+      ← n .version-issue .ensures,
+      ← d .key-at .ensures,
     )
-    (c .before .before .merge-version .ensures)
+    (m .merge-version .ensures)
 
 returns-2 : tie.Need-returns-2
 returns-2 c = rw (sym (c .before .has .ensures) ∙ c .if1 .left)
@@ -60,6 +84,8 @@ merge-if-spec =
     has-requires
     key-at-requires
     key-at-requires-2
+    version-issue-requires
+    row-of-requires
     merge-version-requires
     same-length
     returns

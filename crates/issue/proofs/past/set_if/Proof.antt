@@ -27,24 +27,23 @@ here c =
     rw (c .row-at .ensures)
     (row-room _ (a .z) (a .at) (a .k) (a .w) (s .pre .0 .fits) (s .pre .1 .1) (s .pre .1 .0))
 
-add-words : tie.Need-add-words
-add-words c = omega (arith, here c)
+add-set-count : tie.Need-add-set-count
+add-set-count c = omega (arith, here (c .before))
 
-mul-words : tie.Need-mul-words
-mul-words c = omega (arith, here c)
-
-slice-write-words : tie.Need-slice-write-words
-slice-write-words c = omega (arith, here c)
+set-count-requires : tie.Need-set-count-requires
+set-count-requires c κs = here (c .before)
 
 same-length : tie.Need-same-length
 same-length c = search needs
 
 returns : tie.Need-returns
 returns c =
-    let t = c .before in
+    let r = c .before .before .before .before in
+    let t = r .before in
     let s = t .before .before .before in
     let a = s .args in
-    rw (c .row-at .ensures)
+    c .before .before .set-count .ensures
+    ∙ rw (r .row-at .ensures)
     (row-yes (a .z) (a .words .now) (a .at) (a .w) (a .mask) (a .new .0) (a .k) (s .pre .0 .fits)
     (s .pre .1 .0) (s .pre .1 .1) (sym (t .before .has .ensures) ∙ t .if1 .taken))
 
@@ -61,9 +60,8 @@ set-if-spec =
     cast-has
     has-requires
     row-at-requires
-    add-words
-    mul-words
-    slice-write-words
+    add-set-count
+    set-count-requires
     same-length
     returns
     returns-2)

@@ -2,7 +2,10 @@
 -- Assumes nothing.
 use mathlib.Core.Path.{sym, _∙_}
 use borrow.Author.Needs.{needs}
+use native.Mathlib.Omega.{arith}
 use lib.ListN.{length}
+use Rattle.sizes.specs.Bounds.{keyAt}
+use Rattle.layout.proofs.Pasts.{row-first}
 use Rattle.issue.proofs.Areas.{take-room}
 use Rattle.issue.proofs.Writers.{take-yes, take-no}
 use Rattle.issue.proofs.past.take_if.Statement.{statement}
@@ -14,16 +17,26 @@ cast-has c = search needs
 has-requires : tie.Need-has-requires
 has-requires c κs = search needs
 
-key-at-requires : tie.Need-key-at-requires
-key-at-requires c κs = search needs
+row-at-requires : tie.Need-row-at-requires
+row-at-requires c κs =
+    let s = c .before .before .before in
+    let T = s .pre .0 in
+    (T .ranged, (omega (arith, T .apart, T .low), omega (arith, s .pre .1)))
+
+row-of-requires : tie.Need-row-of-requires
+row-of-requires c κs =
+    let s = c .before .before .before .before in
+    let h = s .pre .1 in
+    (s .pre .0 .ranged, (s .pre .0 .low, h, omega (arith, h)))
 
 merge-past-requires : tie.Need-merge-past-requires
 merge-past-requires c κs =
-    let b = c .before in
-    let s = b .before .before .before .before in
+    let p = c .before in
+    let o = p .before in
+    let s = o .before .before .before .before in
     let a = s .args in (
       s .pre .0 .ranged,
-      rw (b .key-at .ensures)
+      rw (o .row-at .ensures ∙ row-first _ _, p .row-of .ensures ∙ row-first _ _)
           (take-room (length (a .words .now)) (a .z) (a .at) (a .place) (a .k) (s .pre .0)
           (s .pre .1)),
     )
@@ -33,16 +46,21 @@ same-length c = search needs
 
 returns : tie.Need-returns
 returns c =
-    let b = c .before .before .before .before in
-    let t = b .before in
+    let m = c .before .before in
+    let p = m .before .before in
+    let o = p .before in
+    let t = o .before in
     let s = t .before .before .before in
     let a = s .args in
     rw (
       ← take-yes (a .z) (a .words .now) (a .at) (a .place) (a .read) (a .k) (s .pre .1)
           (sym (t .before .has .ensures) ∙ t .if1 .taken),
-      ← b .key-at .ensures,
+      ← row-first (a .z) (a .at),
+      ← row-first (a .z) (keyAt (a .z) (a .place) (a .k)),
+      ← o .row-at .ensures,
+      ← p .row-of .ensures,
     )
-    (c .before .before .merge-past .ensures)
+    (m .merge-past .ensures)
 
 returns-2 : tie.Need-returns-2
 returns-2 c =
@@ -56,7 +74,8 @@ take-if-spec =
     (tie.spec
     cast-has
     has-requires
-    key-at-requires
+    row-at-requires
+    row-of-requires
     merge-past-requires
     same-length
     returns
