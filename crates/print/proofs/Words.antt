@@ -1,32 +1,35 @@
 -- Laws of an answer's text.
--- ok-word, broken-word, refused-word: an answer's first word. numbers-more, numbers-end: the
+-- table-word, no-word: an answer's first word. numbers-more, numbers-end: the
 -- numbers from place i on, one by one. answer-parts: an answer's text put in three parts.
 -- Assumes nothing.
-use mathlib.Core.Path.{_≡_, refl}
+use mathlib.Core.Path.{_≡_, refl, sym}
 use mathlib.Core.List.{List, [], _∷_, _++_, append-assoc, append-nil}
 use Prim.Native.Nat.{ℕ, zero, suc, _+_, _<_, _≤_}
 use native.Mathlib.Numerals.{add-one}
 use native.Mathlib.Omega.{arith}
-use lib.ListN.{length, getD, drop, drop-of-length-le}
+use lib.ListN.{length, getD, drop, drop-of-length-le, List·getD-map, List·getD-eq-default}
 use lib.Seq.{drop-cons}
 use Rattle.text.specs.Bytes.{bytesOf}
 use Rattle.text.specs.Decimal.{decimalOf}
+use Rattle.text.specs.Fields.{inFirst, fieldsOf, firstOf}
 use Rattle.text.proofs.Puts.{put-both}
-use Rattle.print.specs.Print.{answerWord, numbersText, answerText}
+use Rattle.print.specs.declared.Word.{Word}
+use Rattle.print.specs.Print.{answerWords, answerWord, numbersText, answerText}
 
-pub ok-word : (t : ℕ) → t ≡ 0 → answerWord t ≡ bytesOf "ok"
-unfolding answerWord
-ok-word t e = rw e
+-- The code's table: spaces fill what a word leaves of its row.
+abbrev rows : List Word
+rows =
+    record { bytes = bytesOf "ok      " } ∷
+    record { bytes = bytesOf "broken  " } ∷
+    record { bytes = bytesOf "refused " } ∷ []
 
-pub broken-word : (t : ℕ) → t ≡ 1 → answerWord t ≡ bytesOf "broken"
-unfolding answerWord
-broken-word t e = rw e
+pub table-word : (t : ℕ) → firstOf (getD rows t (record { bytes = [] }) .bytes) ≡ answerWord t
+unfolding answerWord firstOf fieldsOf inFirst
+table-word t = sym (List·getD-map (λ (w : Word). firstOf (w .bytes)) rows t (record { bytes = [] }))
 
-pub refused-word : (t : ℕ) → (t ≡ 0 → ⊥) → (t ≡ 1 → ⊥) → answerWord t ≡ bytesOf "refused"
+pub no-word : (m : List ℕ) (t : ℕ) → 3 ≤ t → m ≡ m ++ answerWord t
 unfolding answerWord
-refused-word zero n m = absurd (n refl)
-refused-word (suc zero) n m = absurd (m refl)
-refused-word (suc (suc t)) n m = refl
+no-word m t h = rw (List·getD-eq-default answerWords [] h, append-nil)
 
 pub numbers-more : (m r l : List ℕ) (i : ℕ) → i < length l → r ≡ m ++ (32 ∷ decimalOf (getD l i 0))
     → r ++ numbersText (drop (i + 1) l) ≡ m ++ numbersText (drop i l)

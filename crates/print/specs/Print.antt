@@ -1,17 +1,26 @@
 -- The program's answers: "One line out for each: `ok` and the answer's numbers, `broken m` or
 -- `refused n`, single spaces."
--- answerText: the line of an answer in words. unreadText: the line `unread`.
+-- lineRoom: how long a line is. answerWords: the words. answerText: the line of an answer in
+-- words. unreadText: the line `unread`.
 -- Assumes nothing.
 use mathlib.Core.List.{List, [], _∷_, _++_}
-use Prim.Native.Nat.{ℕ, zero, suc}
+use Prim.Native.Nat.{ℕ}
+use lib.ListN.{getD}
 use Rattle.text.specs.Bytes.{bytesOf}
 use Rattle.text.specs.Decimal.{decimalOf}
 
--- The first word of an answer: 0 ok, 1 broken, 2 refused.
+-- The most bytes of a line, its end included: a word of 8 bytes, 33 numbers of 10 digits, each
+-- after a space, and the line's end need 372.
+abbrev pub lineRoom : ℕ
+lineRoom = 384
+
+-- The words of an answer's first number: 0 ok, 1 broken, 2 refused.
+abbrev pub answerWords : List (List ℕ)
+answerWords = bytesOf "ok" ∷ bytesOf "broken" ∷ bytesOf "refused" ∷ []
+
+-- No call answers another first number: its line would have no word.
 unfoldable pub answerWord : ℕ → List ℕ
-answerWord zero = bytesOf "ok"
-answerWord (suc zero) = bytesOf "broken"
-answerWord (suc (suc n)) = bytesOf "refused"
+answerWord t = getD answerWords t []
 
 -- Each number after a space.
 unfoldable pub numbersText : List ℕ → List ℕ
@@ -21,7 +30,7 @@ numbersText (n ∷ ns) = (32 ∷ decimalOf n) ++ numbersText ns
 -- The words of an answer are those of crate model's `answer`: 0 ok, 1 broken, 2 refused, then the
 -- numbers. A line feed (10) ends the line.
 unfoldable pub answerText : List ℕ → List ℕ
-answerText [] = answerWord 2 ++ (10 ∷ [])
+answerText [] = 10 ∷ []
 answerText (t ∷ ns) = answerWord t ++ numbersText ns ++ (10 ∷ [])
 
 unfoldable pub unreadText : List ℕ

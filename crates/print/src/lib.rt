@@ -3,20 +3,53 @@ ghost use mathlib.Core.Path.{_≡_};
 ghost use mathlib.Core.List.{_∷_, _++_};
 ghost use Prim.Native.Nat.{_+_, _*_, _≤_, _<_};
 ghost use lib.ListN.{length, take, drop};
+ghost use Rattle.answers.specs.Answers.{maxAnswer};
 ghost use Rattle.text.specs.Decimal.{decimalOf};
-ghost use Rattle.print.specs.Print.{answerWord, numbersText, answerText, unreadText};
+ghost use Rattle.print.specs.Print.{lineRoom, answerWord, numbersText, answerText, unreadText};
 
-// `ok`, `broken` or `refused`.
+// How much room a line of an answer needs.
+pub struct Line {}
+
+impl Line {
+    // The most bytes of it, its end included.
+    pub const ROOM: usize = 384;
+
+    // It is that of the definitions.
+    pub fn rooms()
+        ensures { λ _. do ⌜ (← ⟦Line::ROOM⟧ .entry) ≡ lineRoom ⌝ }
+    {}
+}
+
+// A word of up to 8 bytes, spaces behind it.
+struct Word {
+    bytes: [u8; 8],
+}
+
+// The words of an answer's first number, from 0 on.
+const WORDS: [Word; 3] = [
+    Word {
+        bytes: *b"ok      ",
+    },
+    Word {
+        bytes: *b"broken  ",
+    },
+    Word {
+        bytes: *b"refused ",
+    },
+];
+
+// The word of a first number; nothing for a number that has none.
 fn put_word(out: &mut [u8], at: usize, kind: u32) -> usize
-    requires { ⌜ at + 7 ≤ length (now out) ⌝ }
-    ensures { λ r. ⌜ (r ≤ at + 7)
+    requires { ⌜ at + 8 ≤ length (now out) ⌝ }
+    ensures { λ r. ⌜ (r ≤ at + 8)
         × (take r (now (out .exit)) ≡ take at (now (out .entry)) ++ answerWord kind) ⌝ }
 {
-    match kind {
-        0 => text::put_bytes(out, at, b"ok"),
-        1 => text::put_bytes(out, at, b"broken"),
-        _ => text::put_bytes(out, at, b"refused"),
+    let row = words::wide(kind);
+    if WORDS.len() <= row {
+        return at;
     }
+    let word = WORDS[row];
+    text::put_first(out, at, &word.bytes)
 }
 
 // A number after a space.
@@ -47,11 +80,11 @@ fn put_numbers(out: &mut [u8], at: usize, answer: &[u32]) -> usize
 
 // Puts an answer's line after the first at bytes of out, and answers how many there are then.
 pub fn print_answer(out: &mut [u8], at: usize, answer: &[u32]) -> usize
-    requires { ⌜ at + 256 ≤ length (now out) ⌝ }
-    requires { ⌜ (0 < length (now answer)) × (length (now answer) ≤ 18) ⌝ }
+    requires { ⌜ at + lineRoom ≤ length (now out) ⌝ }
+    requires { ⌜ (0 < length (now answer)) × (length (now answer) ≤ maxAnswer) ⌝ }
     ensures { λ r. ⌜ take r (now (out .exit))
         ≡ take at (now (out .entry)) ++ answerText (now (answer .entry)) ⌝ }
-    ensures { λ r. ⌜ r ≤ at + 256 ⌝ }
+    ensures { λ r. ⌜ r ≤ at + lineRoom ⌝ }
 {
     let word_end = put_word(out, at, answer[0]);
     let end = put_numbers(out, word_end, answer);
@@ -60,9 +93,9 @@ pub fn print_answer(out: &mut [u8], at: usize, answer: &[u32]) -> usize
 
 // Puts the line `unread`.
 pub fn print_unread(out: &mut [u8], at: usize) -> usize
-    requires { ⌜ at + 256 ≤ length (now out) ⌝ }
+    requires { ⌜ at + lineRoom ≤ length (now out) ⌝ }
     ensures { λ r. ⌜ take r (now (out .exit)) ≡ take at (now (out .entry)) ++ unreadText ⌝ }
-    ensures { λ r. ⌜ r ≤ at + 256 ⌝ }
+    ensures { λ r. ⌜ r ≤ at + lineRoom ⌝ }
 {
     text::put_bytes(out, at, b"unread\n")
 }

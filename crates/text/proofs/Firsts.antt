@@ -1,17 +1,19 @@
 -- The first field of a line.
 -- fields-some: a line has one. fieldFrom: the fields, where the first goes on after other bytes.
 -- field-start, field-more: nothing, one byte more in front. field-space, field-end: where it ends.
+-- first-is: the first field told by its length.
 -- Assumes nothing.
 use mathlib.Core.Path.{_≡_, refl, sym, ap}
 use mathlib.Core.Bool.{Bool, true, false, cond}
 use mathlib.Core.List.{List, [], _∷_, _++_, append-assoc, append-nil}
-use Prim.Native.Nat.{ℕ, suc, _+_, _<_, _≤_}
+use Prim.Native.Nat.{ℕ, suc, _+_, _-_, _<_, _≤_}
 use native.Mathlib.Numerals.{add-one}
+use native.Mathlib.Omega.{arith}
 use lib.Dec.{eqb}
 use lib.ListN.{length, getD, drop, take, drop-of-length-le}
 use lib.Seq.{drop-cons, take-suc}
 use borrow.Author.Tests.{eq-eqb, ne-eqb, lt-ltb, le-ltb}
-use Rattle.text.specs.Fields.{inFirst, fieldsOf, fieldsAfter}
+use Rattle.text.specs.Fields.{inFirst, fieldsOf, firstOf, fieldsAfter}
 
 pub fields-some {κ} : (P : List (List ℕ) → Type κ)
     → ((f : List ℕ) (fs : List (List ℕ)) → P (f ∷ fs)) → (l : List ℕ) → P (fieldsOf l)
@@ -57,3 +59,8 @@ module _ (l : List ℕ) (i : ℕ) where
       → fieldFrom (take i l) (fieldsOf (drop i l)) ≡ take i l ∷ fieldsAfter i l
   unfolding fieldsOf fieldFrom fieldsAfter
   field-end h = rw (drop-of-length-le l h, le-ltb i (length l) h, append-nil)
+
+pub first-is : (l : List ℕ) (n : ℕ) (fs : List (List ℕ)) → fieldsOf l ≡ take n l ∷ fs
+    → firstOf l ≡ take (n - 0) l
+unfolding firstOf
+first-is l n fs e = let z : n - 0 ≡ n = omega arith in rw (z, e)

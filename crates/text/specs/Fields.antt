@@ -1,5 +1,5 @@
 -- The parts of a line between spaces, and the numbers that they spell.
--- fieldsOf: the parts, called fields. fieldsAfter: all but the first.
+-- fieldsOf: the parts, called fields. firstOf, fieldsAfter: the first, and all others.
 -- numberOf: the number of a field. numbersOf: the numbers of all.
 -- numbersIn, howMany: the numbers that the code's answer tells.
 -- Assumes nothing.
@@ -8,7 +8,7 @@ use mathlib.Core.List.{List, [], _∷_}
 use mathlib.Core.Option.{Option, none, some}
 use Prim.Native.Nat.{ℕ, _+_, _*_, _-_}
 use lib.Dec.{eqb, leb, ltb}
-use lib.ListN.{length, take, drop}
+use lib.ListN.{length, getD, take, drop}
 use Rattle.text.specs.declared.Count.{Count}
 use Rattle.text.specs.declared.Count.the-variants.{Of, Unread}
 
@@ -22,6 +22,10 @@ inFirst b (f ∷ fs) = (b ∷ f) ∷ fs
 unfoldable pub fieldsOf : List ℕ → List (List ℕ)
 fieldsOf [] = [] ∷ []
 fieldsOf (b ∷ bs) = cond (eqb b 32) ([] ∷ fieldsOf bs) (inFirst b (fieldsOf bs))
+
+-- The first field.
+unfoldable pub firstOf : List ℕ → List ℕ
+firstOf l = getD (fieldsOf l) 0 []
 
 -- The fields after a first one of n bytes.
 unfoldable pub fieldsAfter : ℕ → List ℕ → List (List ℕ)

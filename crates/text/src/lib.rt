@@ -5,7 +5,7 @@ ghost use Prim.Native.Nat.{_+_, _-_, _≤_, _<_};
 ghost use lib.ListN.{length, drop, take};
 ghost use Rattle.text.specs.Bytes.{sameBytes};
 ghost use Rattle.text.specs.Decimal.{decimalOf};
-ghost use Rattle.text.specs.Fields.{fieldsOf, fieldsAfter, isDigit, numbersOf, numbersIn, howMany};
+ghost use Rattle.text.specs.Fields.{fieldsOf, fieldsAfter, firstOf, isDigit, numbersOf, numbersIn, howMany};
 
 // How many numbers there are, or that a field is no number.
 pub enum Count {
@@ -46,6 +46,14 @@ pub fn first_field(line: &[u8]) -> usize
         i += 1;
     }
     i
+}
+
+// Whether a word is a line's first field. In a table, spaces fill what a word leaves of its row.
+pub fn is_first(word: &[u8], line: &[u8]) -> bool
+    ensures { λ r. ⌜ r ≡ sameBytes (now (word .entry)) (firstOf (now (line .entry))) ⌝ }
+{
+    let n = first_field(line);
+    is_word(word, &line[0..n])
 }
 
 // `0` to `9`.
@@ -118,6 +126,16 @@ pub fn put_bytes(out: &mut [u8], at: usize, bytes: &[u8]) -> usize
         i += 1;
     }
     at + i
+}
+
+// Puts a line's first field after the first at bytes of out.
+pub fn put_first(out: &mut [u8], at: usize, line: &[u8]) -> usize
+    requires { ⌜ at + length (now line) ≤ length (now out) ⌝ }
+    ensures { λ r. ⌜ (r ≤ at + length (now (line .entry)))
+        × (take r (now (out .exit)) ≡ take at (now (out .entry)) ++ firstOf (now (line .entry))) ⌝ }
+{
+    let n = first_field(line);
+    put_bytes(out, at, &line[0..n])
 }
 
 // Puts one byte after the first at bytes of out.
