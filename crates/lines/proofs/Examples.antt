@@ -8,9 +8,9 @@ use mathlib.Core.Option.{none, some}
 use lib.ListN.{replicate}
 use Rattle.text.specs.Bytes.{bytesOf, sameBytes}
 use Rattle.text.specs.Fields.{inFirst, fieldsOf, digitsOnly, valueFrom, isEmpty, numberOf, numberBefore, numbersOf}
-use Rattle.model.specs.Calls.{openRun, fetch, evict, prepare, step, issue, dropRun, look}
+use Rattle.model.specs.Calls.{openRun, fetch, evict, prepare, step, issue, dropRun, ask, look}
 use Rattle.layout.specs.Calls.{new, on}
-use Rattle.lines.specs.Grammar.{commandOf, callOf, opening, asked, fieldsCall, lineCall}
+use Rattle.lines.specs.Grammar.{formOf, takes, calling, asked, fieldsCall, lineCall}
 
 -- Case A's lines, each once, and a prepare and a drop.
 pub case-lines :
@@ -24,12 +24,12 @@ pub case-lines :
     × (lineCall (bytesOf "open 0 0 1 0 1 2 1")
     ≡ some (on (openRun 0 (0 ∷ 1 ∷ 0 ∷ 1 ∷ 2 ∷ 1 ∷ []))))
     × (lineCall (bytesOf "step 0 1") ≡ some (on (step 0 1)))
-    × (lineCall (bytesOf "look 2 0 1") ≡ some (on (look 2 0 1)))
+    × (lineCall (bytesOf "look 2 0 1") ≡ some (on (ask (look 2 0 1))))
     × (lineCall (bytesOf "fetch 1 1") ≡ some (on (fetch 1 1)))
     × (lineCall (bytesOf "evict 0 1") ≡ some (on (evict 0 1)))
     × (lineCall (bytesOf "prepare 0") ≡ some (on (prepare 0)))
     × (lineCall (bytesOf "drop 0") ≡ some (on (dropRun 0)))
-unfolding lineCall fieldsCall fieldsOf inFirst asked commandOf sameBytes callOf opening numbersOf
+unfolding lineCall fieldsCall fieldsOf inFirst asked formOf sameBytes takes calling numbersOf
     numberBefore numberOf isEmpty digitsOnly valueFrom
 case-lines = (refl, refl, refl, refl, refl, refl, refl, refl, refl, refl, refl, refl, refl, refl)
 
@@ -40,7 +40,7 @@ pub read-lines :
     × (lineCall (bytesOf "fetch 0 0004294967295") ≡ some (on (fetch 0 4294967295)))
     × (lineCall (bytesOf "open 0") ≡ some (on (openRun 0 [])))
     × (lineCall (bytesOf "open 1 7") ≡ some (on (openRun 1 (7 ∷ []))))
-unfolding lineCall fieldsCall fieldsOf inFirst asked commandOf sameBytes callOf opening numbersOf
+unfolding lineCall fieldsCall fieldsOf inFirst asked formOf sameBytes takes calling numbersOf
     numberBefore numberOf isEmpty digitsOnly valueFrom
 read-lines = (refl, refl, refl, refl, refl)
 
@@ -54,7 +54,7 @@ pub unread-lines :
     × (lineCall (bytesOf "fetch 0 0\r") ≡ none)
     × (lineCall (bytesOf "fetch 0 -1") ≡ none)
     × (lineCall (bytesOf "fetch 0 0x1") ≡ none)
-unfolding lineCall fieldsCall fieldsOf inFirst asked commandOf sameBytes callOf opening numbersOf
+unfolding lineCall fieldsCall fieldsOf inFirst asked formOf sameBytes takes calling numbersOf
     numberBefore numberOf isEmpty digitsOnly valueFrom
 unread-lines = (refl, refl, refl, refl, refl, refl, refl, refl)
 
@@ -68,7 +68,7 @@ pub unread-calls :
     × (lineCall (bytesOf "Fetch 0 0") ≡ none)
     × (lineCall (bytesOf "drop\t0") ≡ none)
     × (lineCall (bytesOf "7") ≡ none)
-unfolding lineCall fieldsCall fieldsOf inFirst asked commandOf sameBytes callOf opening numbersOf
+unfolding lineCall fieldsCall fieldsOf inFirst asked formOf sameBytes takes calling numbersOf
     numberBefore numberOf isEmpty digitsOnly valueFrom
 unread-calls = (refl, refl, refl, refl, refl, refl, refl, refl)
 
@@ -76,6 +76,6 @@ unread-calls = (refl, refl, refl, refl, refl, refl, refl, refl)
 pub long-lines :
     (lineCall (bytesOf "drop " ++ replicate 395 48) ≡ some (on (dropRun 0)))
     × (lineCall (bytesOf "drop " ++ replicate 396 48) ≡ none)
-unfolding lineCall fieldsCall fieldsOf inFirst asked commandOf sameBytes callOf opening numbersOf
+unfolding lineCall fieldsCall fieldsOf inFirst asked formOf sameBytes takes calling numbersOf
     numberBefore numberOf isEmpty digitsOnly valueFrom
 long-lines = (refl, refl)

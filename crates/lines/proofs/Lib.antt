@@ -1,3 +1,3 @@
-pub mod Examples
 pub mod Calls
-pub mod Chain
+pub mod Examples
+pub mod Tables

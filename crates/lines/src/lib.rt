@@ -1,122 +1,175 @@
 // The program's lines: a call read from one.
+use command::Command;
+use command::Question;
 use text::Count;
 ghost use mathlib.Core.Path.{_≡_};
 ghost use Prim.Native.Nat.{_≤_, _<_};
-ghost use lib.ListN.{length, take};
-ghost use Rattle.lines.specs.Counts.{fits};
-ghost use Rattle.lines.specs.Grammar.{commandOf, callOf, lineCall, spelled, numbersEnd};
+ghost use lib.ListN.{length, getD, take};
+ghost use mathlib.Core.Bool.{So};
+ghost use mathlib.Core.Option.{some};
+ghost use Rattle.command.specs.Commands.{spelled, numbersEnd};
+ghost use Rattle.lines.specs.Grammar.{maxLine, forms, formOf, formAt, takes, calling, asked, lineCall};
 
-// What a line asks for. Open's second number tells how many job words there are: they stand in the
-// line's numbers from index 1 on.
-pub enum Command {
-    Unread,
-    New(u32, u32, u32, u32),
-    Open(u32, usize),
-    Fetch(u32, u32),
-    Evict(u32, u32),
-    Prepare(u32),
-    Step(u32, u32),
-    Issue(u32, u32, u32),
-    Drop(u32),
-    Look(u32, u32, u32),
+// How long a line may be.
+pub struct Longest {}
+
+impl Longest {
+    // The most bytes of a line that is read.
+    pub const LINE: usize = 400;
+
+    // It is that of the definitions.
+    pub fn lengths()
+        ensures { λ _. do ⌜ (← ⟦Longest::LINE⟧ .entry) ≡ maxLine ⌝ }
+    {}
 }
 
-// The number of a command's word, and 0 for any other word.
-fn command_number(word: &[u8]) -> u32
-    ensures { λ r. ⌜ r ≡ commandOf (now (word .entry)) ⌝ }
+// A command's word, spaces behind it, and the least and the most numbers after it.
+struct Row {
+    word: [u8; 8],
+    least: usize,
+    most: usize,
+}
+
+// The commands: a command's number is its row's. Document 01's nine, then the later ones.
+const ROWS: [Row; 9] = [
+    Row {
+        word: *b"new     ",
+        least: 4,
+        most: 4,
+    },
+    Row {
+        word: *b"open    ",
+        least: 1,
+        most: Longest::LINE,
+    },
+    Row {
+        word: *b"fetch   ",
+        least: 2,
+        most: 2,
+    },
+    Row {
+        word: *b"evict   ",
+        least: 2,
+        most: 2,
+    },
+    Row {
+        word: *b"prepare ",
+        least: 1,
+        most: 1,
+    },
+    Row {
+        word: *b"step    ",
+        least: 2,
+        most: 2,
+    },
+    Row {
+        word: *b"issue   ",
+        least: 3,
+        most: 3,
+    },
+    Row {
+        word: *b"drop    ",
+        least: 1,
+        most: 1,
+    },
+    Row {
+        word: *b"look    ",
+        least: 3,
+        most: 3,
+    },
+];
+
+// The number of a command's word; of any other word, how many commands there are.
+fn command_number(word: &[u8]) -> usize
+    ensures { λ r. ⌜ formAt forms r ≡ formOf forms (now (word .entry)) ⌝ }
 {
-    if text::is_word(word, b"new") {
-        return 1;
+    let mut i = 0;
+    while i < ROWS.len() {
+        let row = ROWS[i];
+        if text::is_first(word, &row.word) {
+            return i;
+        }
+        i += 1;
     }
-    if text::is_word(word, b"open") {
-        return 2;
-    }
-    if text::is_word(word, b"fetch") {
-        return 3;
-    }
-    if text::is_word(word, b"evict") {
-        return 4;
-    }
-    if text::is_word(word, b"prepare") {
-        return 5;
-    }
-    if text::is_word(word, b"step") {
-        return 6;
-    }
-    if text::is_word(word, b"issue") {
-        return 7;
-    }
-    if text::is_word(word, b"drop") {
-        return 8;
-    }
-    if text::is_word(word, b"look") {
-        return 9;
-    }
-    0
+    i
 }
 
-// Whether n numbers are right for a command's number.
-fn has_count(number: u32, n: usize) -> bool
-    ensures { λ r. ⌜ r ≡ fits number n ⌝ }
+// Whether n numbers may stand after the word of a command.
+fn has_count(number: usize, n: usize) -> bool
+    ensures { λ r. ⌜ r ≡ takes (formAt forms number) n ⌝ }
 {
-    match number {
-        1 => n == 4,
-        2 => 0 < n,
-        3 => n == 2,
-        4 => n == 2,
-        5 => n == 1,
-        6 => n == 2,
-        7 => n == 3,
-        8 => n == 1,
-        9 => n == 3,
-        _ => false,
+    if ROWS.len() <= number {
+        return false;
     }
+    let row = ROWS[number];
+    (row.least <= n) & (n <= row.most)
 }
 
-// The command of a number, with the first n of the numbers.
-fn command_with(number: u32, numbers: &[u32], n: usize) -> Command
-    requires { ⌜ (4 ≤ length (now numbers)) × (n ≤ length (now numbers)) ⌝ }
+// Number i of the first n, and 0 for one that is left out.
+fn number_at(numbers: &[u32], n: usize, i: usize) -> u32
+    requires { ⌜ n ≤ length (now numbers) ⌝ }
+    ensures { λ r. ⌜ r ≡ getD (take n (now (numbers .entry))) i 0 ⌝ }
+{
+    if i < n { numbers[i] } else { 0 }
+}
+
+// A command of document 01, with the first n of the numbers.
+fn command_of(number: usize, numbers: &[u32], n: usize) -> Command
+    requires { ⌜ So (takes (formAt forms number) n) ⌝ }
+    requires { ⌜ n ≤ length (now numbers) ⌝ }
     ensures { λ r. ⌜ spelled r (now (numbers .entry))
-        ≡ callOf number (take n (now (numbers .entry))) ⌝ }
+        ≡ calling (formAt forms number) (take n (now (numbers .entry))) ⌝ }
+    ensures { λ r. ⌜ numbersEnd r ≤ length (now (numbers .entry)) ⌝ }
+{
+    let a = number_at(numbers, n, 0);
+    let b = number_at(numbers, n, 1);
+    let c = number_at(numbers, n, 2);
+    let d = number_at(numbers, n, 3);
+    match number {
+        0 => Command::New(a, b, c, d),
+        1 => Command::Open(a, 1, n - 1),
+        2 => Command::Fetch(a, b),
+        3 => Command::Evict(a, b),
+        4 => Command::Prepare(a),
+        5 => Command::Step(a, b),
+        6 => Command::Issue(a, b, c),
+        7 => Command::Drop(a),
+        8 => Command::Ask(Question::Look(a, b, c)),
+        _ => Command::Unread,
+    }
+}
+
+// A command with the first n of the numbers.
+fn command_with(number: usize, numbers: &[u32], n: usize) -> Command
+    requires { ⌜ n ≤ length (now numbers) ⌝ }
+    ensures { λ r. ⌜ spelled r (now (numbers .entry))
+        ≡ asked (formAt forms number) (some (take n (now (numbers .entry)))) ⌝ }
     ensures { λ r. ⌜ numbersEnd r ≤ length (now (numbers .entry)) ⌝ }
 {
     if !has_count(number, n) {
         return Command::Unread;
     }
-    let a = numbers[0];
-    let b = numbers[1];
-    let c = numbers[2];
-    match number {
-        1 => Command::New(a, b, c, numbers[3]),
-        2 => Command::Open(a, n - 1),
-        3 => Command::Fetch(a, b),
-        4 => Command::Evict(a, b),
-        5 => Command::Prepare(a),
-        6 => Command::Step(a, b),
-        7 => Command::Issue(a, b, c),
-        8 => Command::Drop(a),
-        9 => Command::Look(a, b, c),
-        _ => Command::Unread,
-    }
+    command_of(number, numbers, n)
 }
 
-// The call of a line. The numbers are left at the front of a buffer of 401 words or more.
+// The call of a line. Its numbers are left at the front of a buffer that has more words than a
+// line has bytes.
 pub fn read_line(line: &[u8], numbers: &mut [u32]) -> Command
-    requires { ⌜ 400 < length (now numbers) ⌝ }
+    requires { ⌜ maxLine < length (now numbers) ⌝ }
     ensures { λ r. ⌜ spelled r (now (numbers .exit)) ≡ lineCall (now (line .entry)) ⌝ }
     ensures { λ r. ⌜ numbersEnd r ≤ length (now (numbers .exit)) ⌝ }
 {
-    if 400 < line.len() {
+    if Longest::LINE < line.len() {
         return Command::Unread;
     }
     let w = text::first_field(line);
+    let number = command_number(&line[0..w]);
     if w == line.len() {
-        return Command::Unread;
+        return command_with(number, numbers, 0);
     }
     let count = text::numbers(line, w + 1, numbers);
     let Count::Of(n) = count else {
         return Command::Unread;
     };
-    let number = command_number(&line[0..w]);
     command_with(number, numbers, n)
 }

@@ -1,0 +1,42 @@
+-- The call that a command asks for, with the numbers that are lent beside it.
+-- queryOf, spelled: the call, none for `unread`. numbersEnd: where the numbers end that it uses.
+-- Assumes nothing.
+use mathlib.Core.List.{List}
+use mathlib.Core.Option.{Option, none, some}
+use Prim.Native.Nat.{ℕ, _+_}
+use lib.ListN.{take, drop}
+use Rattle.model.specs.Calls.{Query, look, openRun, fetch, evict, prepare, step, issue, dropRun, ask}
+use Rattle.layout.specs.Calls.{Call, new, on}
+use Rattle.command.specs.declared.Question.{Question}
+use Rattle.command.specs.declared.Question.the-variants.{Look}
+use Rattle.command.specs.declared.Command.{Command}
+use Rattle.command.specs.declared.Command.the-variants.{Unread, New, Open, Fetch, Evict, Prepare, Step, Issue, Drop, Ask}
+
+abbrev pub queryOf : Question → Query
+queryOf (Look p i k) = look p i k
+
+-- Open's job words are the n from index i on.
+abbrev pub spelled : Command → List ℕ → Option Call
+spelled Unread l = none
+spelled (New k w n p) l = some (new k w n p)
+spelled (Open r i n) l = some (on (openRun r (take n (drop i l))))
+spelled (Fetch o k) l = some (on (fetch o k))
+spelled (Evict o k) l = some (on (evict o k))
+spelled (Prepare r) l = some (on (prepare r))
+spelled (Step r j) l = some (on (step r j))
+spelled (Issue r w m) l = some (on (issue r w m))
+spelled (Drop r) l = some (on (dropRun r))
+spelled (Ask q) l = some (on (ask (queryOf q)))
+
+-- Open alone uses any.
+abbrev pub numbersEnd : Command → ℕ
+numbersEnd Unread = 0
+numbersEnd (New k w n p) = 0
+numbersEnd (Open r i n) = i + n
+numbersEnd (Fetch o k) = 0
+numbersEnd (Evict o k) = 0
+numbersEnd (Prepare r) = 0
+numbersEnd (Step r j) = 0
+numbersEnd (Issue r w m) = 0
+numbersEnd (Drop r) = 0
+numbersEnd (Ask q) = 0

@@ -1,0 +1,21 @@
+// A call as the program reads it from a line, and as the exports ask for it.
+
+// A call that only answers.
+pub enum Question {
+    Look(u32, u32, u32),
+}
+
+// What is asked for. Open's second and third number tell where among the lent numbers its job words
+// begin, and how many they are.
+pub enum Command {
+    Unread,
+    New(u32, u32, u32, u32),
+    Open(u32, usize, usize),
+    Fetch(u32, u32),
+    Evict(u32, u32),
+    Prepare(u32),
+    Step(u32, u32),
+    Issue(u32, u32, u32),
+    Drop(u32),
+    Ask(Question),
+}

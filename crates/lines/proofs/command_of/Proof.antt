@@ -1,0 +1,125 @@
+-- `lines::command_of`: each arm is the call of its form.
+-- Assumes nothing.
+use native.Mathlib.Omega.{arith}
+use borrow.Author.Needs.{needs}
+use mathlib.Core.Path.{refl}
+use Rattle.lines.specs.Grammar.{formAt, calling}
+use Rattle.lines.proofs.Tables.{in-table, next, not-past, some-number, rest-first}
+use Rattle.lines.proofs.command_of.Statement.{statement}
+use Rattle.lines.proofs.command_of.Tie as tie
+
+number-at-requires : tie.Need-number-at-requires
+number-at-requires c κs = search needs
+
+number-at-requires-2 : tie.Need-number-at-requires-2
+number-at-requires-2 c κs = search needs
+
+number-at-requires-3 : tie.Need-number-at-requires-3
+number-at-requires-3 c κs = search needs
+
+number-at-requires-4 : tie.Need-number-at-requires-4
+number-at-requires-4 c κs = search needs
+
+sub-t9 : tie.Need-sub-t9
+sub-t9 c =
+    let s = c .before .before .before .before .before .before in
+    let p = some-number (c .match .keys2) (s .pre .0) in omega (arith, p)
+
+returns : tie.Need-returns
+unfolding calling formAt
+returns c = (
+  rw (c .match .keys1, c .before .before .before .before .number-at .ensures, c .before .before .before .number-at2 .ensures, c .before .before .number-at3 .ensures, c .before .number-at4 .ensures),
+  omega arith,
+)
+
+returns-2 : tie.Need-returns-2
+unfolding calling formAt
+returns-2 c =
+    let s = c .before .before .before .before .before .before in
+    let p = some-number (c .match .keys2) (s .pre .0) in
+    (rw (c .match .keys2, c .before .before .before .before .number-at .ensures, rest-first (s .args .numbers .now) (s .args .n) p), omega (arith, p))
+
+returns-3 : tie.Need-returns-3
+unfolding calling formAt
+returns-3 c = (
+  rw (c .match .keys3, c .before .before .before .before .number-at .ensures, c .before .before .before .number-at2 .ensures),
+  omega arith,
+)
+
+returns-4 : tie.Need-returns-4
+unfolding calling formAt
+returns-4 c = (
+  rw (c .match .keys4, c .before .before .before .before .number-at .ensures, c .before .before .before .number-at2 .ensures),
+  omega arith,
+)
+
+returns-5 : tie.Need-returns-5
+unfolding calling formAt
+returns-5 c = (
+  rw (c .match .keys5, c .before .before .before .before .number-at .ensures),
+  omega arith,
+)
+
+returns-6 : tie.Need-returns-6
+unfolding calling formAt
+returns-6 c = (
+  rw (c .match .keys6, c .before .before .before .before .number-at .ensures, c .before .before .before .number-at2 .ensures),
+  omega arith,
+)
+
+returns-7 : tie.Need-returns-7
+unfolding calling formAt
+returns-7 c = (
+  rw (c .match .keys7, c .before .before .before .before .number-at .ensures, c .before .before .before .number-at2 .ensures, c .before .before .number-at3 .ensures),
+  omega arith,
+)
+
+returns-8 : tie.Need-returns-8
+unfolding calling formAt
+returns-8 c = (
+  rw (c .match .keys8, c .before .before .before .before .number-at .ensures),
+  omega arith,
+)
+
+returns-9 : tie.Need-returns-9
+unfolding calling formAt
+returns-9 c = (
+  rw (c .match .keys9, c .before .before .before .before .number-at .ensures, c .before .before .before .number-at2 .ensures, c .before .before .number-at3 .ensures),
+  omega arith,
+)
+
+returns-10 : tie.Need-returns-10
+returns-10 c =
+    let s = c .before .before .before .before .before .before in
+    let h = in-table (s .args .number) (s .args .n) (s .pre .0) in
+    let r8 = c .match .rest in
+    let r7 = r8 .0 in
+    let r6 = r7 .0 in
+    let r5 = r6 .0 in
+    let r4 = r5 .0 in
+    let r3 = r4 .0 in
+    let r2 = r3 .0 in
+    let r1 = r2 .0 in
+    let past = next (next (next (next (next (next (next (next (next (omega arith) (r1 .0 .1))
+    (r1 .1)) (r2 .1)) (r3 .1)) (r4 .1)) (r5 .1)) (r6 .1)) (r7 .1)) (r8 .1) in
+    absurd (not-past h past)
+
+pub command-of-spec : {M : Type 1} → statement M
+command-of-spec =
+    tie.close
+    (tie.spec
+    number-at-requires
+    number-at-requires-2
+    number-at-requires-3
+    number-at-requires-4
+    sub-t9
+    returns
+    returns-2
+    returns-3
+    returns-4
+    returns-5
+    returns-6
+    returns-7
+    returns-8
+    returns-9
+    returns-10)
