@@ -5,8 +5,8 @@ pub enum Question {
     Look(u32, u32, u32),
 }
 
-// What is asked for. Open's second and third number tell where among the lent numbers its job words
-// begin, and how many they are.
+// What is asked for. Open's second and third number tell where among the lent numbers its job
+// words begin, and how many they are.
 pub enum Command {
     Unread,
     New(u32, u32, u32, u32),

@@ -1,6 +1,6 @@
 -- The code's table of commands and the forms of the grammar.
--- rows: the code's table. found, passed, ended: a word sought in it. counted, uncounted: the counts
--- of numbers.
+-- rows: the code's table. found, passed, ended: a word sought in it.
+-- counted, uncounted: the counts of numbers; in-table, some-number: what a right one tells.
 -- Assumes nothing.
 use mathlib.Core.Path.{_≡_, refl, sym, _∙_}
 use mathlib.Core.Bool.{true, false, So, _&&_}
@@ -122,7 +122,8 @@ counted-in (r ∷ rs) (f ∷ fs) a zero n h = rw (a .1, a .2)
 counted-in (r ∷ rs) (f ∷ fs) a (suc i) n h = counted-in rs fs (a .3) i n (omega arith)
 
 pub counted : (i n : ℕ) → i < length rows
-    → leb (getD rows i noRow .least) n && leb n (getD rows i noRow .most) ≡ takes (formAt forms i) n
+    → leb (getD rows i noRow .least) n && leb n (getD rows i noRow .most)
+    ≡ takes (formAt forms i) n
 counted i n h = counted-in rows forms agree i n h
 
 none-at : (fs : List Form) (i n : ℕ) → length fs ≤ i → false ≡ takes (formAt fs i) n

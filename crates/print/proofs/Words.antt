@@ -25,7 +25,8 @@ rows =
 
 pub table-word : (t : ℕ) → firstOf (getD rows t (record { bytes = [] }) .bytes) ≡ answerWord t
 unfolding answerWord firstOf fieldsOf inFirst
-table-word t = sym (List·getD-map (λ (w : Word). firstOf (w .bytes)) rows t (record { bytes = [] }))
+table-word t =
+    sym (List·getD-map (λ (w : Word). firstOf (w .bytes)) rows t (record { bytes = [] }))
 
 pub no-word : (m : List ℕ) (t : ℕ) → 3 ≤ t → m ≡ m ++ answerWord t
 unfolding answerWord

@@ -132,7 +132,8 @@ pub fn put_bytes(out: &mut [u8], at: usize, bytes: &[u8]) -> usize
 pub fn put_first(out: &mut [u8], at: usize, line: &[u8]) -> usize
     requires { ⌜ at + length (now line) ≤ length (now out) ⌝ }
     ensures { λ r. ⌜ (r ≤ at + length (now (line .entry)))
-        × (take r (now (out .exit)) ≡ take at (now (out .entry)) ++ firstOf (now (line .entry))) ⌝ }
+        × (take r (now (out .exit))
+        ≡ take at (now (out .entry)) ++ firstOf (now (line .entry))) ⌝ }
 {
     let n = first_field(line);
     put_bytes(out, at, &line[0..n])

@@ -27,66 +27,70 @@ sub-t9 c =
 
 returns : tie.Need-returns
 unfolding calling formAt
-returns c = (
-  rw (c .match .keys1, c .before .before .before .before .number-at .ensures, c .before .before .before .number-at2 .ensures, c .before .before .number-at3 .ensures, c .before .number-at4 .ensures),
-  omega arith,
-)
+returns c =
+    let a = c .before .before .before .before .number-at .ensures in
+    let b = c .before .before .before .number-at2 .ensures in
+    let d = c .before .before .number-at3 .ensures in
+    let e = c .before .number-at4 .ensures in
+    (rw (c .match .keys1, a, b, d, e), omega arith)
 
 returns-2 : tie.Need-returns-2
 unfolding calling formAt
 returns-2 c =
     let s = c .before .before .before .before .before .before in
     let p = some-number (c .match .keys2) (s .pre .0) in
-    (rw (c .match .keys2, c .before .before .before .before .number-at .ensures, rest-first (s .args .numbers .now) (s .args .n) p), omega (arith, p))
+    let a = c .before .before .before .before .number-at .ensures in
+    let r = rest-first (s .args .numbers .now) (s .args .n) p in
+    (rw (c .match .keys2, a, r), omega (arith, p))
 
 returns-3 : tie.Need-returns-3
 unfolding calling formAt
-returns-3 c = (
-  rw (c .match .keys3, c .before .before .before .before .number-at .ensures, c .before .before .before .number-at2 .ensures),
-  omega arith,
-)
+returns-3 c =
+    let a = c .before .before .before .before .number-at .ensures in
+    let b = c .before .before .before .number-at2 .ensures in
+    (rw (c .match .keys3, a, b), omega arith)
 
 returns-4 : tie.Need-returns-4
 unfolding calling formAt
-returns-4 c = (
-  rw (c .match .keys4, c .before .before .before .before .number-at .ensures, c .before .before .before .number-at2 .ensures),
-  omega arith,
-)
+returns-4 c =
+    let a = c .before .before .before .before .number-at .ensures in
+    let b = c .before .before .before .number-at2 .ensures in
+    (rw (c .match .keys4, a, b), omega arith)
 
 returns-5 : tie.Need-returns-5
 unfolding calling formAt
-returns-5 c = (
-  rw (c .match .keys5, c .before .before .before .before .number-at .ensures),
-  omega arith,
-)
+returns-5 c =
+    let a = c .before .before .before .before .number-at .ensures in
+    (rw (c .match .keys5, a), omega arith)
 
 returns-6 : tie.Need-returns-6
 unfolding calling formAt
-returns-6 c = (
-  rw (c .match .keys6, c .before .before .before .before .number-at .ensures, c .before .before .before .number-at2 .ensures),
-  omega arith,
-)
+returns-6 c =
+    let a = c .before .before .before .before .number-at .ensures in
+    let b = c .before .before .before .number-at2 .ensures in
+    (rw (c .match .keys6, a, b), omega arith)
 
 returns-7 : tie.Need-returns-7
 unfolding calling formAt
-returns-7 c = (
-  rw (c .match .keys7, c .before .before .before .before .number-at .ensures, c .before .before .before .number-at2 .ensures, c .before .before .number-at3 .ensures),
-  omega arith,
-)
+returns-7 c =
+    let a = c .before .before .before .before .number-at .ensures in
+    let b = c .before .before .before .number-at2 .ensures in
+    let d = c .before .before .number-at3 .ensures in
+    (rw (c .match .keys7, a, b, d), omega arith)
 
 returns-8 : tie.Need-returns-8
 unfolding calling formAt
-returns-8 c = (
-  rw (c .match .keys8, c .before .before .before .before .number-at .ensures),
-  omega arith,
-)
+returns-8 c =
+    let a = c .before .before .before .before .number-at .ensures in
+    (rw (c .match .keys8, a), omega arith)
 
 returns-9 : tie.Need-returns-9
 unfolding calling formAt
-returns-9 c = (
-  rw (c .match .keys9, c .before .before .before .before .number-at .ensures, c .before .before .before .number-at2 .ensures, c .before .before .number-at3 .ensures),
-  omega arith,
-)
+returns-9 c =
+    let a = c .before .before .before .before .number-at .ensures in
+    let b = c .before .before .before .number-at2 .ensures in
+    let d = c .before .before .number-at3 .ensures in
+    (rw (c .match .keys9, a, b, d), omega arith)
 
 returns-10 : tie.Need-returns-10
 returns-10 c =

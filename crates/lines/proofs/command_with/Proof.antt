@@ -19,7 +19,8 @@ returns c =
 
 command-of-requires : tie.Need-command-of-requires
 command-of-requires c κs =
-    (sym (c .before .has-count .ensures) ∙ not-false _ (c .if1 .left), c .before .before .before .pre)
+    let e = sym (c .before .has-count .ensures) ∙ not-false _ (c .if1 .left) in
+    (e, c .before .before .before .pre)
 
 returns-2 : tie.Need-returns-2
 returns-2 c =

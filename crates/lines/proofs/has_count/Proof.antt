@@ -16,7 +16,9 @@ array-copy-out-row : tie.Need-array-copy-out-row
 array-copy-out-row c = search needs
 
 returns-2 : tie.Need-returns-2
-returns-2 c = let a = c .before .before .before .before .args in counted (a .number) (a .n) (omega arith)
+returns-2 c =
+    let a = c .before .before .before .before .args in
+    counted (a .number) (a .n) (omega arith)
 
 pub has-count-spec : {M : Type 1} → statement M
 has-count-spec = tie.close (tie.spec returns mul-row array-copy-out-row returns-2)

@@ -36,12 +36,14 @@ same-length c = search needs
 
 returns-2 : tie.Need-returns-2
 returns-2 c =
-    let f = c .before .before .before .before .before .first-field in
-    let l = c .before .before .before .before .before .before .before .before .before .args .line .now in
-    let n = c .before .before .before .command-number .ensures in
+    let m = c .before .before .before in
+    let f = m .before .before .first-field in
+    let l = m .before .before .before .before .before .before .args .line .now in
+    let n = m .command-number .ensures in
     let w = c .command-with .ensures in
     let z : f .result - 0 ≡ f .result = omega arith in
-    let e = line-bare l (f .result) (omega arith) (f .ensures .1) (c .before .before .if2 .taken) in
+    let t = c .before .before .if2 .taken in
+    let e = line-bare l (f .result) (omega arith) (f .ensures .1) t in
     (w .0 ∙ rw (n, z) e, w .1)
 
 add-numbers : tie.Need-add-numbers
@@ -61,9 +63,11 @@ same-length-2 c = search needs
 
 returns-3 : tie.Need-returns-3
 returns-3 c =
-    let f = c .before .before .before .before .before .before .before .before .before .first-field in
-    let l = c .before .before .before .before .before .before .before .before .before .before .before .before .before .args .line .now in
-    let n = c .before .before .before .before .numbers in (
+    let m = c .before .before .before .before in
+    let p = m .before .before .before .before .before in
+    let f = p .first-field in
+    let l = p .before .before .before .before .args .line .now in
+    let n = m .numbers in (
       line-unread l (f .result) (omega arith) (f .ensures .1) (omega arith) (n .result) _
           (n .ensures .0) (c .enum-told .given .1),
       omega arith,
@@ -80,11 +84,13 @@ same-length-3 c = search needs
 
 returns-4 : tie.Need-returns-4
 returns-4 c =
-    let f = c .before .before .before .before .before .before .before .before .before .before .before .before .first-field in
-    let l = c .before .before .before .before .before .before .before .before .before .before .before .before .before .before .before .before .args .line .now in
-    let m = c .before .before .before .before .before .before .before .before .before .before .command-number .ensures in
-    let n = c .before .before .before .before .before .before .before .numbers in
     let k = c .before .before .before .count .given in
+    let q = c .before .before .before .before .before .before .before in
+    let n = q .numbers in
+    let m = q .before .before .before .command-number .ensures in
+    let p = q .before .before .before .before .before in
+    let f = p .first-field in
+    let l = p .before .before .before .before .args .line .now in
     let w = c .command-with2 .ensures in
     let z : f .result - 0 ≡ f .result = omega arith in
     let e = line-read l (f .result) (omega arith) (f .ensures .1) (omega arith) (n .result)
