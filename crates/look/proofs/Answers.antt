@@ -1,6 +1,6 @@
 -- What a look comes to on a buffer.
 -- area-in, held-in, cause-in: what the tests rest on. Found, found: the version is there.
--- Says: what the answer shows, and that nothing is changed; look-refused, look-done. row-lies.
+-- Says: what the answer shows, and which row it has; look-refused, look-done. row-lies.
 -- Assumes nothing.
 use mathlib.Core.Path.{_≡_, refl, sym, ap, ap₂, _∙_}
 use mathlib.Core.Bool.{not, So}
@@ -15,19 +15,19 @@ use Rattle.words.proofs.Bools.{test, leb-gt, eqb-eq, eqb-ne}
 use Rattle.sizes.specs.declared.Counts.{Counts}
 use Rattle.sizes.specs.Bounds.{keyAt}
 use Rattle.model.specs.Version.{Version, held}
-use Rattle.model.specs.Outcome.{refused, answer, refuse, unless}
-use Rattle.model.specs.Look.{lookPlace, lookLimit, lookCause, lookDone, lookRule}
-use Rattle.model.specs.Calls.{look, ruleOf}
+use Rattle.model.specs.Outcome.{refused, told, answer, refuse}
+use Rattle.model.specs.Look.{lookPlace, lookLimit, lookCause, lookNumbers, lookReply}
+use Rattle.model.specs.Calls.{look, ask, replyOf}
 use Rattle.layout.specs.Reading.{readWord, readVersion, readPlace, countsIn, storeOf}
 use Rattle.layout.specs.Buffer.{inForm}
-use Rattle.layout.specs.Calls.{on, callOn, leaves}
+use Rattle.layout.specs.Calls.{on, callOn}
 use Rattle.model.proofs.Outcomes.{no-cause}
 use Rattle.layout.proofs.Places.{place-at}
 use Rattle.layout.proofs.Readings.{counts-in}
-use Rattle.layout.proofs.Forms.{form-refused, form-done}
+use Rattle.layout.proofs.Forms.{ask-refused, ask-told}
 use Rattle.version.specs.Places.{Area}
 use Rattle.version.proofs.Areas.{row-in}
-use Rattle.form.proofs.Known.{form-area, form-again}
+use Rattle.form.proofs.Known.{form-area}
 use Rattle.look.specs.declared.Looked.{Looked}
 use Rattle.look.specs.declared.Looked.the-variants.{Done, Refused}
 use Rattle.look.specs.Places.{placeAt, ownRowAt}
@@ -62,63 +62,56 @@ module _ (l : List ℕ) (z : Counts) (d : z ≡ countsIn l) (p i : ℕ) where
 pub record Found (l : List ℕ) (z : Counts) (p i k : ℕ) : Type 0 where
   pub number : i < lookLimit z p
   pub key : k < z .keys
-  pub result : callOn (on (look p i k)) l ≡ lookDone (storeOf l) p i k
+  pub result : callOn (on (ask (look p i k))) l ≡ told 0 (lookNumbers (storeOf l) p i k)
 
 module _ (l : List ℕ) (p i k : ℕ) where
-  as-rule : ruleOf (look p i k) (storeOf l)
-      ≡ unless (lookCause (storeOf l) p i k) (lookDone (storeOf l) p i k)
-  unfolding ruleOf lookRule
-  as-rule = refl
-
   pub found : (z : Counts) → z ≡ countsIn l → So (inForm l) → lookCause (storeOf l) p i k ≡ 0
       → Found l z p i k
+  unfolding replyOf lookReply
   found z d F e =
-      let s = storeOf l in
       let a = no-cause _ 3 _ (omega arith) (sym (cause-in l z d p i k) ∙ e) in
       let b = no-cause _ 3 _ (omega arith) (a .1) in
       let c = no-cause _ 3 _ (omega arith) (b .1) in
       record {
         number = leb-gt _ _ (b .0);
         key = leb-gt _ _ (c .0);
-        result = form-done (look p i k) l (lookCause s p i k) (lookDone s p i k) F as-rule e;
+        result = ask-told (look p i k) l F e;
       }
 
-  -- What it says, which row it has, and that nothing is changed.
+  -- What it says, and which row it has.
   abbrev pub Says : Looked → Type 0
   Says r =
-      (shown l r ≡ answer (callOn (on (look p i k)) l))
-      × (OwnRow (countsIn l) p i k r × (l ≡ leaves (callOn (on (look p i k)) l) l))
+      (shown l r ≡ answer (callOn (on (ask (look p i k))) l)) × OwnRow (countsIn l) p i k r
 
-  says-refused : (n : ℕ) → callOn (on (look p i k)) l ≡ refused n → Says (Refused n)
-  unfolding shown answer OwnRow leaves
-  says-refused n e = rw e (refl, (tt, refl))
+  refused-by : So (inForm l) → lookCause (storeOf l) p i k ≢ 0
+      → callOn (on (ask (look p i k))) l ≡ refused (lookCause (storeOf l) p i k)
+  unfolding replyOf lookReply
+  refused-by F h = ask-refused (look p i k) l F h
 
   pub look-refused : (n : ℕ) → So (inForm l) → n ≡ lookCause (storeOf l) p i k → n ≢ 0
       → Says (Refused n)
+  unfolding shown answer OwnRow
   look-refused n F e h =
-      let s = storeOf l in
-      let rule : ruleOf (look p i k) s ≡ unless n (lookDone s p i k) = rw e as-rule in
-      says-refused n (form-refused (look p i k) l n (lookDone s p i k) F rule h)
+      let no : callOn (on (ask (look p i k))) l ≡ refused n = rw e (refused-by F (rw e at h)) in
+      (rw no refl, tt)
 
   pub look-done : (z : Counts) → z ≡ countsIn l → So (inForm l) → Found l z p i k
       → Says (Done (record { 0 = readWord l (keyAt z (placeAt z p i) k) }) (ownRowAt z p i k)
       (z .writers))
-  unfolding lookDone shown answer OwnRow ownRowAt readVersion leaves
+  unfolding lookNumbers shown answer OwnRow ownRowAt readVersion
   look-done z d F T =
       let at = placeAt z p i in
       let issue = ap (λ (v : Version). v .issue) (place-at z l at k (T .key)) in
       let row = row-window z l at k k (T .key) (T .key) in
       let r = Done (record { 0 = readWord l (keyAt z at k) }) (ownRowAt z p i k) (z .writers) in
-      let says : shown l r ≡ answer (callOn (on (look p i k)) l) =
+      let says : shown l r ≡ answer (callOn (on (ask (look p i k))) l) =
       rw (T .result, place-in l z d p i (T .number), counts-in l, ← d)
       (ap₂ (λ (n : ℕ) (t : List ℕ). 0 ∷ n ∷ t) (sym issue) (sym row)) in
-      let same : l ≡ leaves (callOn (on (look p i k)) l) l =
-      rw (T .result) (sym (form-again l z (record { form = F; counts = d }))) in
       let e = ap (λ (y : Counts). ownRowAt y p i k) d in
-      (says, ((e, ap (λ (y : Counts). y .writers) d), same))
+      (says, (e, ap (λ (y : Counts). y .writers) d))
 
   -- Such a row lies in the buffer.
-  pub row-lies : (r : Looked) → So (inForm l) → shown l r ≡ answer (callOn (on (look p i k)) l)
+  pub row-lies : (r : Looked) → So (inForm l) → shown l r ≡ answer (callOn (on (ask (look p i k))) l)
       → OwnRow (countsIn l) p i k r → RowIn l r
   unfolding shown answer OwnRow RowIn ownRowAt
   row-lies (Refused n) F e o = tt
@@ -130,6 +123,6 @@ module _ (l : List ℕ) (p i k : ℕ) where
       let A = area-in l (countsIn l) refl p i F (T .number) in
       rw (o .0, o .1)
       (row-in (length l) (countsIn l) _ A k k (T .key) (T .key), A .ranged .writers-high))
-      (λ t. let no = form-refused (look p i k) l x (lookDone s p i k) F as-rule (eqb-ne x 0 t) in
+      (λ t. let no = refused-by F (eqb-ne x 0 t) in
       let two : 0 ∷ n .0 ∷ window l at c ≡ 2 ∷ x ∷ [] = e ∙ rw no in
       absurd (omega (arith, ap (λ (t : List ℕ). getD t 0 0) two)))

@@ -18,10 +18,10 @@ ghost use Rattle.answers.specs.Answers.{answerRoom, Lays};
 ghost use Rattle.sizes.specs.Bounds.{Ranged};
 ghost use Rattle.model.specs.Outcome.{answer};
 ghost use Rattle.model.specs.Look.{lookLimit, lookCause};
-ghost use Rattle.model.specs.Calls.{look};
+ghost use Rattle.model.specs.Calls.{look, ask};
 ghost use Rattle.layout.specs.Reading.{countsIn, storeOf};
 ghost use Rattle.layout.specs.Buffer.{inForm};
-ghost use Rattle.layout.specs.Calls.{on, callOn, leaves};
+ghost use Rattle.layout.specs.Calls.{on, callOn};
 ghost use Rattle.form.specs.Parts.{FormWith};
 ghost use Rattle.look.specs.Places.{placeAt};
 ghost use Rattle.look.specs.Answer.{shown, OwnRow, RowIn};
@@ -87,11 +87,8 @@ fn cause(words: &[u32], z: Counts, place: u32, i: usize, k: usize) -> u32
 pub fn look(words: &[u32], place: u32, number: u32, key: u32) -> Looked
     requires { ⌜ So (inForm (now words)) ⌝ }
     ensures answers { λ r. ⌜ shown (now (words .entry)) r
-        ≡ answer (callOn (on (look place number key)) (now (words .entry))) ⌝ }
+        ≡ answer (callOn (on (ask (look place number key))) (now (words .entry))) ⌝ }
     ensures row { λ r. ⌜ OwnRow (countsIn (now (words .entry))) place number key r ⌝ }
-    ensures leaves { λ _. ⌜ now (words .entry)
-        ≡ leaves (callOn (on (look place number key)) (now (words .entry)))
-        (now (words .entry)) ⌝ }
 {
     let z = counts(words);
     let i = wide(number);
