@@ -8,12 +8,11 @@ use lib.ListN.{take, drop}
 use Rattle.model.specs.Calls.{Query, look, openRun, fetch, evict, prepare, step, issue, dropRun, ask}
 use Rattle.layout.specs.Calls.{Call, new, on}
 use Rattle.command.specs.declared.Question.{Question}
-use Rattle.command.specs.declared.Question.the-variants.{Look}
 use Rattle.command.specs.declared.Command.{Command}
 use Rattle.command.specs.declared.Command.the-variants.{Unread, New, Open, Fetch, Evict, Prepare, Step, Issue, Drop, Ask}
 
 abbrev pub queryOf : Question → Query
-queryOf (Look p i k) = look p i k
+queryOf q = look (q .0) (q .1) (q .2)
 
 -- Open's job words are the n from index i on.
 abbrev pub spelled : Command → List ℕ → Option Call

@@ -134,7 +134,7 @@ fn command_of(number: usize, numbers: &[u32], n: usize) -> Command
         5 => Command::Step(a, b),
         6 => Command::Issue(a, b, c),
         7 => Command::Drop(a),
-        8 => Command::Ask(Question::Look(a, b, c)),
+        8 => Command::Ask(Question(a, b, c)),
         _ => Command::Unread,
     }
 }

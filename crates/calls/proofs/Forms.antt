@@ -1,0 +1,134 @@
+-- A call that is made, or refused, and the form of the buffer after it.
+-- does-it, does-not, not-made: what a call that was made, or refused, comes to. few-..: how many
+-- words. call-form, made-form: in form stays in form, and an accepted call leaves a buffer in form.
+-- Assumes nothing.
+use mathlib.Core.Path.{_≡_, refl, sym, ap, subst, _∙_}
+use mathlib.Core.Bool.{true, false, So, not, _&&_, _||_}
+use mathlib.Core.List.{List, [], _∷_}
+use mathlib.Core.Option.{Option, none, some}
+use Prim.Native.Nat.{ℕ, suc, _≤_}
+use native.Mathlib.Omega.{arith}
+use lib.Dec.{eqb, ltb}
+use lib.ListN.{length, getD, take}
+use borrow.Author.Tests.{lt-ltb}
+use Rattle.words.proofs.Bools.{clash, test, or-true-right, or-false-right, eqb-eq, eqb-ne}
+use Rattle.words.proofs.Lists.{length-window}
+use Rattle.sizes.specs.Bounds.{countsOf}
+use Rattle.answers.specs.declared.Answered.{Answered}
+use Rattle.answers.specs.Answers.{maxAnswer, over, Lays, answeredWords}
+use Rattle.model.specs.Outcome.{Outcome, refused, broken, done, told, answer}
+use Rattle.model.specs.Calls.{StoreCall, openRun, fetch, evict, prepare, step, issue, dropRun, ask}
+use Rattle.layout.specs.Buffer.{inForm}
+use Rattle.layout.specs.Calls.{Call, new, on, newCause, callOn, leaves, isOk}
+use Rattle.layout.proofs.Follow.{fine-form}
+use Rattle.layout.proofs.Forms.{no-form, form-kept}
+use Rattle.layout.proofs.Rules.{new-fine, new-done, new-leaves, new-refused}
+use Rattle.step.specs.declared.Stepped.{Stepped}
+use Rattle.step.specs.Answers.{steppedWords}
+use Rattle.look.specs.declared.Looked.{Looked}
+use Rattle.look.specs.Answer.{shown, RowIn}
+use Rattle.command.specs.declared.Command.{Command}
+use Rattle.command.specs.declared.Command.the-variants.{Unread, New, Open, Fetch, Evict, Prepare, Step, Issue, Drop, Ask}
+use Rattle.command.specs.Commands.{queryOf, spelled}
+use Rattle.calls.specs.Performs.{needsForm, admits, Does, Made}
+
+-- ---- one call
+
+-- w: the words of the call's answer.
+pub does-it : (c : Call) (l m a b w : List ℕ) (n : ℕ) → w ≡ answer (callOn c l)
+    → m ≡ leaves (callOn c l) l → Lays w a b n → length w ≤ maxAnswer → Does c l m a b n
+does-it c l m a b w n p q r f = record {
+  answers = subst (λ (v : List ℕ). Lays v a b n) p r;
+  changes = q;
+  few = omega (arith, r .count, f);
+}
+
+-- On a buffer that isn't in form.
+pub does-not : (c : StoreCall) (l a b : List ℕ) (n : ℕ) → inForm l ≡ false
+    → Lays (2 ∷ 1 ∷ []) a b n → Does (on c) l l a b n
+unfolding answer leaves
+does-not c l a b n f r =
+    let out = no-form c l f in record {
+      answers = rw out r;
+      changes = rw out refl;
+      few = omega (arith, r .count);
+    }
+
+-- Open's job words are told by another number that is the same.
+pub does-open : (r k j : ℕ) (ws l m a b : List ℕ) (n : ℕ) → k ≡ j
+    → Does (on (openRun r (take k ws))) l m a b n → Does (on (openRun r (take j ws))) l m a b n
+does-open r k j ws l m a b n e d =
+    subst (λ (i : ℕ). Does (on (openRun r (take i ws))) l m a b n) e d
+
+pub few-answered : (r : Answered) → length (answeredWords r) ≤ maxAnswer
+unfolding answeredWords
+few-answered (Answered.Done n) = omega arith
+few-answered (Answered.Refused n) = omega arith
+
+pub few-stepped : (r : Stepped) → length (steppedWords r) ≤ maxAnswer
+unfolding steppedWords
+few-stepped (Stepped.Done a b c) = omega arith
+few-stepped (Stepped.Broken m) = omega arith
+few-stepped (Stepped.Refused n) = omega arith
+
+pub few-shown : (l : List ℕ) (r : Looked) → RowIn l r → length (shown l r) ≤ maxAnswer
+unfolding shown RowIn
+few-shown l (Looked.Done i at n) h = omega (arith, length-window l at n, h .1)
+few-shown l (Looked.Refused n) h = omega arith
+
+-- ---- what a command asks for
+
+-- A call that a buffer doesn't admit.
+pub not-made : (k : Command) (ns l a b : List ℕ) (n : ℕ) → admits k (inForm l) ≡ false
+    → Lays (2 ∷ 1 ∷ []) a b n → Made (spelled k ns) l l a b n
+unfolding Made
+not-made Unread ns l a b n f r = clash (or-true-right (inForm l)) f
+not-made (New k w s p) ns l a b n f r = clash (or-true-right (inForm l)) f
+not-made (Open r i m) ns l a b n f q = does-not _ l a b n (sym (or-false-right (inForm l)) ∙ f) q
+not-made (Fetch o k) ns l a b n f r = does-not _ l a b n (sym (or-false-right (inForm l)) ∙ f) r
+not-made (Evict o k) ns l a b n f r = does-not _ l a b n (sym (or-false-right (inForm l)) ∙ f) r
+not-made (Prepare r) ns l a b n f q = does-not _ l a b n (sym (or-false-right (inForm l)) ∙ f) q
+not-made (Step r j) ns l a b n f q = does-not _ l a b n (sym (or-false-right (inForm l)) ∙ f) q
+not-made (Issue r w m) ns l a b n f q = does-not _ l a b n (sym (or-false-right (inForm l)) ∙ f) q
+not-made (Drop r) ns l a b n f q = does-not _ l a b n (sym (or-false-right (inForm l)) ∙ f) q
+not-made (Ask q) ns l a b n f r = does-not _ l a b n (sym (or-false-right (inForm l)) ∙ f) r
+
+-- A buffer that admits a call on a store is in form.
+pub admitted-form : (k j : Command) (l : List ℕ) → k ≡ j → So (needsForm j)
+    → So (admits k (inForm l)) → So (inForm l)
+admitted-form k j l e y p =
+    let q : inForm l || not (needsForm j) ≡ true = rw e at p in
+    let r : inForm l || false ≡ true = rw y at q in sym (or-false-right (inForm l)) ∙ r
+
+-- ---- the form of the buffer after a call
+
+pub call-form : (c : Call) (l : List ℕ)
+    → inForm l || isOk (callOn c l) ≡ inForm (leaves (callOn c l) l)
+unfolding leaves isOk callOn
+call-form (on c) l =
+    test (inForm l) (λ yes. rw yes (sym (form-kept c l yes)))
+    (λ no. rw (no-form c l no) (or-false-right (inForm l)))
+call-form (new k w n p) l =
+    let z = countsOf k w n p in
+    test (eqb (newCause l z) 0)
+    (λ t. let e = eqb-eq (newCause l z) 0 t in
+    rw (new-done l z e)
+    (or-true-right (inForm l) ∙ sym (fine-form _ l (new-fine l k w n p e))))
+    (λ t. rw (new-refused l z (eqb-ne (newCause l z) 0 t)) (or-false-right (inForm l)))
+
+-- Whether a call was answered `ok` is told by its first word.
+first-ok : (x : Outcome) (a : List ℕ)
+    → ltb 0 (length (answer x)) && eqb (getD (over (answer x) a) 0 0) 0 ≡ isOk x
+unfolding answer over isOk
+first-ok (refused n) a = refl
+first-ok (broken m s) a = refl
+first-ok (done b s) a = rw (lt-ltb 0 (suc (length b)) (omega arith))
+first-ok (told w b) a = rw (lt-ltb 0 (suc (length b)) (omega arith))
+
+pub made-form : (o : Option Call) (l m a b : List ℕ) (n : ℕ) → Made o l m a b n
+    → inForm l || (ltb 0 n && eqb (getD b 0 0) 0) ≡ inForm m
+unfolding Made
+made-form none l m a b n (e, f, g) = rw (g, e) (or-false-right (inForm l))
+made-form (some c) l m a b n d =
+    rw (d .changes, d .answers .count, d .answers .laid, first-ok (callOn c l) a)
+    (call-form c l)
