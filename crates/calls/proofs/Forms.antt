@@ -1,6 +1,6 @@
 -- A call that is made, or refused, and the form of the buffer after it.
 -- does-it, does-not, not-made: what a call that was made, or refused, comes to. few-..: how many
--- words. call-form, made-form: in form stays in form, and an accepted call leaves a buffer in form.
+-- words. call-form, made-form: in form stays in form, and an accepted call leaves it in form.
 -- Assumes nothing.
 use mathlib.Core.Path.{_≡_, refl, sym, ap, subst, _∙_}
 use mathlib.Core.Bool.{true, false, So, not, _&&_, _||_}
@@ -132,3 +132,8 @@ made-form none l m a b n (e, f, g) = rw (g, e) (or-false-right (inForm l))
 made-form (some c) l m a b n d =
     rw (d .changes, d .answers .count, d .answers .laid, first-ok (callOn c l) a)
     (call-form c l)
+
+pub made-few : (o : Option Call) (l m a b : List ℕ) (n : ℕ) → Made o l m a b n → n ≤ maxAnswer
+unfolding Made
+made-few none l m a b n (e, f, g) = omega (arith, g)
+made-few (some c) l m a b n d = d .few

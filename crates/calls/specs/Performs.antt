@@ -1,6 +1,6 @@
 -- A call that is made: the words of its answer, the buffer after it, and whether that is in form.
--- Does: one call. Made, Performs: what a command asks for, which may be no call. needsForm, admits:
--- which commands a buffer admits.
+-- Does: one call. Made, Performs: what a command asks for, which may be no call.
+-- needsForm, admits: which commands a buffer admits.
 -- Assumes nothing.
 use mathlib.Core.Path.{_≡_}
 use mathlib.Core.Bool.{Bool, true, false, not, _||_}

@@ -151,8 +151,8 @@ pub fn ask(store: &[u32], question: Question, answer: &mut [u32]) -> usize
     tell(store, question, answer)
 }
 
-// Makes the call of a command on a buffer of which it is known whether it is in form: the program's
-// way, which tests no buffer. An accepted call leaves a buffer in form.
+// Makes the call of a command on a buffer of which it is known whether it is in form: this is the
+// program's way, which tests no buffer. An accepted call leaves a buffer in form.
 pub fn perform(
     store: &mut [u32],
     ready: bool,

@@ -6,15 +6,16 @@ ghost use lib.ListN.{length};
 ghost use Rattle.words.specs.Words.{put, Apart};
 ghost use Rattle.clock.specs.Clock.{dominates, present, join, clockAt};
 
-// Whether the clock at a dominates the clock at b, of w counts.
-pub fn dominates(words: &[u32], a: usize, b: usize, w: usize) -> bool
-    requires { ⌜ (a + w ≤ length (now words)) × (b + w ≤ length (now words)) ⌝ }
+// Whether the clock at a in p dominates the clock at b in q, of w counts. The two may be lent from
+// one buffer.
+pub fn dominates(p: &[u32], a: usize, q: &[u32], b: usize, w: usize) -> bool
+    requires { ⌜ (a + w ≤ length (now p)) × (b + w ≤ length (now q)) ⌝ }
     ensures { λ r. ⌜ r
-        ≡ dominates w (clockAt (now (words .entry)) a) (clockAt (now (words .entry)) b) ⌝ }
+        ≡ dominates w (clockAt (now (p .entry)) a) (clockAt (now (q .entry)) b) ⌝ }
 {
     let mut i = 0;
     while i < w {
-        if words[a + i] < words[b + i] {
+        if p[a + i] < q[b + i] {
             return false;
         }
         i += 1;

@@ -111,7 +111,8 @@ module _ (l : List ℕ) (p i k : ℕ) where
       (says, (e, ap (λ (y : Counts). y .writers) d))
 
   -- Such a row lies in the buffer.
-  pub row-lies : (r : Looked) → So (inForm l) → shown l r ≡ answer (callOn (on (ask (look p i k))) l)
+  pub row-lies : (r : Looked) → So (inForm l)
+      → shown l r ≡ answer (callOn (on (ask (look p i k))) l)
       → OwnRow (countsIn l) p i k r → RowIn l r
   unfolding shown answer OwnRow RowIn ownRowAt
   row-lies (Refused n) F e o = tt

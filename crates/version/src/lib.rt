@@ -69,7 +69,7 @@ pub fn meets(words: &[u32], z: Counts, target: usize, d: usize, source: usize, t
     }
     let own = row_of(z, target, d, d);
     let need = row_of(z, source, t, d);
-    dominates(words, own, need, z.writers)
+    dominates(words, own, words, need, z.writers)
 }
 
 // The mask of the keys that the place holds.

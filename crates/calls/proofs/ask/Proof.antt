@@ -18,7 +18,8 @@ same-length c = search needs
 
 returns : tie.Need-returns
 returns c =
-    let no = sym (c .before .before .before .before .before .in-form .ensures) ∙ not-true _ (c .before .before .before .before .if1 .taken) in
+    let i = c .before .before .before .before in
+    let no = sym (i .before .in-form .ensures) ∙ not-true _ (i .if1 .taken) in
     does-not _ _ _ _ _ no (c .before .before .put-two .ensures)
 
 tell-requires : tie.Need-tell-requires

@@ -10,10 +10,10 @@ use Rattle.clock.proofs.dominates.Statement.{statement}
 use Rattle.clock.proofs.dominates.Tie as tie
 
 abbrev Inv-loop : tie.InvT-loop
-Inv-loop words a b w i₀ i = (i ≤ w) × Dominates i (clockAt words a) (clockAt words b)
+Inv-loop p a q b w i₀ i = (i ≤ w) × Dominates i (clockAt p a) (clockAt q b)
 
 abbrev μ-loop : tie.MeasureT-loop
-μ-loop words a b w i₀ i = w - i
+μ-loop p a q b w i₀ i = w - i
 
 loop-holds : tie.Need-loop-holds Inv-loop μ-loop
 loop-holds c = (omega arith, λ w l. omega arith)
@@ -41,7 +41,7 @@ unfolding clockAt
 returns c =
     let l = c .before .before .before .before in
     let a = l .before .args in
-    dominates-no (a .w) (clockAt (a .words .now) (a .a)) (clockAt (a .words .now) (a .b))
+    dominates-no (a .w) (clockAt (a .p .now) (a .a)) (clockAt (a .q .now) (a .b))
     (l .loop .i) (omega arith) (omega arith)
 
 add-i : tie.Need-add-i Inv-loop μ-loop
@@ -63,7 +63,7 @@ returns-2 : tie.Need-returns-2 Inv-loop μ-loop
 returns-2 c =
     let l = c .before in
     let a = l .before .args in
-    dominates-yes (a .w) (clockAt (a .words .now) (a .a)) (clockAt (a .words .now) (a .b))
+    dominates-yes (a .w) (clockAt (a .p .now) (a .a)) (clockAt (a .q .now) (a .b))
     (λ j k. l .loop .inv .1 j (omega arith))
 
 pub dominates-spec : {M : Type 1} → statement M
