@@ -1,16 +1,21 @@
 -- What an exported call gives.
+-- Exported: of a call. ExportedAs: of a command, which may be none.
 -- Assumes nothing.
 use mathlib.Core.Path.{_≡_}
 use mathlib.Core.List.{List}
+use mathlib.Core.Option.{Option, none, some}
 use Prim.Native.Nat.{ℕ, _≤_, _<_}
-use lib.ListN.{length, take}
-use Rattle.model.specs.Outcome.{answer}
-use Rattle.layout.specs.Calls.{Call, callOn, leaves}
+use lib.ListN.{length}
+use Rattle.answers.specs.Answers.{answerRoom}
+use Rattle.layout.specs.Calls.{Call}
+use Rattle.calls.specs.Performs.{Does}
 
--- The call on buffer l left m, and in place of the answer slice a there is b: n words of it are
--- the answer's. With a slice of fewer than 24 words nothing is done, and n is 0.
+-- Buffer l became m, and the answer slice a became b. With a slice that is too short nothing is
+-- done, and 0 is answered.
 pub record Exported (c : Call) (l m a b : List ℕ) (n : ℕ) : Type 0 where
-  pub answers : 24 ≤ length a → take n b ≡ answer (callOn c l)
-  pub changes : 24 ≤ length a → m ≡ leaves (callOn c l) l
-  pub few : n ≤ 24
-  pub short : length a < 24 → (n ≡ 0) × ((m ≡ l) × (b ≡ a))
+  pub does : answerRoom ≤ length a → Does c l m a b n
+  pub short : length a < answerRoom → (n ≡ 0) × (m ≡ l) × (b ≡ a)
+
+abbrev pub ExportedAs : Option Call → List ℕ → List ℕ → List ℕ → List ℕ → ℕ → Type 0
+ExportedAs none l m a b n = Unit
+ExportedAs (some c) l m a b n = Exported c l m a b n

@@ -1,26 +1,19 @@
 // Clocks for C and Rust: each is lent as a slice of its counts.
+use clock::dominates;
+use sizes::Sizes;
 use words::larger;
 ghost use mathlib.Core.Path.{_≡_};
 ghost use Prim.Native.Nat.{_≤_};
 ghost use lib.ListN.{length};
 ghost use Rattle.words.specs.Words.{put};
-ghost use Rattle.clock.specs.Clock.{dominates, join, clockAt};
-ghost use Rattle.sheetdesk_c.specs.Pairs.{covers, merged, together};
+ghost use Rattle.clock.specs.Clock.{join, clockAt};
+ghost use Rattle.sheetdesk_c.specs.Pairs.{alike, covers, together, merged};
 
-// Whether clock p dominates clock q, of w counts.
-fn above(p: &[u32], q: &[u32], w: usize) -> bool
-    requires { ⌜ (w ≤ length (now p)) × (w ≤ length (now q)) ⌝ }
-    ensures { λ r. ⌜ r
-        ≡ dominates w (clockAt (now (p .entry)) 0) (clockAt (now (q .entry)) 0) ⌝ }
+// Whether two clocks can be compared: they have one length, which doesn't exceed the most writers.
+fn are_alike(p: &[u32], q: &[u32]) -> bool
+    ensures { λ r. ⌜ r ≡ alike (now (p .entry)) (now (q .entry)) ⌝ }
 {
-    let mut i = 0;
-    while i < w {
-        if p[i] < q[i] {
-            return false;
-        }
-        i += 1;
-    }
-    true
+    (p.len() == q.len()) & (p.len() <= Sizes::MAX_WRITERS)
 }
 
 // Each of w counts of the target becomes the larger of the two.
@@ -41,27 +34,24 @@ fn raise(target: &mut [u32], source: &[u32], w: usize)
 pub extern "C" fn sheetdesk_covers(p: &[u32], q: &[u32]) -> u32
     ensures { λ r. ⌜ r ≡ covers (now (p .entry)) (now (q .entry)) ⌝ }
 {
-    let w = p.len();
-    if w != q.len() {
+    if !are_alike(p, q) {
         return 2;
     }
-    if w > 16 {
-        return 2;
-    }
-    let yes = above(p, q, w);
+    let yes = dominates(p, 0, q, 0, p.len());
     if yes { 1 } else { 0 }
 }
 
-// Merges the source into the target: 1, or 0 with nothing changed if the lengths differ.
+// Merges the source into the target: 1, or 0 with nothing changed if the lengths differ or exceed
+// 16.
 #[no_mangle]
 pub extern "C" fn sheetdesk_merge(target: &mut [u32], source: &[u32]) -> u32
     ensures { λ r. ⌜ (r ≡ together (now (target .entry)) (now (source .entry)))
         × (now (target .exit) ≡ merged (now (target .entry)) (now (source .entry))) ⌝ }
 {
-    let w = target.len();
-    if w != source.len() {
+    if !are_alike(target, source) {
         return 0;
     }
+    let w = source.len();
     raise(target, source, w);
     1
 }

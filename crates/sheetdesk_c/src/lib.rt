@@ -1,22 +1,19 @@
-// The calls for C and Rust. Each writes its answer's words into a lent slice (0 ok, 1 broken or
-// 2 refused, then the numbers) and gives how many it wrote; a slice of fewer than 24 words gives
-// 0, and nothing is changed.
+// The calls for C and Rust. Each lays its answer's words (0 ok, 1 broken or 2 refused, then the
+// numbers) over the front of a lent slice and gives how many they are; a slice of fewer than 40
+// words gives 0, and nothing is changed.
 pub mod clocks;
 
-use answers::put_created;
-use answers::put_dropped;
-use answers::put_evicted;
-use answers::put_fetched;
-use answers::put_issued;
-use answers::put_opened;
-use answers::put_prepared;
-use answers::put_stepped;
-use answers::row::put_looked;
+use answers::Room;
+use command::Command;
+use command::Question;
 ghost use mathlib.Core.Path.{_≡_};
-ghost use Prim.Native.Nat.{_<_};
-ghost use Rattle.model.specs.Calls.{openRun, fetch, evict, prepare, step, issue, dropRun, look};
+ghost use Prim.Native.Nat.{_≤_, _<_};
+ghost use lib.ListN.{length};
+ghost use Rattle.model.specs.Calls.{look, openRun, fetch, evict, prepare, step, issue, dropRun, ask};
 ghost use Rattle.layout.specs.Calls.{new, on};
-ghost use Rattle.sheetdesk_c.specs.Exported.{Exported};
+ghost use Rattle.command.specs.Commands.{queryOf, spelled, numbersEnd};
+ghost use Rattle.sheetdesk_c.specs.Exported.{Exported, ExportedAs};
+ghost use Rattle.sheetdesk_c.specs.Versions.{interfaceVersion, layoutVersion};
 
 // A count of words.
 fn narrow(n: usize) -> u32
@@ -24,6 +21,31 @@ fn narrow(n: usize) -> u32
     ensures { λ r. ⌜ r ≡ n ⌝ }
 {
     n as u32
+}
+
+// Makes the call of a command, if there is room for its answer.
+fn made(store: &mut [u32], command: Command, numbers: &[u32], out: &mut [u32]) -> u32
+    requires { ⌜ numbersEnd command ≤ length (now numbers) ⌝ }
+    ensures { λ n. ⌜ ExportedAs (spelled command (now (numbers .entry)))
+        (now (store .entry)) (now (store .exit)) (now (out .entry)) (now (out .exit)) n ⌝ }
+{
+    if out.len() < Room::ANSWER {
+        return 0;
+    }
+    let n = calls::call(store, command, numbers, out);
+    narrow(n)
+}
+
+// Answers a question, if there is room for the answer.
+fn asked(store: &[u32], question: Question, answer: &mut [u32]) -> u32
+    ensures { λ n. ⌜ Exported (on (ask (queryOf question)))
+        (now (store .entry)) (now (store .entry)) (now (answer .entry)) (now (answer .exit)) n ⌝ }
+{
+    if answer.len() < Room::ANSWER {
+        return 0;
+    }
+    let n = calls::ask(store, question, answer);
+    narrow(n)
 }
 
 #[no_mangle]
@@ -38,12 +60,7 @@ pub extern "C" fn sheetdesk_new(
     ensures { λ n. ⌜ Exported (new keys writers sites runs)
         (now (store .entry)) (now (store .exit)) (now (out .entry)) (now (out .exit)) n ⌝ }
 {
-    if out.len() < 24 {
-        return 0;
-    }
-    let r = create::new(store, keys, writers, sites, runs);
-    let n = put_created(out, r);
-    narrow(n)
+    made(store, Command::New(keys, writers, sites, runs), &[], out)
 }
 
 #[no_mangle]
@@ -51,12 +68,7 @@ pub extern "C" fn sheetdesk_open(store: &mut [u32], run: u32, jobs: &[u32], out:
     ensures { λ n. ⌜ Exported (on (openRun run (now (jobs .entry))))
         (now (store .entry)) (now (store .exit)) (now (out .entry)) (now (out .exit)) n ⌝ }
 {
-    if out.len() < 24 {
-        return 0;
-    }
-    let r = runs::open(store, run, jobs);
-    let n = put_opened(out, r);
-    narrow(n)
+    made(store, Command::Open(run, 0, jobs.len()), jobs, out)
 }
 
 #[no_mangle]
@@ -64,12 +76,7 @@ pub extern "C" fn sheetdesk_fetch(store: &mut [u32], site: u32, key: u32, out: &
     ensures { λ n. ⌜ Exported (on (fetch site key))
         (now (store .entry)) (now (store .exit)) (now (out .entry)) (now (out .exit)) n ⌝ }
 {
-    if out.len() < 24 {
-        return 0;
-    }
-    let r = caches::fetch(store, site, key);
-    let n = put_fetched(out, r);
-    narrow(n)
+    made(store, Command::Fetch(site, key), &[], out)
 }
 
 #[no_mangle]
@@ -77,44 +84,7 @@ pub extern "C" fn sheetdesk_evict(store: &mut [u32], site: u32, key: u32, out: &
     ensures { λ n. ⌜ Exported (on (evict site key))
         (now (store .entry)) (now (store .exit)) (now (out .entry)) (now (out .exit)) n ⌝ }
 {
-    if out.len() < 24 {
-        return 0;
-    }
-    let r = caches::evict(store, site, key);
-    let n = put_evicted(out, r);
-    narrow(n)
-}
-
-#[no_mangle]
-pub extern "C" fn sheetdesk_drop(store: &mut [u32], run: u32, out: &mut [u32]) -> u32
-    ensures { λ n. ⌜ Exported (on (dropRun run))
-        (now (store .entry)) (now (store .exit)) (now (out .entry)) (now (out .exit)) n ⌝ }
-{
-    if out.len() < 24 {
-        return 0;
-    }
-    let r = runs::drop(store, run);
-    let n = put_dropped(out, r);
-    narrow(n)
-}
-
-#[no_mangle]
-pub extern "C" fn sheetdesk_look(
-    store: &[u32],
-    place: u32,
-    number: u32,
-    key: u32,
-    out: &mut [u32],
-) -> u32
-    ensures { λ n. ⌜ Exported (on (look place number key))
-        (now (store .entry)) (now (store .entry)) (now (out .entry)) (now (out .exit)) n ⌝ }
-{
-    if out.len() < 24 {
-        return 0;
-    }
-    let r = look::look(store, place, number, key);
-    let n = put_looked(out, store, r);
-    narrow(n)
+    made(store, Command::Evict(site, key), &[], out)
 }
 
 #[no_mangle]
@@ -122,12 +92,7 @@ pub extern "C" fn sheetdesk_prepare(store: &mut [u32], run: u32, out: &mut [u32]
     ensures { λ n. ⌜ Exported (on (prepare run))
         (now (store .entry)) (now (store .exit)) (now (out .entry)) (now (out .exit)) n ⌝ }
 {
-    if out.len() < 24 {
-        return 0;
-    }
-    let r = prepare::prepare(store, run);
-    let n = put_prepared(out, r);
-    narrow(n)
+    made(store, Command::Prepare(run), &[], out)
 }
 
 #[no_mangle]
@@ -135,12 +100,7 @@ pub extern "C" fn sheetdesk_step(store: &mut [u32], run: u32, job: u32, out: &mu
     ensures { λ n. ⌜ Exported (on (step run job))
         (now (store .entry)) (now (store .exit)) (now (out .entry)) (now (out .exit)) n ⌝ }
 {
-    if out.len() < 24 {
-        return 0;
-    }
-    let r = step::step(store, run, job);
-    let n = put_stepped(out, r);
-    narrow(n)
+    made(store, Command::Step(run, job), &[], out)
 }
 
 #[no_mangle]
@@ -154,10 +114,43 @@ pub extern "C" fn sheetdesk_issue(
     ensures { λ n. ⌜ Exported (on (issue run writer mask))
         (now (store .entry)) (now (store .exit)) (now (out .entry)) (now (out .exit)) n ⌝ }
 {
-    if out.len() < 24 {
-        return 0;
-    }
-    let r = issue::issue(store, run, writer, mask);
-    let n = put_issued(out, r);
-    narrow(n)
+    made(store, Command::Issue(run, writer, mask), &[], out)
+}
+
+#[no_mangle]
+pub extern "C" fn sheetdesk_drop(store: &mut [u32], run: u32, out: &mut [u32]) -> u32
+    ensures { λ n. ⌜ Exported (on (dropRun run))
+        (now (store .entry)) (now (store .exit)) (now (out .entry)) (now (out .exit)) n ⌝ }
+{
+    made(store, Command::Drop(run), &[], out)
+}
+
+#[no_mangle]
+pub extern "C" fn sheetdesk_look(
+    store: &[u32],
+    place: u32,
+    number: u32,
+    key: u32,
+    out: &mut [u32],
+) -> u32
+    ensures { λ n. ⌜ Exported (on (ask (look place number key)))
+        (now (store .entry)) (now (store .entry)) (now (out .entry)) (now (out .exit)) n ⌝ }
+{
+    asked(store, Question(place, number, key), out)
+}
+
+// The version of this interface: it rises when a call, its arguments or its answer change.
+#[no_mangle]
+pub extern "C" fn sheetdesk_version() -> u32
+    ensures { λ r. ⌜ r ≡ interfaceVersion ⌝ }
+{
+    1
+}
+
+// The version of the layout: it rises when the words of a desk change.
+#[no_mangle]
+pub extern "C" fn sheetdesk_layout() -> u32
+    ensures { λ r. ⌜ r ≡ layoutVersion ⌝ }
+{
+    1
 }

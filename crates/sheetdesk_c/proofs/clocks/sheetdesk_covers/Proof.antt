@@ -1,33 +1,39 @@
--- `sheetdesk_covers` answers 2 for lengths that differ or exceed 16, and otherwise the test.
+-- `sheetdesk_covers` answers 2 for clocks that aren't alike, and otherwise the test.
 -- Assumes nothing.
-use mathlib.Core.Path.{_∙_, sym}
-use borrow.Author.Needs.{needs}
 use native.Mathlib.Omega.{arith}
+use borrow.Author.Needs.{needs}
+use mathlib.Core.Path.{sym, _∙_}
+use borrow.Author.Tests.{not-true, not-false}
 use Rattle.words.specs.Numbers.{when}
-use Rattle.sheetdesk_c.proofs.Lengths.{covers-differ, covers-long, covers-test}
+use Rattle.sheetdesk_c.proofs.Lengths.{one-length, covers-no, covers-test}
 use Rattle.sheetdesk_c.proofs.clocks.sheetdesk_covers.Statement.{statement}
 use Rattle.sheetdesk_c.proofs.clocks.sheetdesk_covers.Tie as tie
 
+are-alike-requires : tie.Need-are-alike-requires
+are-alike-requires c κs = search needs
+
 returns : tie.Need-returns
-returns c = covers-differ _ _ (c .if1 .taken)
+returns c = covers-no _ _ (sym (c .before .are-alike .ensures) ∙ not-true _ (c .if1 .taken))
+
+dominates-requires : tie.Need-dominates-requires
+dominates-requires c κs =
+    let y = sym (c .before .are-alike .ensures) ∙ not-false _ (c .if1 .left) in
+    let e = one-length _ _ y in (omega arith, omega (arith, e))
 
 returns-2 : tie.Need-returns-2
-returns-2 c = covers-long _ _ (c .if2 .taken)
-
-above-requires : tie.Need-above-requires
-above-requires c κs = search needs
+unfolding when
+returns-2 c =
+    let d = c .before in
+    let y = sym (d .before .before .are-alike .ensures) ∙ not-false _ (d .before .if1 .left) in
+    covers-test _ _ _ y (sym (c .if2 .taken) ∙ d .dominates .ensures)
 
 returns-3 : tie.Need-returns-3
 unfolding when
 returns-3 c =
-    covers-test _ _ _ (c .before .before .before .if1 .left) (omega arith)
-    (sym (c .if3 .taken) ∙ c .before .above .ensures)
-
-returns-4 : tie.Need-returns-4
-unfolding when
-returns-4 c =
-    covers-test _ _ _ (c .before .before .before .if1 .left) (omega arith)
-    (sym (c .if3 .left) ∙ c .before .above .ensures)
+    let d = c .before in
+    let y = sym (d .before .before .are-alike .ensures) ∙ not-false _ (d .before .if1 .left) in
+    covers-test _ _ _ y (sym (c .if2 .left) ∙ d .dominates .ensures)
 
 pub sheetdesk-covers-spec : {M : Type 1} → statement M
-sheetdesk-covers-spec = tie.close (tie.spec returns returns-2 above-requires returns-3 returns-4)
+sheetdesk-covers-spec =
+    tie.close (tie.spec are-alike-requires returns dominates-requires returns-2 returns-3)
