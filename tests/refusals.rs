@@ -12,6 +12,8 @@ extern "C" {
 }
 
 const GUARD: usize = 16;
+// The least words of an answer slice.
+const ANSWER: usize = 40;
 const MARK: u32 = 0xA5A5_5A5A;
 
 enum Call<'a> {
@@ -37,7 +39,7 @@ impl Desk {
     }
 
     fn call(&mut self, c: &Call) -> Vec<u32> {
-        let mut answer = [MARK; 24];
+        let mut answer = [MARK; ANSWER];
         let (d, n) = (self.words.as_mut_ptr(), self.len);
         let (a, an) = (answer.as_mut_ptr(), answer.len());
         // Each pointer comes with the length of what it points to.
@@ -51,7 +53,9 @@ impl Desk {
                 Call::Look(p, i, k) => sheetdesk_look(d, n, p, i, k, a, an),
             }
         };
-        answer[..count as usize].to_vec()
+        let count = count as usize;
+        assert!(answer[count..].iter().all(|word| *word == MARK), "a word behind the answer");
+        answer[..count].to_vec()
     }
 }
 

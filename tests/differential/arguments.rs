@@ -100,7 +100,7 @@ fn jobs(random: &mut Random, s: Sizes) -> Vec<u32> {
     list
 }
 
-/// Words of the answer's slice: 24 mostly.
+/// Words of the answer's slice: 40 mostly.
 pub fn room(random: &mut Random) -> usize {
     match random.below(40) {
         0 => random.below(ANSWER),

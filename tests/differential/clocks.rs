@@ -36,7 +36,7 @@ pub fn compare(random: &mut Random, met: &mut Met) -> Result<(), String> {
 
 fn merge(p: &[u32], q: &[u32]) -> Result<(), String> {
     let (mut mine, mut theirs) = (p.to_vec(), p.to_vec());
-    let due = u32::from(p.len() == q.len());
+    let due = u32::from(p.len() == q.len() && p.len() <= MOST);
     if due == 1 {
         take_larger(&mut theirs, q);
     }

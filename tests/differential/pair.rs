@@ -7,8 +7,8 @@ use crate::text::{self, Call};
 /// Fills lent words that no case sets, the guard zone behind them and the answer's words.
 pub const MARK: u32 = 0xA5A5_5A5A;
 pub const GUARD: usize = 16;
-/// "An answer slice of fewer than 24 words gives 0, and nothing is changed."
-pub const ANSWER: usize = 24;
+/// "An answer slice of fewer than 40 words gives 0, and nothing is changed."
+pub const ANSWER: usize = 40;
 
 /// What was done to a desk.
 #[derive(Clone)]
@@ -86,9 +86,8 @@ impl Pair {
         };
         let due = answer.as_ref().map_or(Vec::new(), answer_words);
         let given = slice.get(..count as usize).unwrap_or(&slice);
-        // With a short slice nothing is changed; else only the lent words may be.
-        let kept = if room < ANSWER { 0 } else { room };
-        let guarded = slice[kept..].iter().all(|word| *word == MARK);
+        // Every word behind the answer stays; a short slice stays whole.
+        let guarded = slice[due.len()..].iter().all(|word| *word == MARK);
         if given == due && guarded && self.library == self.reference {
             return Ok(answer);
         }

@@ -14,7 +14,7 @@ unsafe fn lent<'a>(words: *mut u32, len: usize) -> &'a mut [u32] {
 
 /// Writes the answer's words, unless the slice is too short: then nothing is done.
 fn answer(out: &mut [u32], call: impl FnOnce() -> Answer) -> u32 {
-    if out.len() < 24 {
+    if out.len() < 40 {
         return 0;
     }
     let words = match call() {
@@ -80,7 +80,7 @@ pub unsafe extern "C" fn sheetdesk_merge(
     source: *mut u32,
     source_len: usize,
 ) -> u32 {
-    if target_len != source_len {
+    if target_len != source_len || target_len > 16 {
         return 0;
     }
     desk::version::take_larger(lent(target, target_len), lent(source, source_len));

@@ -18,7 +18,8 @@ call-requires c κs = search needs
 
 narrow-requires : tie.Need-narrow-requires
 narrow-requires c κs =
-    let f = made-few _ _ _ _ _ _ (c .before .before .before .before .call .ensures) in omega (arith, f)
+    let f = made-few _ _ _ _ _ _ (c .before .before .before .before .call .ensures) in
+    omega (arith, f)
 
 same-length : tie.Need-same-length
 same-length c = search needs
