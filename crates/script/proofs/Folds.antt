@@ -9,9 +9,8 @@ use native.Mathlib.Omega.{arith}
 use lib.Dec.{eqb, leb, ltb}
 use lib.ListN.{length, length-append}
 use Rattle.words.proofs.Bools.{test, leb-gt, le-leb, gt-leb, ltb-lt, ltb-ge}
-use Rattle.lines.specs.Grammar.{lineCall}
+use Rattle.lines.specs.Grammar.{maxLine, lineCall}
 use Rattle.lines.proofs.Calls.{line-long}
-use Rattle.script.specs.Limits.{maxLine}
 use Rattle.script.specs.Script.{callText, callLeaves, linesOf, outputs, bufferAfter, program}
 use Rattle.script.specs.Fold.{Part, bytes, tooLong, Progress, partCall, longer, fresh, ended, kept, byteStep, fed, finishedPart, finished}
 use Rattle.script.proofs.Lines.{joined, joined-last, lines-end, lines-more}

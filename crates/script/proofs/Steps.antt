@@ -15,13 +15,16 @@ use lib.Dec.{leb}
 use lib.ListN.{length, take, set, getD, length-take}
 use lib.Seq.{take-suc, take-suc-set}
 use Rattle.words.proofs.Bools.{test, leb-le, le-leb, gt-leb, lt-ltb, ge-ltb, ne-eqb}
-use Rattle.model.specs.Outcome.{Outcome, refused, broken, done, answer}
+use Rattle.model.specs.Outcome.{Outcome, refused, broken, done, told, answer}
 use Rattle.layout.specs.Buffer.{inForm}
 use Rattle.layout.specs.Calls.{Call, callOn}
+use Rattle.answers.proofs.Fronts.{over-front}
 use Rattle.print.specs.Print.{answerText, unreadText}
-use Rattle.dispatch.specs.Performs.{Performs}
-use Rattle.dispatch.specs.declared.Performed.{Performed}
-use Rattle.script.specs.Limits.{maxLine, overLine, maxAnswer}
+use Rattle.calls.specs.Performs.{Made, Performs}
+use Rattle.calls.specs.declared.Performed.{Performed}
+use Rattle.answers.specs.Answers.{maxAnswer}
+use Rattle.lines.specs.Grammar.{maxLine}
+use Rattle.script.specs.Limits.{overLine}
 use Rattle.script.specs.Script.{callText, callLeaves, lineText, lineLeaves, linesOf, bufferAfter, program}
 use Rattle.script.specs.Fold.{bytes, Progress, partCall, longer, ended, kept, byteStep, fed, finishedPart, finished, partIn, progress, wordsText}
 use Rattle.script.proofs.Folds.{fed-more, fed-whole}
@@ -45,30 +48,32 @@ unfolding wordsText answer
 words-answer (refused n) = refl
 words-answer (broken m s) = refl
 words-answer (done a s) = refl
+words-answer (told w a) = refl
 
 -- ---- a call made
 
-module _ (l m b : List ℕ) (p : Performed) where
-  pub performs-few : (c : Option Call) → Performs c l m b p → p .count ≤ maxAnswer
-  unfolding Performs
-  performs-few none h = omega (arith, h .1 .0)
+module _ (l m a b : List ℕ) (p : Performed) where
+  pub performs-few : (c : Option Call) → Performs c l m a b p → p .count ≤ maxAnswer
+  unfolding Made
+  performs-few none h = omega (arith, h .0 .2)
   performs-few (some c) h = h .0 .few
 
-  pub performs-ready : (c : Option Call) → Performs c l m b p → p .ready ≡ inForm m
-  unfolding Performs
-  performs-ready none h = h .1 .1 ∙ sym (ap inForm (h .0))
-  performs-ready (some c) h = h .1
+  pub performs-ready : (c : Option Call) → Performs c l m a b p → p .ready ≡ inForm m
+  performs-ready c h = h .1
 
-  pub performs-leaves : (c : Option Call) → Performs c l m b p → m ≡ callLeaves c l
-  unfolding Performs callLeaves
-  performs-leaves none h = h .0
+  pub performs-leaves : (c : Option Call) → Performs c l m a b p → m ≡ callLeaves c l
+  unfolding Made callLeaves
+  performs-leaves none h = h .0 .0
   performs-leaves (some c) h = h .0 .changes
 
-  pub performs-text : (c : Option Call) → Performs c l m b p
+  pub performs-text : (c : Option Call) → Performs c l m a b p
       → wordsText (take (p .count) b) ≡ callText c l
-  unfolding Performs callText wordsText
-  performs-text none h = rw (h .1 .0) refl
-  performs-text (some c) h = rw (h .0 .answers) (words-answer (callOn c l))
+  unfolding Made callText wordsText
+  performs-text none h = rw (h .0 .2) refl
+  performs-text (some c) h =
+      let ws = answer (callOn c l) in
+      let lays = h .0 .answers in
+      rw (lays .count, lays .laid, over-front ws a) (words-answer (callOn c l))
 
 -- ---- a line's end
 

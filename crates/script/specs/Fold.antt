@@ -10,9 +10,8 @@ use Prim.Native.Nat.{ℕ}
 use lib.Dec.{eqb, leb, ltb}
 use lib.ListN.{length, take}
 use Rattle.layout.specs.Calls.{Call}
-use Rattle.lines.specs.Grammar.{lineCall}
+use Rattle.lines.specs.Grammar.{maxLine, lineCall}
 use Rattle.print.specs.Print.{answerText, unreadText}
-use Rattle.script.specs.Limits.{maxLine}
 use Rattle.script.specs.Script.{callText, callLeaves, withCall}
 
 -- A line of more than 400 bytes isn't kept: it gives `unread` whatever it holds.

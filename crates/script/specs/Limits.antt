@@ -1,29 +1,17 @@
 -- How much the program's buffers hold, in bytes and words.
--- maxLine, overLine, answerRoom, maxAnswer, lineRoom, readRoom, outRoom, maxInput. Lent: buffers
--- that suffice.
+-- overLine, readRoom, outRoom, maxInput. Lent: buffers that suffice. A line's bytes, an answer's
+-- words and its line have their limits in crates lines, answers and print.
 -- Assumes nothing.
 use mathlib.Core.List.{List}
 use Prim.Native.Nat.{ℕ, _+_, _*_, _≤_}
 use lib.ListN.{length}
-
--- The bytes of a line: "over 400 bytes" it is unread.
-abbrev pub maxLine : ℕ
-maxLine = 400
+use Rattle.answers.specs.Answers.{answerRoom}
+use Rattle.lines.specs.Grammar.{maxLine}
+use Rattle.print.specs.Print.{lineRoom}
 
 -- The length that stands for a line that is too long. A line has fewer numbers than that.
 abbrev pub overLine : ℕ
 overLine = maxLine + 1
-
--- The words of the buffer for an answer, and those of the longest answer.
-abbrev pub answerRoom : ℕ
-answerRoom = 24
-
-abbrev pub maxAnswer : ℕ
-maxAnswer = 18
-
--- The bytes that an answer takes as a line.
-abbrev pub lineRoom : ℕ
-lineRoom = 256
 
 -- The bytes of one read, each of which may end a line, and those of the answers to it.
 abbrev pub readRoom : ℕ

@@ -6,7 +6,9 @@ ghost use mathlib.Core.List.{_++_};
 ghost use Prim.Native.Nat.{_+_, _≤_};
 ghost use lib.ListN.{length, take};
 ghost use Rattle.layout.specs.Buffer.{inForm};
-ghost use Rattle.script.specs.Limits.{overLine, answerRoom, maxAnswer, lineRoom, Lent};
+ghost use Rattle.answers.specs.Answers.{answerRoom, maxAnswer};
+ghost use Rattle.print.specs.Print.{lineRoom};
+ghost use Rattle.script.specs.Limits.{overLine, Lent};
 ghost use Rattle.script.specs.Script.{lineText, lineLeaves};
 ghost use Rattle.script.specs.Fold.{progress, ended, wordsText};
 
@@ -44,7 +46,7 @@ fn line_done(
     ensures { λ r. ⌜ r .end ≤ at + lineRoom ⌝ }
 {
     let command = lines::read_line(line, numbers);
-    let made = dispatch::perform(store, ready, command, numbers, answer);
+    let made = calls::perform(store, ready, command, numbers, answer);
     let end = print_words(out, at, answer, made.count);
     State {
         ready: made.ready,

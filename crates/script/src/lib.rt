@@ -8,7 +8,10 @@ ghost use mathlib.Core.List.{[]};
 ghost use Prim.Native.Nat.{_+_, _*_, _≤_};
 ghost use lib.ListN.{length, take};
 ghost use Rattle.layout.specs.Buffer.{inForm};
-ghost use Rattle.script.specs.Limits.{maxLine, overLine, answerRoom, lineRoom, readRoom, outRoom, maxInput, Lent};
+ghost use Rattle.answers.specs.Answers.{answerRoom};
+ghost use Rattle.lines.specs.Grammar.{maxLine};
+ghost use Rattle.print.specs.Print.{lineRoom};
+ghost use Rattle.script.specs.Limits.{overLine, readRoom, outRoom, maxInput, Lent};
 ghost use Rattle.script.specs.Script.{linesOf, bufferAfter, program, callsIn};
 ghost use Rattle.script.specs.Fold.{progress, byteStep, fed, finished};
 ghost use Rattle.script.specs.Tie.{Begun};
@@ -26,16 +29,16 @@ pub struct State {
 pub struct Buffers {}
 
 impl Buffers {
-    pub const LINE: usize = 400;
+    pub const LINE: usize = lines::Longest::LINE;
 
     // The length that stands for a line that is too long.
     pub const OVER: usize = Buffers::LINE + 1;
 
     pub const NUMBERS: usize = Buffers::OVER;
 
-    pub const ANSWER: usize = 24;
+    pub const ANSWER: usize = answers::Room::ANSWER;
 
-    pub const OUT_LINE: usize = 256;
+    pub const OUT_LINE: usize = print::Line::ROOM;
 
     // One read, and the answers to it.
     pub const READ: usize = 1024;

@@ -11,7 +11,8 @@ ghost use Prim.Native.Nat.{_+_, _*_, _≤_, _<_};
 ghost use lib.Dec.{ltb};
 ghost use lib.ListN.{length, take};
 ghost use Rattle.layout.specs.Buffer.{inForm};
-ghost use Rattle.script.specs.Limits.{lineRoom, readRoom, outRoom, maxInput, Lent};
+ghost use Rattle.print.specs.Print.{lineRoom};
+ghost use Rattle.script.specs.Limits.{readRoom, outRoom, maxInput, Lent};
 ghost use Rattle.script.specs.Fold.{progress, fed, finished};
 ghost use Rattle.script.specs.Tie.{Served, Ran};
 

@@ -1,7 +1,7 @@
 -- `script::feed` meets its contract: at each turn the fold has taken in the bytes so far. Assumes
 -- nothing.
 use lib.Seq.{take-all}
-use Rattle.script.specs.Limits.{lineRoom}
+use Rattle.print.specs.Print.{lineRoom}
 use Rattle.script.specs.Fold.{byteStep}
 use native.Mathlib.Omega.{arith}
 use mathlib.Core.Path.{_≡_, refl, ap, _∙_}

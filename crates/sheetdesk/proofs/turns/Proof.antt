@@ -8,7 +8,8 @@ use lib.Dec.{ltb}
 use lib.ListN.{length, take}
 use Rattle.words.proofs.Bools.{clash, and-left, and-right, ltb-lt, _∙˙_}
 use Rattle.layout.specs.Buffer.{inForm}
-use Rattle.script.specs.Limits.{lineRoom, readRoom, maxInput}
+use Rattle.print.specs.Print.{lineRoom}
+use Rattle.script.specs.Limits.{readRoom, maxInput}
 use Rattle.script.specs.Tie.{Served}
 use Rattle.script.proofs.Steps.{taken}
 use Rattle.script.proofs.Serves.{served-none, served-more}

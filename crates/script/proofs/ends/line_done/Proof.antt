@@ -19,7 +19,7 @@ perform-requires c κs =
 print-words-requires : tie.Need-print-words-requires
 print-words-requires c κs =
     let m = c .before .before .before .before .before .before .perform in
-    (omega arith, (performs-few _ _ _ _ _ (m .ensures), omega arith))
+    (omega arith, (performs-few _ _ _ _ _ _ (m .ensures), omega arith))
 
 returns : tie.Need-returns
 returns c =
@@ -29,13 +29,13 @@ returns c =
     let a = r .before .before .before .before .before .before .before .args in
     let e = r .read-line .ensures .0 in
     let d = m .perform .ensures in (
-      (performs-ready _ _ _ _ _ d, refl),
+      (performs-ready _ _ _ _ _ _ d, refl),
       (
-        performs-leaves _ _ _ _ _ d ∙ ap (λ o. callLeaves o (a .store .now)) e,
+        performs-leaves _ _ _ _ _ _ d ∙ ap (λ o. callLeaves o (a .store .now)) e,
         (
           w .ensures .0
               ∙ ap (λ t. take (a .at) (a .out .now) ++ t)
-              (performs-text _ _ _ _ _ d ∙ ap (λ o. callText o (a .store .now)) e),
+              (performs-text _ _ _ _ _ _ d ∙ ap (λ o. callText o (a .store .now)) e),
           omega arith,
         ),
       ),
