@@ -13,10 +13,10 @@ use Rattle.words.specs.Words.{put}
 use Rattle.words.specs.Lists.{blocks}
 use Rattle.sizes.specs.declared.Counts.{Counts}
 use Rattle.sizes.specs.declared.Sizes.{Sizes}
-use Rattle.sizes.specs.Bounds.{headerSize, writerPastOffset, snapshotOffset, pastSize, versionSize, placeSize, siteSize, writerSize, runSize, masterAt, sitesAt, writersAt, runsAt, totalOf}
+use Rattle.sizes.specs.Bounds.{headerSize, writerPastOffset, snapshotOffset, pastSize, versionSize, placeSize, siteSize, writerSize, runSize, tailSize, masterAt, sitesAt, writersAt, runsAt, tailAt, totalOf}
 use Rattle.model.specs.Version.{zeroPast, unheld}
-use Rattle.model.specs.Store.{emptyPlace, noWriter, noSite, freeRun, fresh}
-use Rattle.layout.specs.Words.{clockWords, pastWords, versionWords, placeWords, siteWords, sitesWords, writerWords, writersWords, jobWords, jobsWords, runWords, runsWords, headerWords, storeWords}
+use Rattle.model.specs.Store.{emptyPlace, noWriter, noSite, freeRun, noTail, fresh}
+use Rattle.layout.specs.Words.{clockWords, pastWords, versionWords, placeWords, siteWords, sitesWords, writerWords, writersWords, jobWords, jobsWords, runWords, runsWords, tailWords, headerWords, storeWords}
 use Rattle.layout.specs.Buffer.{written}
 use Rattle.layout.proofs.Merges.{table, put-table}
 use Rattle.create.specs.Room.{Room}
@@ -86,6 +86,10 @@ module _ (z : Counts) where
   unfolding runsWords
   runs-zero = zero-blocks (z .runs) (runSize z) (runWords z freeRun) run-zero
 
+  tail-zero : tailWords z noTail ≡ zeros (tailSize z)
+  unfolding tailWords tailSize
+  tail-zero = refl
+
 -- ---- the whole
 
 -- One area of zeros more.
@@ -97,18 +101,20 @@ next h x y m n p q =
 
 pub fresh-words : (z : Counts) (n : ℕ) → totalOf z ≡ headerSize + n
     → storeWords (fresh z) ≡ headerWords z 0 ++ zeros n
-unfolding fresh storeWords totalOf runsAt writersAt sitesAt masterAt
+unfolding fresh storeWords totalOf tailAt runsAt writersAt sitesAt masterAt
 fresh-words z n e =
     let h = headerWords z 0 in
     let a = placeSize z in
     let b = z .sites * siteSize z in
     let c = z .writers * writerSize z in
     let d = z .runs * runSize z in
-    let k : a + b + c + d ≡ n = omega arith in
+    let t = tailSize z in
+    let k : a + b + c + d + t ≡ n = omega arith in
     let master = ap (λ (t : List ℕ). h ++ t) (place-zero z) in
     let sites = next h _ _ a b master (sites-zero z) in
     let writers = next h _ _ (a + b) c sites (writers-zero z) in
-    next h _ _ (a + b + c) d writers (runs-zero z) ∙ ap (λ (k : ℕ). h ++ zeros k) k
+    let runs = next h _ _ (a + b + c) d writers (runs-zero z) in
+    next h _ _ (a + b + c + d) t runs (tail-zero z) ∙ ap (λ (k : ℕ). h ++ zeros k) k
 
 -- Zeros from the first word on.
 filled : (l : List ℕ) (n : ℕ) → n ≤ length l → put l 0 n (λ _. 0) ≡ zeros n ++ drop n l

@@ -12,7 +12,7 @@ use Rattle.sizes.specs.declared.Counts.{Counts}
 use Rattle.sizes.specs.Bounds.{snapshotAt}
 use Rattle.model.specs.Algebra.{Place}
 use Rattle.model.specs.Version.{Version, held}
-use Rattle.model.specs.Store.{Run, Store, withSites, withRun, withSnapshot}
+use Rattle.model.specs.Store.{Run, Store, withCaches, withSites, withRun, withSnapshot}
 use Rattle.model.specs.Outcome.{done, answer, unless}
 use Rattle.model.specs.Prepare.{siteCaches, prepareCause, prepareCaches, prepareSnapshot, prepareDone, prepareRule}
 use Rattle.model.specs.Calls.{prepare, ruleOf}
@@ -28,7 +28,7 @@ use Rattle.layout.proofs.Kept.{Kept}
 use Rattle.layout.proofs.KeptPrepare.{prepare-kept}
 use Rattle.form.proofs.Known.{form-counts, Ends, ends-refused, ends-done}
 use Rattle.trial.specs.Jobs.{UsedRun}
-use Rattle.prepare.specs.Turns.{withCaches, fetchedJobs, mergedSites, merged}
+use Rattle.prepare.specs.Turns.{fetchedJobs, mergedSites, merged}
 use Rattle.prepare.proofs.Turning.{jobs-fits}
 
 prepare-rule : (r : ℕ) (s : Store)

@@ -23,7 +23,7 @@ use Rattle.sizes.specs.Bounds.{masterAt, siteAt}
 use Rattle.model.specs.Algebra.{Algebra, Place, lacking}
 use Rattle.model.specs.Version.{Version, versions}
 use Rattle.model.specs.Sets.{fetched, unfetchable}
-use Rattle.model.specs.Store.{Store, withSites, withCache}
+use Rattle.model.specs.Store.{Store, withCaches, withSites, withCache}
 use Rattle.model.specs.Prepare.{jobStart, fetchReads, preparedCaches, siteCaches}
 use Rattle.model.proofs.Formed.{well-out, formed-cache}
 use Rattle.layout.specs.Reading.{readPlace, storeOf}
@@ -35,7 +35,7 @@ use Rattle.layout.proofs.Follow.{Fine}
 use Rattle.layout.proofs.Kept.{fine-next, fetched-fits, fetched-formed}
 use Rattle.form.proofs.Known.{form-counts, cache-stored}
 use Rattle.trial.specs.Jobs.{UsedRun}
-use Rattle.prepare.specs.Turns.{startOf, withCaches, fetchedJob, fetchedJobs}
+use Rattle.prepare.specs.Turns.{startOf, fetchedJob, fetchedJobs}
 use Rattle.trial.proofs.Known.{job-known}
 
 -- ---- masks of lacking keys

@@ -7,7 +7,7 @@ use mathlib.Core.List.{List}
 use Prim.Native.Nat.{ℕ, _+_, _≤_}
 use native.Mathlib.Omega.{arith}
 use Rattle.sizes.specs.declared.Counts.{Counts}
-use Rattle.model.specs.Store.{Store, withSites}
+use Rattle.model.specs.Store.{Store, withCaches, withSites}
 use Rattle.layout.specs.Reading.{countsIn, storeOf}
 use Rattle.layout.specs.Buffer.{written}
 use Rattle.layout.proofs.Whole.{FitStore, counts-back, store-back}
@@ -15,7 +15,7 @@ use Rattle.layout.proofs.Updates.{phase}
 use Rattle.layout.proofs.Follow.{Fine, fine-form, form-fine}
 use Rattle.form.proofs.Known.{form-counts, form-again}
 use Rattle.trial.specs.Jobs.{UsedRun}
-use Rattle.prepare.specs.Turns.{withCaches, fetchedJob, fetchedJobs}
+use Rattle.prepare.specs.Turns.{fetchedJob, fetchedJobs}
 use Rattle.trial.proofs.Known.{job-known}
 use Rattle.prepare.proofs.Fetching.{no-jobs, more-jobs, jobs-fine}
 

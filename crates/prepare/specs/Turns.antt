@@ -14,7 +14,7 @@ use Rattle.sizes.specs.declared.Counts.{Counts}
 use Rattle.sizes.specs.Bounds.{placeSize, siteAt}
 use Rattle.model.specs.Algebra.{Place}
 use Rattle.model.specs.Version.{Version, merge, versions}
-use Rattle.model.specs.Store.{Store, emptyPlace, planned, withSites, withRun, withSnapshot}
+use Rattle.model.specs.Store.{Store, emptyPlace, planned, withCaches, withRun, withSnapshot}
 use Rattle.model.specs.Form.{placeFormed}
 use Rattle.model.specs.Prepare.{jobStart, fetchReads, preparedCaches, usesSite, sitesMerged, siteCaches}
 use Rattle.layout.specs.Reading.{readPlace}
@@ -27,9 +27,6 @@ use Rattle.version.specs.Places.{choice, Area}
 abbrev pub startOf : Counts → Store → ℕ → ℕ → Items
 startOf z s r j =
     jobStart (versions (z .writers)) (z .keys) (s .master) (s .run r .job) j (siteCaches s)
-
-unfoldable pub withCaches : Store → (ℕ → Place Version) → Store
-withCaches s cache = withSites s (λ o. record { cache = cache o })
 
 -- The store after the fetch of job j of run r.
 unfoldable pub fetchedJob : Store → ℕ → ℕ → Store
