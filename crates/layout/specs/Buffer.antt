@@ -6,7 +6,7 @@ use mathlib.Core.List.{List, _++_}
 use Prim.Native.Nat.{ℕ}
 use lib.Dec.{eqb, leb}
 use lib.ListN.{drop, length}
-use Rattle.sizes.specs.Bounds.{ranged, masterAt, sitesAt, writersAt, runsAt, totalOf}
+use Rattle.sizes.specs.Bounds.{headerSize, masterOffset, sitesAtOffset, writersAtOffset, runsAtOffset, totalOffset, ranged, masterAt, sitesAt, writersAt, runsAt, totalOf}
 use Rattle.sizes.specs.declared.Counts.{Counts}
 use Rattle.model.specs.Store.{Store}
 use Rattle.model.specs.Form.{wellFormed}
@@ -20,16 +20,16 @@ written s l = storeWords s ++ drop (totalOf (s .counts)) l
 -- The offsets and total in the header follow from the counts.
 unfoldable pub headerRight : List ℕ → Counts → Bool
 headerRight l z =
-    eqb (readWord l 5) (masterAt z)
-    && (eqb (readWord l 6) (sitesAt z)
-    && (eqb (readWord l 7) (writersAt z)
-    && (eqb (readWord l 8) (runsAt z) && eqb (readWord l 9) (totalOf z))))
+    eqb (readWord l masterOffset) (masterAt z)
+    && (eqb (readWord l sitesAtOffset) (sitesAt z)
+    && (eqb (readWord l writersAtOffset) (writersAt z)
+    && (eqb (readWord l runsAtOffset) (runsAt z) && eqb (readWord l totalOffset) (totalOf z))))
 
 -- "the buffer has 10 words and the total; counts, offsets and total are as above"
 unfoldable pub shaped : List ℕ → Bool
 shaped l =
     let z = countsIn l in
-    leb 10 (length l) && (ranged z && (headerRight l z && leb (totalOf z) (length l)))
+    leb headerSize (length l) && (ranged z && (headerRight l z && leb (totalOf z) (length l)))
 
 unfoldable pub inForm : List ℕ → Bool
 inForm l = shaped l && wellFormed (storeOf l)

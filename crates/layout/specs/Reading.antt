@@ -6,7 +6,7 @@ use Prim.Native.Nat.{ℕ, _+_, _*_}
 use lib.ListN.{getD}
 use Rattle.words.specs.Lists.{upto}
 use Rattle.clock.specs.Clock.{Clock}
-use Rattle.sizes.specs.Bounds.{maxJobs, jobSize, readsOffset, upstreamOffset, jobsOffset, doneOffset, readOffset, planOffset, snapshotOffset, versionSize, siteSize, writerSize, runSize, masterAt, sitesAt, writersAt, runsAt, tailAt}
+use Rattle.sizes.specs.Bounds.{pastOffset, writerPastOffset, keysOffset, writersOffset, sitesOffset, runsOffset, lastOffset, maxJobs, jobSize, readsOffset, upstreamOffset, jobsOffset, doneOffset, readOffset, planOffset, snapshotOffset, versionSize, siteSize, writerSize, runSize, masterAt, sitesAt, writersAt, runsAt, tailAt}
 use Rattle.sizes.specs.declared.Counts.{Counts}
 use Rattle.model.specs.Algebra.{Place}
 use Rattle.model.specs.Version.{Version, unheld}
@@ -22,7 +22,7 @@ unfoldable pub readPast : Counts → List ℕ → ℕ → ℕ → Clock
 readPast z l at = upto (z .keys) (λ w. 0) (λ d. readClock z l (at + d * z .writers))
 
 unfoldable pub readVersion : Counts → List ℕ → ℕ → Version
-readVersion z l at = record { issue = readWord l at; past = readPast z l (at + 1) }
+readVersion z l at = record { issue = readWord l at; past = readPast z l (at + pastOffset) }
 
 unfoldable pub readPlace : Counts → List ℕ → ℕ → Place Version
 readPlace z l at = upto (z .keys) unheld (λ k. readVersion z l (at + k * versionSize z))
@@ -31,7 +31,8 @@ unfoldable pub readSite : Counts → List ℕ → ℕ → Site
 readSite z l at = record { cache = readPlace z l at }
 
 unfoldable pub readWriter : Counts → List ℕ → ℕ → Writer
-readWriter z l at = record { count = readWord l at; past = readPast z l (at + 1) }
+readWriter z l at =
+    record { count = readWord l at; past = readPast z l (at + writerPastOffset) }
 
 unfoldable pub readJob : List ℕ → ℕ → Job
 readJob l at = record {
@@ -59,10 +60,10 @@ readTail z l at = record {}
 -- The counts in the header.
 unfoldable pub countsIn : List ℕ → Counts
 countsIn l = record {
-  keys = readWord l 0;
-  writers = readWord l 1;
-  sites = readWord l 2;
-  runs = readWord l 3;
+  keys = readWord l keysOffset;
+  writers = readWord l writersOffset;
+  sites = readWord l sitesOffset;
+  runs = readWord l runsOffset;
 }
 
 -- The store in the first words of a buffer.
@@ -71,7 +72,7 @@ storeOf l =
     let z = countsIn l in
     record {
       counts = z;
-      last = readWord l 4;
+      last = readWord l lastOffset;
       master = readPlace z l (masterAt z);
       site = upto (z .sites) noSite (λ o. readSite z l (sitesAt z + o * siteSize z));
       writer = upto (z .writers) noWriter (λ w. readWriter z l (writersAt z + w * writerSize z));

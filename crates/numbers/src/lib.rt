@@ -1,10 +1,12 @@
 // Issue numbers and writers' counts: two types, so that one is never taken for the other. Only
 // this crate takes one out of a word or puts one into it.
+use sizes::header::HeaderOffset;
 use words::larger;
 ghost use mathlib.Core.Path.{_≡_};
 ghost use Prim.Native.Nat.{_+_, _≤_, _<_, max};
 ghost use lib.Dec.{eqb, leb};
 ghost use lib.ListN.{length, getD, set};
+ghost use Rattle.sizes.specs.Bounds.{headerSize, lastOffset};
 ghost use Rattle.model.specs.Issue.{maxWord};
 ghost use Rattle.numbers.specs.Rising.{issueAfter, countAfter, risen};
 
@@ -98,17 +100,17 @@ pub fn raised(issue: IssueNumber, count: WriterCount) -> Tally
 
 // The last issue number, a word of the header.
 pub fn last_issue(words: &[u32]) -> IssueNumber
-    requires { ⌜ 10 ≤ length (now words) ⌝ }
-    ensures { λ r. ⌜ r .0 ≡ getD (now (words .entry)) 4 0 ⌝ }
+    requires { ⌜ headerSize ≤ length (now words) ⌝ }
+    ensures { λ r. ⌜ r .0 ≡ getD (now (words .entry)) lastOffset 0 ⌝ }
 {
-    IssueNumber(words[4])
+    IssueNumber(words[HeaderOffset::LAST])
 }
 
 pub fn set_last_issue(words: &mut [u32], new: IssueNumber)
-    requires { ⌜ 10 ≤ length (now words) ⌝ }
-    ensures { λ _. ⌜ now (words .exit) ≡ set (now (words .entry)) 4 (new .0) ⌝ }
+    requires { ⌜ headerSize ≤ length (now words) ⌝ }
+    ensures { λ _. ⌜ now (words .exit) ≡ set (now (words .entry)) lastOffset (new .0) ⌝ }
 {
-    words[4] = new.0;
+    words[HeaderOffset::LAST] = new.0;
 }
 
 // The issue number of the version at an index.
