@@ -84,7 +84,7 @@ fn growth() {
 fn count(sizes: [u32; 4]) {
     for case in desks::cases(sizes) {
         let (mut mine, mut theirs) = (case.words.clone(), case.words.clone());
-        let mut answer = [0; 24];
+        let mut answer = [0; 40];
         counted_library(&mut mine, &case.call, &mut answer);
         counted_reference(&mut theirs, &case.call);
         assert!(mine == theirs, "{}: the two differ", case.name);

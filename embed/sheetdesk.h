@@ -19,9 +19,9 @@
  *
  * Every call writes its answer's words and returns how many it wrote:
  *   0 and the answer's numbers (ok), 1 and a mask (broken, step alone), 2 and a number (refused).
- * Lend SHEETDESK_ANSWER_WORDS for it: to a slice too short for any answer a call returns 0, and
- * nothing is changed. Words of the answer's slice behind the written ones have no meaning. A
- * refused call leaves every word of the desk; words past the desk's total are never touched.
+ * An answer_len below SHEETDESK_ANSWER_WORDS returns 0, and nothing is changed. Words of the
+ * answer's slice behind the written ones stay as they were. A refused call leaves every word of
+ * the desk; words past the desk's total are never touched.
  *
  * Sheets, writers, offices, runs and jobs are counted from 0. Bit k of a mask is item k.
  */
@@ -39,6 +39,9 @@ extern "C" {
 #define SHEETDESK_VERSION 1
 /* The version of the desk's words: rises when a desk of the same counts has other words. */
 #define SHEETDESK_LAYOUT 1
+/* The same two of the library that is linked: compare them with these. */
+uint32_t sheetdesk_version(void);
+uint32_t sheetdesk_layout(void);
 
 /* The length of a slice that holds any answer. */
 #define SHEETDESK_ANSWER_WORDS 40
@@ -128,7 +131,7 @@ uint32_t sheetdesk_look(const uint32_t *desk, size_t desk_len, uint32_t place, u
 uint32_t sheetdesk_covers(const uint32_t *p, size_t p_len, const uint32_t *q, size_t q_len);
 
 /* Each count of the target becomes the larger of the two. Returns 1, or 0 with nothing changed
- * if the lengths differ. */
+ * if the lengths differ or exceed 16. */
 uint32_t sheetdesk_merge(uint32_t *target, size_t target_len, const uint32_t *source,
                          size_t source_len);
 

@@ -103,8 +103,10 @@ def _library():
     places = [os.path.join(here, "..", "..", "lib", name), os.path.join(here, "..", "target", "shared", name)]
     path = os.environ.get("SHEETDESK_LIBRARY") or next(filter(os.path.exists, places), name)
     library = ctypes.CDLL(path)
-    for call in "new open fetch evict prepare step issue drop look covers merge".split():
+    for call in "new open fetch evict prepare step issue drop look covers merge version layout".split():
         getattr(library, "sheetdesk_" + call).restype = ctypes.c_uint32
+    if (library.sheetdesk_version(), library.sheetdesk_layout()) != (VERSION, LAYOUT):
+        raise ImportError("%s has other calls or another layout than this module" % path)
     return library
 
 
@@ -164,7 +166,7 @@ def covers(p, q):
 
 
 def merge(target, source):
-    """The larger of the two counts at each place, as a list; None if the lengths differ."""
+    """The larger of the two counts at each place, as a list; None if the lengths differ or exceed 16."""
     into, length = _array(target)
     if _calls.sheetdesk_merge(into, length, *_array(source)) != 1:
         return None

@@ -72,6 +72,8 @@ pub mod exports {
         pub fn sheetdesk_merge(
             target: *mut u32, target_len: usize, source: *const u32, source_len: usize,
         ) -> u32;
+        pub fn sheetdesk_version() -> u32;
+        pub fn sheetdesk_layout() -> u32;
     }
 }
 
@@ -286,6 +288,11 @@ impl<'a> Desk<'a> {
     }
 }
 
+/// Whether the library that is linked has this file's calls and layout.
+pub fn is_linked_right() -> bool {
+    unsafe { sheetdesk_version() == VERSION && sheetdesk_layout() == LAYOUT }
+}
+
 /// Whether clock p covers clock q; nothing if the lengths differ or exceed 16.
 pub fn covers(p: &[u32], q: &[u32]) -> Option<bool> {
     match unsafe { sheetdesk_covers(p.as_ptr(), p.len(), q.as_ptr(), q.len()) } {
@@ -296,7 +303,7 @@ pub fn covers(p: &[u32], q: &[u32]) -> Option<bool> {
 }
 
 /// Each count of the target becomes the larger of the two. False, and nothing is changed, if
-/// the lengths differ.
+/// the lengths differ or exceed 16.
 pub fn merge(target: &mut [u32], source: &[u32]) -> bool {
     let (to, len) = (target.as_mut_ptr(), target.len());
     unsafe { sheetdesk_merge(to, len, source.as_ptr(), source.len()) == 1 }

@@ -63,9 +63,15 @@ static int other_layout_refused(void)
     return good && memcmp(before, other, sizeof other) == 0;
 }
 
+/* The library that is linked is the header's. */
+static int versions_fit(void)
+{
+    return sheetdesk_version() == SHEETDESK_VERSION && sheetdesk_layout() == SHEETDESK_LAYOUT;
+}
+
 int main(void)
 {
-    if (!sizes_fit() || !other_layout_refused()) {
+    if (!versions_fit() || !sizes_fit() || !other_layout_refused()) {
         puts("header: a promise of sheetdesk.h isn't kept");
         return 1;
     }

@@ -4,7 +4,7 @@
 #[path = "../embed/sheetdesk.rs"]
 mod sheetdesk;
 
-use sheetdesk::{words, Answer, Desk, Job, Place, Refusal, MOST_WORDS};
+use sheetdesk::{is_linked_right, words, Answer, Desk, Job, Place, Refusal, MOST_WORDS};
 use std::{fs, process::exit};
 
 /// New takes just as many words as `words` says, and not one less, for all counts from 0 to one above the largest.
@@ -78,7 +78,7 @@ fn golden() -> Option<usize> {
 
 fn main() {
     let lines = golden().unwrap_or(0);
-    if lines < 500 || !sizes() || !refusals() {
+    if lines < 500 || !is_linked_right() || !sizes() || !refusals() {
         println!("wrapper: a promise of sheetdesk.rs isn't kept ({lines} golden lines answered)");
         exit(1);
     }

@@ -49,7 +49,7 @@ fn middle(values: &mut [f64]) -> f64 {
 pub fn measure(case: &Case, rounds: usize) -> Cost {
     check(case);
     let mut desks = vec![case.words.clone(); copies(&case.words)];
-    let mut answer = [0; 24];
+    let mut answer = [0; 40];
     let (mut mine, mut theirs, mut ratios) = (Vec::new(), Vec::new(), Vec::new());
     for _ in 0..rounds {
         let (mut library, mut reference) = (f64::MAX, f64::MAX);
@@ -71,7 +71,7 @@ pub fn measure(case: &Case, rounds: usize) -> Cost {
 /// Both sides must do the same, and answer ok: a refused call would measure nothing.
 fn check(case: &Case) {
     let (mut mine, mut theirs) = (case.words.clone(), case.words.clone());
-    let mut answer = [0; 24];
+    let mut answer = [0; 40];
     let count = library::call(&mut mine, &case.call, &mut answer) as usize;
     let Answer::Ok(due) = text::run(&mut theirs, &case.call) else {
         panic!("{}: not answered ok", case.name);
