@@ -1,6 +1,6 @@
 -- Lines and the calls that they ask for, computed.
 -- case-lines: case A's lines, and the calls that it lacks. read-lines: others that are read.
--- unread-lines, unread-calls: what isn't. long-lines: 400 bytes and 401.
+-- unread-lines, unread-calls, bare-words: what isn't. long-lines: 400 bytes and 401.
 -- Assumes nothing.
 use mathlib.Core.Path.{_≡_, refl}
 use mathlib.Core.List.{[], _∷_, _++_}
@@ -71,6 +71,21 @@ pub unread-calls :
 unfolding lineCall fieldsCall fieldsOf inFirst asked formOf sameBytes takes calling numbersOf
     numberBefore numberOf isEmpty digitsOnly valueFrom
 unread-calls = (refl, refl, refl, refl, refl, refl, refl, refl)
+
+-- A word alone reaches the table: each of the nine needs a number.
+pub bare-words :
+    (lineCall (bytesOf "new") ≡ none)
+    × (lineCall (bytesOf "open") ≡ none)
+    × (lineCall (bytesOf "fetch") ≡ none)
+    × (lineCall (bytesOf "evict") ≡ none)
+    × (lineCall (bytesOf "prepare") ≡ none)
+    × (lineCall (bytesOf "step") ≡ none)
+    × (lineCall (bytesOf "issue") ≡ none)
+    × (lineCall (bytesOf "drop") ≡ none)
+    × (lineCall (bytesOf "look") ≡ none)
+unfolding lineCall fieldsCall fieldsOf inFirst asked formOf sameBytes takes calling numbersOf
+    numberBefore numberOf isEmpty digitsOnly valueFrom
+bare-words = (refl, refl, refl, refl, refl, refl, refl, refl, refl)
 
 -- `drop ` and zeros: 400 bytes are read, 401 are not.
 pub long-lines :
