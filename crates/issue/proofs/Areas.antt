@@ -7,8 +7,8 @@ use Prim.Native.Nat.{ℕ, _+_, _≤_, _<_}
 use native.Mathlib.Omega.{arith}
 use Rattle.words.specs.Words.{Apart}
 use Rattle.sizes.specs.declared.Counts.{Counts}
-use Rattle.sizes.specs.Bounds.{pastSize, versionSize, writerSize, masterAt, writerAt, snapshotAt, keyAt, rowAt}
-use Rattle.sizes.proofs.Offsets.{ordered, writer-lies, run-lies, snapshot-lies, key-lies, row-lies}
+use Rattle.sizes.specs.Bounds.{pastSize, versionSize, writerSize, masterAt, writerAt, snapshotAt, keyAt, writerRowAt}
+use Rattle.sizes.proofs.Offsets.{ordered, writer-lies, run-lies, snapshot-lies, key-lies, writer-row-lies}
 use Rattle.version.specs.Places.{Merges}
 use Rattle.form.specs.Parts.{StoreArea}
 use Rattle.issue.specs.Saves.{WriterArea, Takes, Saves}
@@ -77,6 +77,5 @@ save-room len z place at k A h =
     }
 
 pub row-room : (len : ℕ) (z : Counts) (at k w : ℕ) → at + writerSize z ≤ len → k < z .keys
-    → w < z .writers → rowAt z at k + w < len
-unfolding versionSize writerSize
-row-room len z at k w a h i = omega (arith, row-lies z at k h .ends)
+    → w < z .writers → writerRowAt z at k + w < len
+row-room len z at k w a h i = omega (arith, writer-row-lies z at k h .ends)

@@ -14,7 +14,7 @@ use Rattle.words.specs.Lists.{putAt}
 use Rattle.masks.specs.Mask.{testBit}
 use Rattle.clock.specs.Clock.{Clock, join}
 use Rattle.sizes.specs.declared.Counts.{Counts}
-use Rattle.sizes.specs.Bounds.{writerSize, keyAt, rowAt}
+use Rattle.sizes.specs.Bounds.{writerSize, keyAt, writerRowAt}
 use Rattle.model.specs.Algebra.{Place}
 use Rattle.model.specs.Version.{Version, joinPasts}
 use Rattle.model.specs.Store.{Writer}
@@ -57,7 +57,7 @@ module _ (z : Counts) (l : List ℕ) (at : ℕ) where
   take-no place read k t = rw t writer-again
 
   pub row-yes : (w S n k : ℕ) → at + writerSize z ≤ length l → w < z .writers → k < z .keys
-      → So (testBit S k) → set l (rowAt z at k + w) n ≡ rowStep z at w S n k l
+      → So (testBit S k) → set l (writerRowAt z at k + w) n ≡ rowStep z at w S n k l
   unfolding writerSize
   row-yes w S n k h i j t =
       rw (t, row-spot z at k w)

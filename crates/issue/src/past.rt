@@ -30,7 +30,7 @@ fn take_if(words: &mut [u32], z: Counts, at: usize, place: usize, read: u32, k: 
         (readWriter z (now (words .entry)) at)) ⌝ }
 {
     if has(read, k as u32) {
-        let own = z.row_at(at, 0);
+        let own = z.writer_row_at(at, 0);
         let past = row_of(z, place, k, 0);
         merge_past(words, z, own, past);
     }
@@ -60,7 +60,7 @@ fn set_if(words: &mut [u32], z: Counts, at: usize, w: usize, mask: u32, new: Wri
         (rowSet mask w (new .0) k (readWriter z (now (words .entry)) at)) ⌝ }
 {
     if has(mask, k as u32) {
-        let row = z.row_at(at, k);
+        let row = z.writer_row_at(at, k);
         set_count(words, row + w, new);
     }
 }
@@ -127,7 +127,7 @@ fn merge_if(
 {
     if has(mask, k as u32) {
         let version = z.key_at(place, k);
-        let past = z.row_at(at, 0);
+        let past = z.writer_row_at(at, 0);
         merge_version(words, z, version, number, past);
     }
 }

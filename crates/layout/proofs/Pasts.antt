@@ -16,7 +16,7 @@ use Rattle.words.proofs.Words.{put-in}
 use Rattle.words.proofs.Slots.{slot-end}
 use Rattle.clock.specs.Clock.{Clock, join, clockAt}
 use Rattle.sizes.specs.declared.Counts.{Counts}
-use Rattle.sizes.specs.Bounds.{pastSize, rowAt}
+use Rattle.sizes.specs.Bounds.{pastSize, pastOffset, writerPastOffset, rowAt, writerRowAt}
 use Rattle.model.specs.Version.{joinPasts}
 use Rattle.layout.specs.Words.{clockWords, pastWords}
 use Rattle.layout.specs.Reading.{readWord, readClock, readPast}
@@ -93,11 +93,16 @@ set-count z l at d u n h i j =
     ap (λ (m : List ℕ). set m (at + spot z d u) n) (sym (part-again (past-laws z) l at))
     ∙ part-twice (past-laws z) l at (spot z d u) (n ∷ []) p q h (omega arith) one
 
--- Where row d of a writer or a version begins, in its past.
-pub row-spot : (z : Counts) (at d u : ℕ) → rowAt z at d + u ≡ at + 1 + spot z d u
-unfolding rowAt
+-- Where row d of a writer begins, in its past; where a past does.
+pub row-spot : (z : Counts) (at d u : ℕ)
+    → writerRowAt z at d + u ≡ at + writerPastOffset + spot z d u
+unfolding writerRowAt
 row-spot z at d u = omega arith
 
-pub row-first : (z : Counts) (at : ℕ) → rowAt z at 0 ≡ at + 1
+pub row-first : (z : Counts) (at : ℕ) → rowAt z at 0 ≡ at + pastOffset
 unfolding rowAt
 row-first z at = omega arith
+
+pub writer-row-first : (z : Counts) (at : ℕ) → writerRowAt z at 0 ≡ at + writerPastOffset
+unfolding writerRowAt
+writer-row-first z at = omega arith

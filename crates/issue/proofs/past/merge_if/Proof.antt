@@ -3,7 +3,7 @@
 use mathlib.Core.Path.{sym, _∙_}
 use borrow.Author.Needs.{needs}
 use native.Mathlib.Omega.{arith}
-use Rattle.layout.proofs.Pasts.{row-first}
+use Rattle.layout.proofs.Pasts.{writer-row-first}
 use Rattle.issue.proofs.Areas.{save-room}
 use Rattle.issue.proofs.Masters.{save-yes}
 use Rattle.issue.proofs.past.merge_if.Statement.{statement}
@@ -18,8 +18,8 @@ has-requires c κs = search needs
 key-at-requires : tie.Need-key-at-requires
 key-at-requires c κs = search needs
 
-row-at-requires : tie.Need-row-at-requires
-row-at-requires c κs =
+writer-row-at-requires : tie.Need-writer-row-at-requires
+writer-row-at-requires c κs =
     let s = c .before .before .before .before in
     let S = s .pre .0 in
     (S .ranged, (omega (arith, S .low), omega (arith, s .pre .1)))
@@ -30,7 +30,7 @@ merge-version-requires c κs =
     let k = r .before in
     let s = k .before .before .before .before in
     let a = s .args in
-    rw (k .key-at .ensures, r .row-at .ensures ∙ row-first _ _)
+    rw (k .key-at .ensures, r .writer-row-at .ensures ∙ writer-row-first _ _)
     (save-room _ (a .z) (a .place) (a .at) (a .k) (s .pre .0) (s .pre .1))
 
 same-length : tie.Need-same-length
@@ -47,8 +47,8 @@ returns c =
     rw (
       ← save-yes (a .z) (a .words .now) (a .place) (a .at) (a .mask) (a .number .0) (a .k)
           (s .pre .1) (sym (t .before .has .ensures) ∙ t .if1 .taken),
-      ← row-first (a .z) (a .at),
-      ← r .row-at .ensures,
+      ← writer-row-first (a .z) (a .at),
+      ← r .writer-row-at .ensures,
       ← k .key-at .ensures,
     )
     (m .merge-version .ensures)
@@ -63,7 +63,7 @@ merge-if-spec =
     cast-has
     has-requires
     key-at-requires
-    row-at-requires
+    writer-row-at-requires
     merge-version-requires
     same-length
     returns

@@ -16,15 +16,15 @@ cast-has c = search needs
 has-requires : tie.Need-has-requires
 has-requires c κs = search needs
 
-row-at-requires : tie.Need-row-at-requires
-row-at-requires c κs = search needs
+writer-row-at-requires : tie.Need-writer-row-at-requires
+writer-row-at-requires c κs = search needs
 
-here : (c : tie.After-row-at) → let a = c .before .before .before .before .args in
-    c .row-at .result + a .w < length (a .words .now)
+here : (c : tie.After-writer-row-at) → let a = c .before .before .before .before .args in
+    c .writer-row-at .result + a .w < length (a .words .now)
 here c =
     let s = c .before .before .before .before in
     let a = s .args in
-    rw (c .row-at .ensures)
+    rw (c .writer-row-at .ensures)
     (row-room _ (a .z) (a .at) (a .k) (a .w) (s .pre .0 .fits) (s .pre .1 .1) (s .pre .1 .0))
 
 add-set-count : tie.Need-add-set-count
@@ -43,7 +43,7 @@ returns c =
     let s = t .before .before .before in
     let a = s .args in
     c .before .before .set-count .ensures
-    ∙ rw (r .row-at .ensures)
+    ∙ rw (r .writer-row-at .ensures)
     (row-yes (a .z) (a .words .now) (a .at) (a .w) (a .mask) (a .new .0) (a .k) (s .pre .0 .fits)
     (s .pre .1 .0) (s .pre .1 .1) (sym (t .before .has .ensures) ∙ t .if1 .taken))
 
@@ -59,7 +59,7 @@ set-if-spec =
     (tie.spec
     cast-has
     has-requires
-    row-at-requires
+    writer-row-at-requires
     add-set-count
     set-count-requires
     same-length

@@ -5,7 +5,7 @@ use borrow.Author.Needs.{needs}
 use native.Mathlib.Omega.{arith}
 use lib.ListN.{length}
 use Rattle.sizes.specs.Bounds.{keyAt}
-use Rattle.layout.proofs.Pasts.{row-first}
+use Rattle.layout.proofs.Pasts.{row-first, writer-row-first}
 use Rattle.issue.proofs.Areas.{take-room}
 use Rattle.issue.proofs.Writers.{take-yes, take-no}
 use Rattle.issue.proofs.past.take_if.Statement.{statement}
@@ -17,8 +17,8 @@ cast-has c = search needs
 has-requires : tie.Need-has-requires
 has-requires c κs = search needs
 
-row-at-requires : tie.Need-row-at-requires
-row-at-requires c κs =
+writer-row-at-requires : tie.Need-writer-row-at-requires
+writer-row-at-requires c κs =
     let s = c .before .before .before in
     let T = s .pre .0 in
     (T .ranged, (omega (arith, T .apart, T .low), omega (arith, s .pre .1)))
@@ -36,7 +36,7 @@ merge-past-requires c κs =
     let s = o .before .before .before .before in
     let a = s .args in (
       s .pre .0 .ranged,
-      rw (o .row-at .ensures ∙ row-first _ _, p .row-of .ensures ∙ row-first _ _)
+      rw (o .writer-row-at .ensures ∙ writer-row-first _ _, p .row-of .ensures ∙ row-first _ _)
           (take-room (length (a .words .now)) (a .z) (a .at) (a .place) (a .k) (s .pre .0)
           (s .pre .1)),
     )
@@ -55,9 +55,9 @@ returns c =
     rw (
       ← take-yes (a .z) (a .words .now) (a .at) (a .place) (a .read) (a .k) (s .pre .1)
           (sym (t .before .has .ensures) ∙ t .if1 .taken),
-      ← row-first (a .z) (a .at),
+      ← writer-row-first (a .z) (a .at),
       ← row-first (a .z) (keyAt (a .z) (a .place) (a .k)),
-      ← o .row-at .ensures,
+      ← o .writer-row-at .ensures,
       ← p .row-of .ensures,
     )
     (m .merge-past .ensures)
@@ -74,7 +74,7 @@ take-if-spec =
     (tie.spec
     cast-has
     has-requires
-    row-at-requires
+    writer-row-at-requires
     row-of-requires
     merge-past-requires
     same-length
