@@ -11,7 +11,7 @@ use Rattle.words.specs.Lists.{putAt}
 use Rattle.masks.specs.Mask.{testBit}
 use Rattle.clock.specs.Clock.{Clock}
 use Rattle.sizes.specs.declared.Counts.{Counts}
-use Rattle.sizes.specs.Bounds.{Ranged, placeSize, writerSize}
+use Rattle.sizes.specs.Bounds.{placeLimit, Ranged, placeSize, writerSize}
 use Rattle.model.specs.Algebra.{Place}
 use Rattle.model.specs.Version.{Version, joinPasts}
 use Rattle.model.specs.Store.{Writer, Store}
@@ -47,19 +47,19 @@ pub record Savable (s : Store) (r w S : ℕ) : Type 0 where
 -- The writer at an index.
 pub record WriterArea (len : ℕ) (z : Counts) (at : ℕ) : Type 0 where
   pub ranged : Ranged z
-  pub low : at < 1000000
+  pub low : at < placeLimit
   pub fits : at + writerSize z ≤ len
 
 -- The writer at an index, and behind it the place that it takes pasts from.
 pub record Takes (len : ℕ) (z : Counts) (at place : ℕ) : Type 0 where
   pub ranged : Ranged z
-  pub low : place < 1000000
+  pub low : place < placeLimit
   pub apart : at + writerSize z ≤ place
   pub fits : place + placeSize z ≤ len
 
 -- The place that takes the saved versions, and behind it the writer at an index.
 pub record Saves (len : ℕ) (z : Counts) (place at : ℕ) : Type 0 where
   pub ranged : Ranged z
-  pub low : at < 1000000
+  pub low : at < placeLimit
   pub apart : place + placeSize z ≤ at
   pub fits : at + writerSize z ≤ len

@@ -25,7 +25,7 @@ ghost use lib.Dec.{leb};
 ghost use Rattle.words.specs.Tests.{allBelow};
 ghost use Rattle.masks.specs.Mask.{testBit};
 ghost use Rattle.answers.specs.Answers.{answeredWords};
-ghost use Rattle.sizes.specs.Bounds.{Ranged};
+ghost use Rattle.sizes.specs.Bounds.{maxJobs, Ranged};
 ghost use Rattle.model.specs.Outcome.{answer};
 ghost use Rattle.model.specs.Issue.{raiseCause, issueCause, issuedNumber, issuedStore};
 ghost use Rattle.model.specs.Calls.{issue};
@@ -102,7 +102,7 @@ fn jobs_done(words: &[u32], z: Counts, r: usize) -> bool
 
 // Whether each item below n is in the mask.
 fn has_all(mask: u32, n: u32) -> bool
-    requires { ⌜ n ≤ 8 ⌝ }
+    requires { ⌜ n ≤ maxJobs ⌝ }
     ensures { λ b. ⌜ b ≡ allBelow n (testBit mask) ⌝ }
 {
     let mut j: u32 = 0;

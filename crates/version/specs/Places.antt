@@ -10,7 +10,7 @@ use Prim.Native.Nat.{ℕ, _+_, _≤_, _<_}
 use Rattle.words.specs.Tests.{Items}
 use Rattle.clock.specs.Clock.{Clock}
 use Rattle.sizes.specs.declared.Counts.{Counts}
-use Rattle.sizes.specs.Bounds.{Ranged, pastSize, versionSize, placeSize, keyAt}
+use Rattle.sizes.specs.Bounds.{placeLimit, Ranged, pastSize, versionSize, placeSize, keyAt}
 use Rattle.model.specs.Algebra.{Place}
 use Rattle.model.specs.Version.{Version}
 use Rattle.layout.specs.Stored.{putVersion}
@@ -30,7 +30,7 @@ choice S p q k = cond (S k) (p k) (q k)
 -- A place at an index of a buffer of len words.
 pub record Area (len : ℕ) (z : Counts) (at : ℕ) : Type 0 where
   pub ranged : Ranged z
-  pub low : at < 1000000
+  pub low : at < placeLimit
   pub fits : at + placeSize z ≤ len
 
 -- Two places: one and the same, or two that do not overlap.

@@ -16,7 +16,7 @@ ghost use Prim.Native.Nat.{_+_, _≤_, _<_};
 ghost use lib.ListN.{length};
 ghost use Rattle.words.specs.Words.{Apart};
 ghost use Rattle.masks.specs.Mask.{testBit, maskBelow};
-ghost use Rattle.sizes.specs.Bounds.{Ranged, pastSize, versionSize, keyAt, rowAt};
+ghost use Rattle.sizes.specs.Bounds.{placeLimit, Ranged, pastSize, versionSize, keyAt, rowAt};
 ghost use Rattle.model.specs.Version.{unheld, held, dependency, supersedes, larger, joinPasts, merge};
 ghost use Rattle.model.specs.Form.{placeFormed};
 ghost use Rattle.layout.specs.Reading.{readPast, readVersion, readPlace};
@@ -26,7 +26,7 @@ ghost use Rattle.layout.specs.Stored.{putPast, putVersion, putPlace};
 // Where row d of key k begins in the place at an index.
 pub fn row_of(z: Counts, at: usize, k: usize, d: usize) -> usize
     requires { ⌜ Ranged z ⌝ }
-    requires { ⌜ (at < 1000000) × (k < z .keys) × (d < z .keys) ⌝ }
+    requires { ⌜ (at < placeLimit) × (k < z .keys) × (d < z .keys) ⌝ }
     ensures { λ r. ⌜ r ≡ rowAt z (keyAt z at k) d ⌝ }
 {
     let version = z.key_at(at, k);
