@@ -38,6 +38,9 @@ swap issue lib.rt 'let count = count_at(words, at);' 'let count = numbers::versi
 swap version lib.rt 'let old = version_issue(words, dst);' 'let old = numbers::count_at(words, dst);'
 swap version lib.rt 'let number = version_issue(words, s);' 'let number = numbers::count_at(words, s);'
 swap look lib.rt 'let issue = version_issue(words, version);' 'let issue = numbers::count_at(words, version);'
+swap version lib.rt 'let number = version_issue(words, version);' 'let number = numbers::count_at(words, version);'
+swap version lib.rt 'let new = old.later(number);' 'let new = old.later(numbers::count_at(words, dst));'
+swap issue lib.rt 'Tally { issue, count }' 'Tally { issue: count, count: issue }'
 # stored
 swap issue lib.rt 'set_last_issue(words, tally.issue);' 'set_last_issue(words, tally.count);'
 swap version lib.rt 'set_version_issue(words, dst, new);' 'numbers::set_count(words, dst, new);'

@@ -25,3 +25,4 @@ pub mod Points
 pub mod Theorem
 pub mod Framing
 pub mod Lasting
+pub mod Pinned

@@ -1,9 +1,11 @@
 -- The calls that the program makes are a list of demand 3's claim.
--- begun: calls on a buffer that isn't in form. blank-form: a buffer of zeros isn't.
+-- begun: calls on a buffer that isn't in form. begun-made, begun-formed: what that says of the
+-- buffer that they left. blank-form: a buffer of zeros isn't in form.
 -- Assumes nothing.
-use mathlib.Core.Path.{_≡_, refl, sym, ap}
+use mathlib.Core.Path.{_≡_, refl, sym, ap, _∙_}
 use mathlib.Core.Bool.{false, So}
-use mathlib.Core.List.{List, [], _∷_}
+use mathlib.Core.Logic.{_⊎_, inl, inr}
+use mathlib.Core.List.{List, [], _∷_, append-nil}
 use Prim.Native.Nat.{ℕ, zero, suc}
 use native.Mathlib.Decide.{ℕ-discrete}
 use lib.Dec.{leb}
@@ -15,15 +17,10 @@ use Rattle.layout.specs.Buffer.{shaped, inForm}
 use Rattle.layout.specs.Calls.{Call, new, on, newCause, newOn, callOn, leaves, isOk, after}
 use Rattle.layout.proofs.Forms.{no-form}
 use Rattle.layout.proofs.Rules.{new-done, new-refused}
-use Rattle.consistency.specs.Trace.{Trace, start, advance, follow}
+use Rattle.consistency.specs.Trace.{start}
+use Rattle.consistency.proofs.Rows.{after-append, follow-buffer}
 use Rattle.consistency.proofs.Theorem.{demand-3}
 use Rattle.script.specs.Tie.{Begun, unchanged, from}
-
--- This belongs beside `after` and `follow`.
-follow-buffer : (cs : List Call) (t : Trace) → follow cs t .buffer ≡ after cs (t .buffer)
-unfolding follow after advance
-follow-buffer [] t = refl
-follow-buffer (c ∷ cs) t = follow-buffer cs (advance c t)
 
 -- One call more in front, that leaves the buffer.
 begun-more : (l : List ℕ) (c : Call) (ds : List Call) (m : List ℕ) → leaves (callOn c l) l ≡ l
@@ -54,6 +51,22 @@ begun-after l bad (new k w n p ∷ ds) =
 pub begun : (l : List ℕ) → inForm l ≡ false → (ds : List Call) (m : List ℕ) → m ≡ after ds l
     → Begun l ds m
 begun l bad ds m e = rw e (begun-after l bad ds)
+
+-- What a reader takes out of it: the calls made that buffer,
+pub begun-made : (l : List ℕ) (ds : List Call) (m : List ℕ) → Begun l ds m → m ≡ after ds l
+unfolding after callOn start
+begun-made l ds m (unchanged u i) = i ∙ sym u
+begun-made l ds m (from es k w n p cs d a ok b h) =
+    b ∙ follow-buffer cs (start (countsOf k w n p) l)
+    ∙ sym (ap (λ x. after x l) d ∙ after-append es (new k w n p ∷ cs) l
+    ∙ ap (after (new k w n p ∷ cs)) a)
+
+-- and it is as it was, or in form.
+pub begun-formed : (l : List ℕ) (ds : List Call) (m : List ℕ) → Begun l ds m
+    → (m ≡ l) ⊎ So (inForm m)
+begun-formed l ds m (unchanged u i) = inl i
+begun-formed l ds m (from es k w n p cs d a ok b h) =
+    inr (ap inForm b ∙ h cs [] (sym (append-nil cs)) .formed)
 
 -- "Before any new, the buffer is all zero": no counts are in range.
 pub blank-form : (n : ℕ) → inForm (replicate n 0) ≡ false
