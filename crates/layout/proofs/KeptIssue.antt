@@ -73,7 +73,7 @@ module _ (s : Store) (r w S : ℕ) (F : Fine s) (hr : r < s .counts .runs)
       let old = F .fits .writer .each w hw .past in
       let carried = F .fits .run .each r hr .snapshot in
       rows-fit z S w _ _ hS hw
-      (taken-fits z (a .read) (a .snapshot) (s .writer w .past) carried old)
+      (taken-fits z (a .branch .read) (a .branch .snapshot) (s .writer w .past) carried old)
 
   -- The version that is saved.
   abbrev new : Version

@@ -152,11 +152,11 @@ module _ (s : Store) (r : ℕ) (F : Fine s) (A : Accepted s r) where
       (store-caches s F)
 
   -- No key is read.
-  pub unread : (k : ℕ) → testBit (s .run r .read) k ≡ false
+  pub unread : (k : ℕ) → testBit (s .run r .branch .read) k ≡ false
   unread k =
       let a = s .run r in
       let K = s .counts .keys in
-      let e : a .read ≡ 0 =
+      let e : a .branch .read ≡ 0 =
       was .masks .reads ∙ rw (A .done) (doneReads-none K (a .jobs) (a .job)) in
       rw e (test-none k)
 

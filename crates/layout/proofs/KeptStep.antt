@@ -18,7 +18,7 @@ use Rattle.model.specs.Sets.{pullSet, pulled}
 use Rattle.model.specs.Store.{Store, withSites, withCache, withRun, withState, withJobDone}
 use Rattle.model.specs.Form.{runFormed}
 use Rattle.model.specs.Outcome.{brokenState}
-use Rattle.model.specs.Step.{stepSite, stepReads, stepStart, stepCache, stepPlan, stepSnapshot, stepMoved, stepCause, stepBroken, stepDone, stepRule}
+use Rattle.model.specs.Step.{stepBranch, stepSite, stepReads, stepStart, stepCache, stepPlan, stepSnapshot, stepMoved, stepCause, stepBroken, stepDone, stepRule}
 use Rattle.model.proofs.Draws.{pulled-cases}
 use Rattle.model.proofs.Steps.{Accepted, accepted, accepted-used, stepSnapshot-keeps, stepSnapshot-held, stepSnapshot-planned, steppedRun}
 use Rattle.model.proofs.DoneReads.{doneReads-mask}
@@ -66,7 +66,7 @@ module _ (s : Store) (r j : ℕ) (F : Fine s) (A : Accepted s r j) where
   unfolding stepSnapshot pulled
   snapshot-fits =
       let z = s .counts in
-      let old = s .run r .snapshot in
+      let old = stepBranch s r j .snapshot in
       let both : Place Version = λ k. merge (old k) (stepCache s r j k) in
       let C = pullSet (versions (z .writers)) (z .keys) (stepPlan s r j) old (stepCache s r j)
       (stepReads s r j) in
@@ -77,7 +77,7 @@ module _ (s : Store) (r j : ℕ) (F : Fine s) (A : Accepted s r j) where
   unfolding stepSnapshot
   snapshot-formed k h =
       let z = s .counts in
-      let old = s .run r .snapshot in
+      let old = stepBranch s r j .snapshot in
       let place = was .snapshot .place in
       pulled-cases (versions (z .writers)) (z .keys) (stepPlan s r j) old (stepCache s r j)
       (stepReads s r j) (VersionFormed z k) k
@@ -91,13 +91,13 @@ module _ (s : Store) (r j : ℕ) (F : Fine s) (A : Accepted s r j) where
   stepped-fits = record { job = fitting .job; snapshot = snapshot-fits }
 
   read-held : (k : ℕ) → k < s .counts .keys
-      → So (testBit (bitOr (s .run r .read) (s .run r .job j .reads)) k)
+      → So (testBit (bitOr (stepBranch s r j .read) (s .run r .job j .reads)) k)
       → So (held (stepSnapshot s r j k))
   unfolding stepReads
   read-held k l p =
       let a = s .run r in
-      elim (or-cases (testBit (a .read) k) (testBit (a .job j .reads) k)
-      (test-or (a .read) (a .job j .reads) k ∙˙ p)) [
+      elim (or-cases (testBit (stepBranch s r j .read) k) (testBit (a .job j .reads) k)
+      (test-or (stepBranch s r j .read) (a .job j .reads) k ∙˙ p)) [
         | inl h ↦ stepSnapshot-keeps s r j k (was .snapshot .has k l h)
         | inr h ↦ stepSnapshot-held s r j A k l h
       ]
