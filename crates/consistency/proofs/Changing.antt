@@ -40,7 +40,7 @@ unless-moves c s b f n x v g = unless-cases (Moves c s b f) n x g (λ _. v)
 -- ---- what finished jobs have read
 
 abbrev pub HasRead : ℕ → Run → BookRun → List ReadSet → Type 0
-HasRead K a c xs = (x : ReadSet) → Among x xs → ReadAs K a c x
+HasRead K a c xs = (x : ReadSet) → Among x xs → ReadAs K (a .branch) (c .branch) x
 
 pub none-among {ℓ} : {X : Type ℓ} {x : ReadSet} → Among x [] → X
 none-among a = elim a [ ]
@@ -63,9 +63,10 @@ inv-next {s} {b} {f} t d g r a c v F e er ed l same has = record {
 }
   where
     reads : (q : ℕ) → q < s .counts .runs → (x : ReadSet) → Among x (g q)
-        → ReadAs (s .counts .keys) (putAt (s .run) r a q) (putAt (b .run) r c q) x
+        → ReadAs (s .counts .keys) (putAt (s .run) r a q .branch) (putAt (b .run) r c q .branch) x
     reads q h x i =
-        putAt-both (λ a c. ReadAs (s .counts .keys) a c x) (s .run) (b .run) r a c q
+        putAt-both (λ (a : Run) (c : BookRun). ReadAs (s .counts .keys) (a .branch) (c .branch) x)
+        (s .run) (b .run) r a c q
         (λ z. has x (rw z at i)) (λ z. v .reads q h x (rw (same q z) at i))
 
 module _ {s : Store} {b : Book} {f : ℕ → List ReadSet} (v : Inv s b f) where

@@ -59,12 +59,13 @@ module _ (s : Store) (b : Book) (F : Follows s b) (r w S : ℕ) (hr : r < s .cou
   unfolding entry
   issued-sound =
       let K = s .counts .keys in
-      let G = F .run r hr in
+      let G = F .run r hr .branch in
+      let c = b .run r .branch in
       sound-issue K (s .counts .writers) (entry r w S b) (b .history) (F .sound) hw
       (λ d. test-low S K d hS) (mask-some K S hS some)
       (λ d j p.
-      let l = G .low d (and-left (b .run r .read d) (b .run r .snapshot d j) p) in
-      let u = G .closed .writes d j l (and-right (b .run r .read d) (b .run r .snapshot d j) p) in
+      let l = G .low d (and-left (c .read d) (c .snapshot d j) p) in
+      let u = G .closed .writes d j l (and-right (c .read d) (c .snapshot d j) p) in
       (l, u .0, u .1))
 
   -- The writer has one issue more, whose past is its own now,

@@ -45,8 +45,7 @@ module _ (s : Store) (b : Book) (r : ℕ) where
   copyRun = record {
     jobs = s .run r .jobs;
     job = s .run r .job;
-    read = b .run r .read;
-    snapshot = copySnapshot;
+    branch = record { read = b .run r .branch .read; snapshot = copySnapshot };
   }
 
   book-prepare : Follows s b → r < s .counts .runs
@@ -104,10 +103,12 @@ module _ {s : Store} {b : Book} {r : ℕ} (fine : Fine s) (F : Follows s b) (A :
   run-follows = record {
     jobs = refl;
     job = refl;
-    read = F .run r (A .run) .read;
-    low = F .run r (A .run) .low;
-    snapshot = λ k l. snapshot-related k l .0;
-    closed = snapshot-closed;
+    branch = record {
+      read = F .run r (A .run) .branch .read;
+      low = F .run r (A .run) .branch .low;
+      snapshot = λ k l. snapshot-related k l .0;
+      closed = snapshot-closed;
+    };
   }
 
 -- No job is done, so nothing is read.
@@ -116,8 +117,8 @@ none-read : {s : Store} {b : Book} {f : ℕ → List ReadSet} {r : ℕ} → Fine
 unfolding copyRun
 none-read {s} {b} {f} {r} fine v A a x i =
     let was-read = v .reads r (A .run) x i .keys in
-    let nothing : (k : ℕ) → k < s .counts .keys → b .run r .read k ≡ false =
-    λ k l. sym (v .follows .run r (A .run) .read k l) ∙ unread s r fine A k in
+    let nothing : (k : ℕ) → k < s .counts .keys → b .run r .branch .read k ≡ false =
+    λ k l. sym (v .follows .run r (A .run) .branch .read k l) ∙ unread s r fine A k in
     record {
       keys = was-read;
       version = λ k l p. clash (was-read k l p) (nothing k l);

@@ -16,7 +16,7 @@ use Rattle.masks.proofs.Bits.{test-or, test-low}
 use Rattle.model.specs.Store.{Store, withSites, withCache, withRun, withState, withJobDone}
 use Rattle.model.specs.Outcome.{brokenState}
 use Rattle.model.specs.Calls.{step}
-use Rattle.model.specs.Step.{stepSite, stepReads, stepCache, stepPlan, stepPull, stepMoved, stepCause, stepBroken, stepDone, stepRule}
+use Rattle.model.specs.Step.{stepBranch, stepSite, stepReads, stepCache, stepPlan, stepPull, stepMoved, stepCause, stepBroken, stepDone, stepRule}
 use Rattle.model.proofs.Steps.{Accepted, accepted, stepSnapshot-out, steppedRun}
 use Rattle.layout.proofs.KeptStep.{valid}
 use Rattle.layout.proofs.Follow.{Fine}
@@ -25,7 +25,7 @@ use Rattle.consistency.specs.Trace.{ReadSet, readNow, finish}
 use Rattle.consistency.specs.Claim.{first, later}
 use Rattle.consistency.proofs.Invariant.{RunFollows, ReadAs, Inv, Moves}
 use Rattle.consistency.proofs.Changing.{unless-moves, HasRead, inv-cache, inv-run}
-use Rattle.consistency.proofs.Stepped.{copyCache, copyRun, book-step, stepCache-related, stepCache-closed, stepSnapshot-related, stepSnapshot-closed, copySnapshot-out}
+use Rattle.consistency.proofs.Stepped.{copyBranch, copyCache, copyRun, book-step, stepCache-related, stepCache-closed, stepSnapshot-related, stepSnapshot-closed, copySnapshot-out}
 
 -- ---- a step that breaks its run
 
@@ -55,16 +55,11 @@ inv-state {s} {b} {f} v r n l =
         record {
           jobs = G .jobs;
           job = G .job;
-          read = G .read;
-          low = G .low;
-          snapshot = G .snapshot;
-          closed = G .closed;
+          branch = G .branch;
         }
 
     has : HasRead (s .counts .keys) (withState (s .run r) n) (b .run r) (f r)
-    has x i =
-        let R = v .reads r l x i in
-        record { keys = R .keys; version = R .version; copy = R .copy }
+    has = v .reads r l
 
 -- ---- a step that is done
 
@@ -84,31 +79,34 @@ module _ {s : Store} {b : Book} {f : ℕ → List ReadSet} {r j : ℕ} (fine : F
   unfolding withJobDone copyRun stepReads stepPlan
   stepped-follows =
       let F = v .follows in
-      let G = F .run r (a .run-in) in
+      let G = F .run r (a .run-in) .branch in
       let reads = s .run r .job j .reads in
       let job-reads = valid s r j fine a .reads in
       record {
         jobs = refl;
         job = refl;
-        read = λ k h. test-or (s .run r .read) reads k
-            ∙ ap (λ (c : Bool). c || testBit reads k) (G .read k h);
-        low = λ k p.
-            elim (or-cases (b .run r .read k) (testBit reads k) p) [
-              | inl q ↦ G .low k q
-              | inr q ↦ test-low reads (s .counts .keys) k job-reads q
-            ];
-        snapshot = λ k h. stepSnapshot-related fine F a k h .0;
-        closed = stepSnapshot-closed fine F a;
+        branch = record {
+          read = λ k h. test-or (stepBranch s r j .read) reads k
+              ∙ ap (λ (c : Bool). c || testBit reads k) (G .read k h);
+          low = λ k p.
+              elim (or-cases (copyBranch s b r j .read k) (testBit reads k) p) [
+                | inl q ↦ G .low k q
+                | inr q ↦ test-low reads (s .counts .keys) k job-reads q
+              ];
+          snapshot = λ k h. stepSnapshot-related fine F a k h .0;
+          closed = stepSnapshot-closed fine F a;
+        };
       }
 
   -- A key that was read is outside of C,
-  unmoved : (k : ℕ) → k < s .counts .keys → So (b .run r .read k) → stepPull s r j k ≡ false
+  unmoved : (k : ℕ) → k < s .counts .keys → So (copyBranch s b r j .read k)
+      → stepPull s r j k ≡ false
   unfolding stepMoved
   unmoved k h p =
-      elim (and-cases (stepPull s r j k) (testBit (s .run r .read) k)
+      elim (and-cases (stepPull s r j k) (testBit (stepBranch s r j .read) k)
       (any-none (s .counts .keys) (stepMoved s r j) n k h)) [
         | inl e ↦ e
-        | inr e ↦ clash (v .follows .run r (a .run-in) .read k h ∙ p) e
+        | inr e ↦ clash (v .follows .run r (a .run-in) .branch .read k h ∙ p) e
       ]
 
   -- so what earlier jobs have read is still so,
@@ -134,11 +132,12 @@ module _ {s : Store} {b : Book} {f : ℕ → List ReadSet} {r j : ℕ} (fine : F
   unfolding withBookRun withBookCaches
   next-book-run = putAt-same (b .run) r (copyRun s b r j)
 
-  now : ReadAs (s .counts .keys) (steppedRun s r j) (copyRun s b r j) (readNow r j next nextBook)
+  now : ReadAs (s .counts .keys) (steppedRun s r j .branch) (copyRun s b r j .branch)
+      (readNow r j next nextBook)
   unfolding readNow withJobDone copyRun stepReads
   now =
       rw (next-run, next-book-run) (record {
-        keys = λ k h p. or-right (b .run r .read k) p;
+        keys = λ k h p. or-right (copyBranch s b r j .read k) p;
         version = λ k h p. refl;
         copy = λ k h p. refl;
       })

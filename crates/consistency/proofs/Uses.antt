@@ -63,13 +63,13 @@ module _ (t : Trace) (H : HoldsAt t) where
 
   -- "only those sheets are held, and every need among them is met", on each card
   pub snapshot-within : (r : ℕ) → r < s .counts .runs → (k : ℕ) → k < K
-      → So (held (s .run r .snapshot k)) → So (planned (s .run r .jobs) (s .run r .job) k)
+      → So (held (s .run r .branch .snapshot k)) → So (planned (s .run r .jobs) (s .run r .job) k)
   snapshot-within r l = overlappingCut-within (versions W) K _ _ (H .holds .overlaps r l)
 
   pub snapshot-meets : (r : ℕ) → r < s .counts .runs → (k d : ℕ) → k < K → d < K
-      → So (planned (s .run r .jobs) (s .run r .job) d) → So (held (s .run r .snapshot k))
-      → So (dependency W k (s .run r .snapshot k) d)
-      → So (supersedes W d (s .run r .snapshot d) (s .run r .snapshot k .past d))
+      → So (planned (s .run r .jobs) (s .run r .job) d) → So (held (s .run r .branch .snapshot k))
+      → So (dependency W k (s .run r .branch .snapshot k) d)
+      → So (supersedes W d (s .run r .branch .snapshot d) (s .run r .branch .snapshot k .past d))
   snapshot-meets r l = overlappingCut-at (versions W) K _ _ (H .holds .overlaps r l)
 
   -- "A version on the desk is its copy counted": master, shelves, cards, what jobs have read
@@ -81,7 +81,7 @@ module _ (t : Trace) (H : HoldsAt t) where
   cache-counted = H .holds .caches
 
   pub snapshot-counted : (r : ℕ) → r < s .counts .runs → (k : ℕ) → k < K
-      → s .run r .snapshot k ≡ counted K h (t .book .run r .snapshot k)
+      → s .run r .branch .snapshot k ≡ counted K h (t .book .run r .branch .snapshot k)
   snapshot-counted = H .holds .snapshots
 
   pub read-counted : (r : ℕ) (x : ReadSet) → Among x (t .finished r) → (k : ℕ) → k < K

@@ -39,8 +39,8 @@ start z l = record { buffer = leaves (newOn l z) l; book = freshBook z; finished
 unfoldable pub readNow : ℕ → ℕ → Store → Book → ReadSet
 readNow r j s b = record {
   keys = testBit (b .run r .job j .reads);
-  version = s .run r .snapshot;
-  copy = b .run r .snapshot;
+  version = s .run r .branch .snapshot;
+  copy = b .run r .branch .snapshot;
 }
 
 -- A call answered ok, on what has been read: s and b are the store and the book after it.
