@@ -15,7 +15,7 @@ use Rattle.words.proofs.Lists.{upto-out}
 use Rattle.words.proofs.Stores.{sets-left, sets-behind}
 use Rattle.sizes.specs.declared.Counts.{Counts}
 use Rattle.sizes.specs.Bounds.{maxJobs, jobSize, readsOffset, upstreamOffset, jobsOffset, planOffset, planSize, snapshotOffset, runSize}
-use Rattle.model.specs.Store.{Run, noJob, noJobs, emptyPlace, freeRun}
+use Rattle.model.specs.Store.{Run, noJob, noJobs, emptyPlace, noBranch, freeRun}
 use Rattle.model.specs.Outcome.{openState}
 use Rattle.model.specs.Runs.{listedJob, listedCount, listedJobs, openedRun}
 use Rattle.layout.specs.Words.{jobsWords, placeWords, runWords}
@@ -78,9 +78,8 @@ started n = record {
   state = openState;
   jobs = n;
   done = 0;
-  read = 0;
   job = noJobs;
-  snapshot = emptyPlace;
+  branch = noBranch;
 }
 
 started-words : (z : Counts) (n : ℕ)
