@@ -163,7 +163,7 @@ fn save(words: &mut [u32], z: Counts, r: usize, w: usize, mask: u32) -> IssueNum
 fn read_mask(words: &[u32], z: Counts, r: usize) -> u32
     requires { ⌜ FormWith (now words) z ⌝ }
     requires { ⌜ r < z .runs ⌝ }
-    ensures { λ m. ⌜ m ≡ storeOf (now (words .entry)) .run r .read ⌝ }
+    ensures { λ m. ⌜ m ≡ storeOf (now (words .entry)) .run r .branch .read ⌝ }
 {
     let at = z.run_at(r);
     words[at + RunOffset::READ]
