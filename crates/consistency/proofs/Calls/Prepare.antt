@@ -12,7 +12,7 @@ use Rattle.model.specs.Store.{Run, Site, Store, planned, siteWith, withCaches, 
 use Rattle.model.specs.Prepare.{preparedCaches, usesSite, sitesMerged, siteCaches, prepareCause, prepareCaches, prepareSnapshot, prepareDone, prepareRule}
 use Rattle.model.specs.Calls.{prepare}
 use Rattle.model.proofs.Plans.{valid-out}
-use Rattle.layout.proofs.KeptPrepare.{Accepted, accepted, was, unread}
+use Rattle.layout.proofs.Rules.Prepare.{Accepted, accepted, was, unread}
 use Rattle.layout.proofs.Follow.{Fine}
 use Rattle.history.specs.Copies.{Copy, copies}
 use Rattle.history.specs.Book.{Book, BookRun, bookPrepare, bookRule, withBookRun, withBookCaches}

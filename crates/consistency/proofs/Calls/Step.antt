@@ -19,7 +19,7 @@ use Rattle.model.specs.Outcome.{brokenState}
 use Rattle.model.specs.Calls.{step}
 use Rattle.model.specs.Step.{stepSite, stepReads, stepCache, stepPlan, stepPull, stepMoved, stepCause, stepBroken, stepDone, stepRule}
 use Rattle.model.proofs.Steps.{Accepted, accepted, accepted-used, stepSnapshot-out, steppedRun}
-use Rattle.layout.proofs.KeptStep.{valid}
+use Rattle.layout.proofs.Rules.Step.{valid}
 use Rattle.layout.proofs.Follow.{Fine}
 use Rattle.history.specs.Book.{Book, BookRun, bookRule, withBookRun, withBookCaches}
 use Rattle.consistency.specs.Roles.{roleOf, isOn}
