@@ -1,5 +1,5 @@
 -- The invariant with one part changed, and on a fresh store.
--- unless-moves: a call that may be refused. HasRead: what a list of finished jobs has read.
+-- HasRead: what a list of finished jobs has read.
 -- inv-..: with a cache, all caches or a run changed; inv-anew: a run begun or freed.
 -- Assumes nothing.
 use mathlib.Core.Path.{_≡_, refl, sym, ap}
@@ -16,9 +16,6 @@ use Rattle.sizes.specs.declared.Counts.{Counts}
 use Rattle.model.specs.Algebra.{Place}
 use Rattle.model.specs.Version.{Version, zeroPast}
 use Rattle.model.specs.Store.{Run, Site, Store, fresh, withSites, withCache, withRun}
-use Rattle.model.specs.Outcome.{Outcome, unless}
-use Rattle.model.specs.Calls.{StoreCall}
-use Rattle.model.proofs.Outcomes.{unless-cases}
 use Rattle.history.specs.History.{saved}
 use Rattle.history.specs.Copies.{Copy, heldCopy, byWriter, counted}
 use Rattle.history.specs.Book.{BookRun, Book, freshBook, withBookCaches, withBookRun}
@@ -28,14 +25,8 @@ use Rattle.history.proofs.Counted.{counted-none, counted-unheld}
 use Rattle.consistency.specs.Trace.{ReadSet}
 use Rattle.consistency.specs.Claim.{Counted, Among}
 use Rattle.consistency.proofs.Closing.{empty-closed}
-use Rattle.consistency.proofs.Invariant.{RunFollows, Follows, ReadAs, Inv, Moves}
+use Rattle.consistency.proofs.Invariant.{RunFollows, Follows, ReadAs, Inv}
 use Rattle.consistency.proofs.Following.{free-follows, follows-caches, follows-cache, follows-run}
-
--- ---- a call that may be refused
-
-pub unless-moves : (c : StoreCall) (s : Store) (b : Book) (f : ℕ → List ReadSet) (n : ℕ)
-    (x : Outcome) → Inv s b f → (n ≡ 0 → Moves c s b f x) → Moves c s b f (unless n x)
-unless-moves c s b f n x v g = unless-cases (Moves c s b f) n x g (λ _. v)
 
 -- ---- what finished jobs have read
 

@@ -10,7 +10,7 @@ use Rattle.model.specs.Version.{versions}
 use Rattle.model.specs.Store.{Store, planned}
 use Rattle.model.specs.Step.{stepPlan, stepCache, stepRule}
 use Rattle.model.proofs.Steps.{Accepted}
-use Rattle.layout.proofs.KeptStep.{was}
+use Rattle.layout.proofs.Rules.Step.{was}
 use Rattle.layout.proofs.Follow.{Fine}
 use Rattle.history.specs.Book.{Book}
 use Rattle.consistency.specs.Claim.{BreakExact}

@@ -35,7 +35,8 @@ use Rattle.layout.specs.Calls.{Call, on, newCause, newOn, onStore, callOn, leav
 use Rattle.history.specs.History.{History, writerOf, saved, leads, inPast, HappensBefore.together}
 use Rattle.history.specs.Copies.{Copy, reaches, heldCopy, needsCopy, meetsCopy, union, lastIn, byWriter, counted}
 use Rattle.history.specs.Book.{freshBook, withBookCaches, withBookRun, bookOpen, bookStepJob, entry, bookIssue, bookIssued, bookRule, bookOk, bookStep}
-use Rattle.consistency.specs.Trace.{ReadSet, Trace, start, readNow, finish, advance, follow}
+use Rattle.consistency.specs.Roles.{roleOf}
+use Rattle.consistency.specs.Trace.{ReadSet, Trace, start, readNow, finishBy, finish, advance, follow}
 use Rattle.consistency.specs.Claim.{Snapshot, Pick, Pick.ofSnapshot, Pick.ofCache, pickOf, chosen, Works}
 
 -- ---- choices: which work, and which don't
@@ -149,7 +150,8 @@ unfolding anyBelow allBelow only foldBelow countBelow largest when putAt upto bl
     countsIn storeOf written headerRight shaped inForm newCause newOn onStore callOn leaves isOk
     writerOf leads inPast reaches heldCopy needsCopy meetsCopy union lastIn byWriter counted
     freshBook withBookCaches withBookRun bookOpen bookStepJob entry bookIssue bookIssued
-    bookRule bookOk bookStep start readNow finish advance follow needsMet pickOf chosen
+    bookRule bookOk bookStep start readNow roleOf finishBy finish advance follow needsMet pickOf
+    chosen
 computed = record {
   both = refl;
   breaks = refl;

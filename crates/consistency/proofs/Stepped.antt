@@ -13,7 +13,7 @@ use Rattle.model.specs.Store.{Store}
 use Rattle.model.specs.Step.{readStart, stepBranch, stepSite, stepReads, stepStart, stepCache, stepPlan, stepPull, stepSnapshot}
 use Rattle.model.proofs.Draws.{pulled-out}
 use Rattle.model.proofs.Steps.{Accepted, step-planned}
-use Rattle.layout.proofs.KeptStep.{site}
+use Rattle.layout.proofs.Rules.Step.{site}
 use Rattle.layout.proofs.Follow.{Fine}
 use Rattle.history.specs.Copies.{Copy, copies}
 use Rattle.history.specs.Book.{Book, BookBranch, BookRun, bookStepJob, withBookRun, withBookCaches}

@@ -23,7 +23,7 @@ use Rattle.layout.specs.Stored.{putPlace, putWriter, putRun}
 use Rattle.layout.specs.Buffer.{written}
 use Rattle.layout.proofs.Whole.{FitStore, store-fits, counts-back, store-back}
 use Rattle.layout.proofs.Fit.{fit-last, fit-writer}
-use Rattle.layout.proofs.KeptIssue.{taken-fits, rows-fit}
+use Rattle.layout.proofs.Rules.Issue.{taken-fits, rows-fit}
 use Rattle.layout.proofs.Updates.{put-last, put-master, put-writer, put-run}
 use Rattle.layout.proofs.Readings.{master-in, writer-in, snapshot-in}
 use Rattle.form.specs.Parts.{FormWith}

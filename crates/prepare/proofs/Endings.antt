@@ -25,7 +25,7 @@ use Rattle.layout.proofs.Readings.{snapshot-in}
 use Rattle.layout.proofs.Updates.{phase}
 use Rattle.layout.proofs.Follow.{form-fine}
 use Rattle.layout.proofs.Kept.{Kept}
-use Rattle.layout.proofs.KeptPrepare.{prepare-kept}
+use Rattle.layout.proofs.Rules.Prepare.{prepare-kept}
 use Rattle.form.proofs.Known.{form-counts, Ends, ends-refused, ends-done}
 use Rattle.trial.specs.Jobs.{UsedRun}
 use Rattle.prepare.specs.Turns.{fetchedJobs, mergedSites, merged}

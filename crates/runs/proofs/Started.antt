@@ -23,7 +23,7 @@ use Rattle.layout.specs.Reading.{readJob, readJobs, readRun}
 use Rattle.layout.proofs.Parts.{jobs-laws, run-laws}
 use Rattle.layout.proofs.Windows.{part-again, part-twice}
 use Rattle.layout.proofs.Readings.{job-at}
-use Rattle.layout.proofs.KeptOpen.{Listed, job-in, job-out}
+use Rattle.layout.proofs.Rules.Open.{Listed, job-in, job-out}
 use Rattle.layout.specs.Stored.{putRun}
 use Rattle.status.proofs.Copies.{put-list, sets-front}
 use Rattle.status.proofs.Freed.{no-jobs-words}

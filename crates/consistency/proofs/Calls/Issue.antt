@@ -1,6 +1,5 @@
--- Issue keeps the invariant: the book's history has one more issue, and the run is freed.
+-- The laws of issue: the book's history has one more issue, and the run is freed.
 -- issuedBook, issued-..: store and book with the new issue. writer-..: the writers.
--- issue-moves: the call.
 -- Assumes nothing.
 use mathlib.Core.Path.{_≡_, refl, sym, _∙_}
 use mathlib.Core.Bool.{false}
@@ -27,11 +26,13 @@ use Rattle.history.proofs.Past.{past-laws}
 use Rattle.history.proofs.Sounds.{sound-issue}
 use Rattle.history.proofs.Grown.{writer-count, other-count}
 use Rattle.history.proofs.Entered.{writer-past, other-past}
-use Rattle.consistency.specs.Trace.{ReadSet, finish}
+use Rattle.consistency.specs.Roles.{roleOf}
+use Rattle.consistency.specs.Trace.{ReadSet, finishBy, finish}
 use Rattle.consistency.proofs.Closing.{closed-grow}
 use Rattle.consistency.proofs.Invariant.{WriterFollows, Follows, Inv, Moves}
+use Rattle.consistency.proofs.Laws.{Laws, laws-unless}
 use Rattle.consistency.proofs.Following.{free-follows, follows-run}
-use Rattle.consistency.proofs.Changing.{unless-moves, nothing-read, inv-next, inv-anew}
+use Rattle.consistency.proofs.Changing.{nothing-read, inv-next, inv-anew}
 use Rattle.consistency.proofs.Issuing.{place-grow, run-grow, issuedCopies, issued-every, issued-writes, newPast-entered, issuedMaster-counted}
 
 -- ---- the book with the new issue, the run not yet freed
@@ -138,18 +139,26 @@ module _ (s : Store) (b : Book) (F : Follows s b) (r w S : ℕ) (hr : r < s .cou
 done-moves : (s : Store) (b : Book) (f : ℕ → List ReadSet) (r w S : ℕ) → Inv s b f
     → r < s .counts .runs → w < s .counts .writers → S < 2 ^ s .counts .keys
     → Moves (issue r w S) s b f (issueDone s r w S)
-unfolding issueDone issuedStore bookRule bookIssued finish
+unfolding issueDone issuedStore bookRule bookIssued finish finishBy roleOf
 done-moves s b f r w S v hr hw hS =
     test (eqb S 0)
     (λ y. rw y (inv-anew v r freeRun noRun (free-follows (s .counts .keys) (b .history)) hr))
     (λ n. rw (n, book-issued r w S b) (issued-inv s b (v .follows) r w S hr hw hS n f v))
 
-pub issue-moves : (r w S : ℕ) (s : Store) (b : Book) (f : ℕ → List ReadSet) → Fine s → Inv s b f
-    → Moves (issue r w S) s b f (issueRule r w S s)
-unfolding issueRule issueCause runCause
-issue-moves r w S s b f _ v =
-    unless-moves (issue r w S) s b f (issueCause s r w S) (issueDone s r w S) v (λ e.
+pub issue-laws : (r w S : ℕ) (s : Store) → Fine s → Laws (issue r w S) s (issueRule r w S s)
+unfolding issueRule issueCause runCause issueDone issuedStore savedStore withRun withMaster
+    withWriter withLast roleOf
+issue-laws r w S s _ =
+    laws-unless (issue r w S) s (issueCause s r w S) (issueDone s r w S) (λ e.
     let x = no-cause _ 3 _ (omega arith) e in
     let y = no-cause _ 3 _ (omega arith) (x .1) in
     let z = no-cause _ 3 _ (omega arith) (y .1) in
-    done-moves s b f r w S v (leb-gt _ _ (z .0)) (leb-gt _ _ (x .0)) (leb-gt _ _ (y .0)))
+    record {
+      moves = λ b f v.
+          done-moves s b f r w S v (leb-gt _ _ (z .0)) (leb-gt _ _ (x .0)) (leb-gt _ _ (y .0));
+      turns = record {
+        run = freeRun;
+        how = refl;
+        put = test (eqb S 0) (λ t. rw t refl) (λ t. rw t refl);
+      };
+    })

@@ -1,4 +1,4 @@
--- A step keeps the invariant of store, book and reads: step-moves.
+-- The laws of step.
 -- inv-state: where it breaks its run. done-moves: where it is done.
 -- Assumes nothing.
 use mathlib.Core.Path.{_≡_, refl, sym, ap, _∙_}
@@ -6,9 +6,10 @@ use mathlib.Core.Bool.{Bool, false, So, _||_}
 use mathlib.Core.Logic.{inl, inr}
 use mathlib.Core.List.{List, _∷_}
 use Prim.Native.Nat.{ℕ, _<_}
+use native.Mathlib.Omega.{arith}
 use Rattle.words.specs.Tests.{anyBelow}
 use Rattle.words.specs.Lists.{putAt}
-use Rattle.words.proofs.Bools.{test, clash, and-cases, or-left, or-right, or-cases}
+use Rattle.words.proofs.Bools.{test, clash, eq-eqb, and-cases, or-left, or-right, or-cases}
 use Rattle.words.proofs.Tests.{any-none}
 use Rattle.words.proofs.Lists.{putAt-same, putAt-other, putAt-itself}
 use Rattle.masks.specs.Mask.{testBit}
@@ -17,14 +18,16 @@ use Rattle.model.specs.Store.{Store, withSites, withCache, withRun, withState, 
 use Rattle.model.specs.Outcome.{brokenState}
 use Rattle.model.specs.Calls.{step}
 use Rattle.model.specs.Step.{stepBranch, stepSite, stepReads, stepCache, stepPlan, stepPull, stepMoved, stepCause, stepBroken, stepDone, stepRule}
-use Rattle.model.proofs.Steps.{Accepted, accepted, stepSnapshot-out, steppedRun}
-use Rattle.layout.proofs.KeptStep.{valid}
+use Rattle.model.proofs.Steps.{Accepted, accepted, accepted-used, stepSnapshot-out, steppedRun}
+use Rattle.layout.proofs.Rules.Step.{valid}
 use Rattle.layout.proofs.Follow.{Fine}
 use Rattle.history.specs.Book.{Book, BookRun, bookRule, withBookRun, withBookCaches}
-use Rattle.consistency.specs.Trace.{ReadSet, readNow, finish}
+use Rattle.consistency.specs.Roles.{roleOf, isOn}
+use Rattle.consistency.specs.Trace.{ReadSet, readNow, finishBy, finish}
 use Rattle.consistency.specs.Claim.{first, later}
 use Rattle.consistency.proofs.Invariant.{RunFollows, ReadAs, Inv, Moves}
-use Rattle.consistency.proofs.Changing.{unless-moves, HasRead, inv-cache, inv-run}
+use Rattle.consistency.proofs.Laws.{works, Laws, laws-unless}
+use Rattle.consistency.proofs.Changing.{HasRead, inv-cache, inv-run}
 use Rattle.consistency.proofs.Stepped.{copyBranch, copyCache, copyRun, book-step, stepCache-related, stepCache-closed, stepSnapshot-related, stepSnapshot-closed, copySnapshot-out}
 
 -- ---- a step that breaks its run
@@ -158,15 +161,23 @@ module _ {s : Store} {b : Book} {f : ℕ → List ReadSet} {r j : ℕ} (fine : F
       read x (later i) = still x i
 
   done-moves : Moves (step r j) s b f (stepDone s r j)
-  unfolding stepDone bookRule finish
+  unfolding stepDone bookRule finish finishBy roleOf
   done-moves = rw (book-step s b r j (v .follows) (a .run-in)) done-inv
 
-pub step-moves : (r j : ℕ) (s : Store) (b : Book) (f : ℕ → List ReadSet) → Fine s → Inv s b f
-    → Moves (step r j) s b f (stepRule r j s)
-unfolding stepRule stepBroken
-step-moves r j s b f fine v =
-    unless-moves (step r j) s b f (stepCause s r j) _ v (λ e.
+-- Broken or done, its run was in use and goes on.
+pub step-laws : (r j : ℕ) (s : Store) → Fine s → Laws (step r j) s (stepRule r j s)
+unfolding stepRule stepBroken stepDone withRun withCache withSites withState withJobDone roleOf
+    isOn
+step-laws r j s fine =
+    laws-unless (step r j) s (stepCause s r j) _ (λ e.
     let a = accepted s r j e in
+    let used = accepted-used a in
     test (anyBelow (s .counts .keys) (stepMoved s r j))
-    (λ t. rw t (inv-state v r brokenState (a .run-in)))
-    (λ t. rw t (done-moves fine v a t)))
+    (λ t. rw t (record {
+      moves = λ b f v. inv-state v r brokenState (a .run-in);
+      turns = (r, eq-eqb r r refl, works r _ _ used (omega arith) refl refl);
+    }))
+    (λ t. rw t (record {
+      moves = λ b f v. done-moves fine v a t;
+      turns = works r _ _ used used refl refl;
+    })))

@@ -1,4 +1,4 @@
--- Prepare keeps the invariant of store, book and reads: prepare-moves.
+-- The laws of prepare.
 -- copyCaches, copySnapshot, copyRun: the book's; book-prepare: they are.
 -- ..-related: the store's stand for them. ..-closed, caches-cuts: they are cuts.
 -- Assumes nothing.
@@ -8,23 +8,25 @@ use mathlib.Core.List.{List}
 use Prim.Native.Nat.{ℕ, _<_}
 use Rattle.words.proofs.Bools.{clash}
 use Rattle.model.specs.Algebra.{Place}
-use Rattle.model.specs.Store.{Run, Site, Store, planned, siteWith, withCaches, withSites, withSnapshot}
+use Rattle.model.specs.Store.{Run, Site, Store, planned, siteWith, withCaches, withSites, withRun, withSnapshot}
 use Rattle.model.specs.Prepare.{preparedCaches, usesSite, sitesMerged, siteCaches, prepareCause, prepareCaches, prepareSnapshot, prepareDone, prepareRule}
 use Rattle.model.specs.Calls.{prepare}
 use Rattle.model.proofs.Plans.{valid-out}
-use Rattle.layout.proofs.KeptPrepare.{Accepted, accepted, was, unread}
+use Rattle.layout.proofs.Rules.Prepare.{Accepted, accepted, was, unread}
 use Rattle.layout.proofs.Follow.{Fine}
 use Rattle.history.specs.Copies.{Copy, copies}
 use Rattle.history.specs.Book.{Book, BookRun, bookPrepare, bookRule, withBookRun, withBookCaches}
 use Rattle.history.proofs.Notions.{ClosedIn}
-use Rattle.consistency.specs.Trace.{ReadSet, finish}
+use Rattle.consistency.specs.Roles.{roleOf}
+use Rattle.consistency.specs.Trace.{ReadSet, finishBy, finish}
 use Rattle.consistency.proofs.Simulation.{Related}
 use Rattle.consistency.proofs.SimulationPrepare.{SitesBelow, RelatedSites, preparedCaches-rel, sitesMerged-rel}
 use Rattle.consistency.proofs.ClosingPrepare.{CutsWithin, sitesMerged-closed, preparedCaches-cuts}
 use Rattle.consistency.proofs.Counting.{CountedAs}
 use Rattle.consistency.proofs.Invariant.{RunFollows, Follows, Inv, Moves}
+use Rattle.consistency.proofs.Laws.{works, Laws, laws-unless}
 use Rattle.consistency.proofs.Following.{now-simulates, master-closed, master-related, cache-related, cache-part}
-use Rattle.consistency.proofs.Changing.{unless-moves, HasRead, inv-caches, inv-run}
+use Rattle.consistency.proofs.Changing.{HasRead, inv-caches, inv-run}
 
 -- ---- the book's caches and run r after prepare, with the store's counts and jobs
 
@@ -127,7 +129,7 @@ none-read {s} {b} {f} {r} fine v A a x i =
 
 done-moves : {s : Store} {b : Book} {f : ℕ → List ReadSet} {r : ℕ} → Fine s → Inv s b f
     → Accepted s r → Moves (prepare r) s b f (prepareDone s r)
-unfolding prepareDone bookRule finish withCaches withSites withBookCaches
+unfolding prepareDone bookRule finish finishBy roleOf withCaches withSites withBookCaches
 done-moves {s} {b} {f} {r} fine v A =
     let F = v .follows in
     let after = withSnapshot (s .run r) (prepareSnapshot s r) in
@@ -138,9 +140,12 @@ done-moves {s} {b} {f} {r} fine v A =
     (inv-run w f r after (copyRun s b r) (run-follows fine F A) (A .run) (λ _ _. refl)
     (none-read fine v A after))
 
-pub prepare-moves : (r : ℕ) (s : Store) (b : Book) (f : ℕ → List ReadSet) → Fine s → Inv s b f
-    → Moves (prepare r) s b f (prepareRule r s)
-unfolding prepareRule
-prepare-moves r s b f fine v =
-    unless-moves (prepare r) s b f (prepareCause s r) (prepareDone s r) v
-    (λ e. done-moves fine v (accepted s r e))
+pub prepare-laws : (r : ℕ) (s : Store) → Fine s → Laws (prepare r) s (prepareRule r s)
+unfolding prepareRule prepareDone withRun withCaches withSites withSnapshot roleOf
+prepare-laws r s fine =
+    laws-unless (prepare r) s (prepareCause s r) (prepareDone s r) (λ e.
+    let A = accepted s r e in
+    record {
+      moves = λ b f v. done-moves fine v A;
+      turns = works r _ _ (A .state) (A .state) refl refl;
+    })
