@@ -32,6 +32,8 @@ P
 # raised
 swap numbers lib.rt 'issue: number,' 'issue: made,'
 swap issue lib.rt 'raised(old.issue, old.count)' 'raised(old.count, old.issue)'
+swap issue lib.rt 'old.issue.is_last()' 'old.count.is_last()'
+swap issue lib.rt 'old.count.is_full()' 'old.issue.is_full()'
 # read
 swap issue lib.rt 'let issue = last_issue(words);' 'let issue = count_at(words, 4);'
 swap issue lib.rt 'let count = count_at(words, at);' 'let count = numbers::version_issue(words, at);'

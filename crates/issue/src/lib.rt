@@ -139,7 +139,7 @@ fn raise_cause(words: &[u32], z: Counts, w: usize) -> u32
     if old.issue.is_last() {
         return 9;
     }
-    if old.count.is_last() {
+    if old.count.is_full() {
         return 10;
     }
     0
