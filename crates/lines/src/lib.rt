@@ -1,6 +1,5 @@
 // The program's lines: a call read from one.
 use command::Command;
-use command::Question;
 use text::Count;
 ghost use mathlib.Core.Path.{_≡_};
 ghost use Prim.Native.Nat.{_≤_, _<_};
@@ -9,6 +8,7 @@ ghost use mathlib.Core.Bool.{So};
 ghost use mathlib.Core.Option.{some};
 ghost use Rattle.command.specs.Commands.{spelled, numbersEnd};
 ghost use Rattle.lines.specs.Grammar.{maxLine, forms, formOf, formAt, takes, calling, asked, lineCall};
+ghost use Rattle.lines.specs.Rows.{isRow, agree};
 
 // How long a line may be.
 pub struct Longest {}
@@ -79,13 +79,29 @@ const ROWS: [Row; 9] = [
     },
 ];
 
+// The table: each command's row is that of its form.
+fn rows() -> [Row; 9]
+    ensures { λ r. ⌜ So (agree r) ⌝ }
+{
+    ROWS
+}
+
+// A command's row.
+fn row_at(number: usize) -> Row
+    requires { ⌜ number < length forms ⌝ }
+    ensures { λ r. ⌜ So (isRow (formAt forms number) r) ⌝ }
+{
+    let rows = rows();
+    rows[number]
+}
+
 // The number of a command's word; of any other word, how many commands there are.
 fn command_number(word: &[u8]) -> usize
     ensures { λ r. ⌜ formAt forms r ≡ formOf forms (now (word .entry)) ⌝ }
 {
     let mut i = 0;
     while i < ROWS.len() {
-        let row = ROWS[i];
+        let row = row_at(i);
         if text::is_first(word, &row.word) {
             return i;
         }
@@ -101,7 +117,7 @@ fn has_count(number: usize, n: usize) -> bool
     if ROWS.len() <= number {
         return false;
     }
-    let row = ROWS[number];
+    let row = row_at(number);
     (row.least <= n) & (n <= row.most)
 }
 
@@ -134,7 +150,7 @@ fn command_of(number: usize, numbers: &[u32], n: usize) -> Command
         5 => Command::Step(a, b),
         6 => Command::Issue(a, b, c),
         7 => Command::Drop(a),
-        8 => Command::Ask(Question(a, b, c)),
+        8 => Command::Look(a, b, c),
         _ => Command::Unread,
     }
 }
