@@ -192,13 +192,7 @@ pub fn look(store: &[u32], ready: bool, place: u32, number: u32, key: u32, out: 
 // ---- by a command
 
 // Makes the call of a command.
-fn make(
-    store: &mut [u32],
-    ready: bool,
-    command: Command,
-    numbers: &[u32],
-    out: &mut [u32],
-) -> u32
+fn make(store: &mut [u32], ready: bool, command: Command, numbers: &[u32], out: &mut [u32]) -> u32
     requires { ⌜ ready ≡ inForm (now store) ⌝ }
     requires { ⌜ numbersEnd command ≤ length (now numbers) ⌝ }
     requires { ⌜ answerRoom ≤ length (now out) ⌝ }

@@ -30,8 +30,11 @@ struct Row {
     most: usize,
 }
 
+// How many commands there are.
+const COMMANDS: usize = 9;
+
 // The commands: a command's number is its row's. Document 01's nine, then the later ones.
-const ROWS: [Row; 9] = [
+const ROWS: [Row; COMMANDS] = [
     Row {
         word: *b"new     ",
         least: 4,
@@ -80,7 +83,7 @@ const ROWS: [Row; 9] = [
 ];
 
 // The table: each command's row is that of its form.
-fn rows() -> [Row; 9]
+fn rows() -> [Row; COMMANDS]
     ensures { λ r. ⌜ So (agree r) ⌝ }
 {
     ROWS
@@ -100,7 +103,7 @@ fn command_number(word: &[u8]) -> usize
     ensures { λ r. ⌜ formAt forms r ≡ formOf forms (now (word .entry)) ⌝ }
 {
     let mut i = 0;
-    while i < ROWS.len() {
+    while i < COMMANDS {
         let row = row_at(i);
         if text::is_first(word, &row.word) {
             return i;
@@ -114,7 +117,7 @@ fn command_number(word: &[u8]) -> usize
 fn has_count(number: usize, n: usize) -> bool
     ensures { λ r. ⌜ r ≡ takes (formAt forms number) n ⌝ }
 {
-    if ROWS.len() <= number {
+    if COMMANDS <= number {
         return false;
     }
     let row = row_at(number);
@@ -129,7 +132,19 @@ fn number_at(numbers: &[u32], n: usize, i: usize) -> u32
     if i < n { numbers[i] } else { 0 }
 }
 
-// A command of document 01, with the first n of the numbers.
+// A command after document 01's nine, with the first n of the numbers: there is none yet.
+fn later_command(number: usize, numbers: &[u32], n: usize) -> Command
+    requires { ⌜ 9 ≤ number ⌝ }
+    requires { ⌜ So (takes (formAt forms number) n) ⌝ }
+    requires { ⌜ n ≤ length (now numbers) ⌝ }
+    ensures { λ r. ⌜ spelled r (now (numbers .entry))
+        ≡ calling (formAt forms number) (take n (now (numbers .entry))) ⌝ }
+    ensures { λ r. ⌜ numbersEnd r ≤ length (now (numbers .entry)) ⌝ }
+{
+    Command::Unread
+}
+
+// A command with the first n of the numbers, of which it takes so many.
 fn command_of(number: usize, numbers: &[u32], n: usize) -> Command
     requires { ⌜ So (takes (formAt forms number) n) ⌝ }
     requires { ⌜ n ≤ length (now numbers) ⌝ }
@@ -151,7 +166,7 @@ fn command_of(number: usize, numbers: &[u32], n: usize) -> Command
         6 => Command::Issue(a, b, c),
         7 => Command::Drop(a),
         8 => Command::Look(a, b, c),
-        _ => Command::Unread,
+        _ => later_command(number, numbers, n),
     }
 }
 

@@ -12,7 +12,8 @@ put-answered-requires c κs = search needs
 narrow-requires : tie.Need-narrow-requires
 narrow-requires c κs =
     let r = c .before .before .put-answered .ensures in
-    let f = few-answered (c .before .before .before .before .before .args .r) in omega (arith, r .count, f)
+    let f = few-answered (c .before .before .before .before .before .args .r) in
+    omega (arith, r .count, f)
 
 same-length : tie.Need-same-length
 same-length c = search needs

@@ -13,8 +13,10 @@ use Rattle.calls.proofs.look.Tie as tie
 returns : tie.Need-returns
 returns c =
     let i = c .before .before .before .before in
-    export-not _ _ _ _ (i .before .before .before .before .before .pre) (i .before .admitted .ensures) _ _ _
-    (not-true _ (i .if1 .taken)) (c .before .before .turn-down .ensures)
+    let g = i .before in
+    let s = g .before .before .before .before in
+    export-not _ _ _ _ (s .pre) (g .admitted .ensures) _ _ _ (not-true _ (i .if1 .taken))
+    (c .before .before .turn-down .ensures)
 
 look-requires : tie.Need-look-requires
 look-requires c κs =
@@ -31,7 +33,8 @@ put-looked-requires c κs =
     let y = not-false _ (i .if1 .left) in
     let F = admitted-form l a _ _ (s .pre) (i .before .admitted .ensures) y in
     let e = c .before .look .ensures in
-    (admitted-room l a _ _ (s .pre) (i .before .admitted .ensures) y, row-lies l _ _ _ _ F (e .0) (e .1))
+    let h = admitted-room l a _ _ (s .pre) (i .before .admitted .ensures) y in
+    (h, row-lies l _ _ _ _ F (e .0) (e .1))
 
 narrow-requires : tie.Need-narrow-requires
 narrow-requires c κs =

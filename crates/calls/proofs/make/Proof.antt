@@ -44,7 +44,8 @@ unfolding Made
 returns-2 c =
     let e = c .before .before .before .before in
     let x = e .before .before .before .before in
-    rw (x .command .given .1) (e .new .ensures .does (x .before .before .before .before .before .pre .1 .1))
+    let s = x .before .before .before .before .before in
+    rw (x .command .given .1) (e .new .ensures .does (s .pre .1 .1))
 
 returns-3 : tie.Need-returns-3
 unfolding Made
@@ -53,59 +54,66 @@ returns-3 c =
     let x = e .before .before .before .before .before in
     let i = x .command2 .given .0 .1 .0 in
     let n = x .command2 .given .0 .1 .1 .0 in
+    let s = x .before .before .before .before .before in
     let whole : i + n - i ≡ n = omega arith in
     rw (x .command2 .given .1)
-    (does-open _ _ _ _ _ _ _ _ _ whole (e .«open» .ensures .does (x .before .before .before .before .before .pre .1 .1)))
+    (does-open _ _ _ _ _ _ _ _ _ whole (e .«open» .ensures .does (s .pre .1 .1)))
 
 returns-4 : tie.Need-returns-4
 unfolding Made
 returns-4 c =
     let e = c .before .before .before .before in
     let x = e .before .before .before .before in
-    rw (x .command3 .given .1) (e .fetch .ensures .does (x .before .before .before .before .before .pre .1 .1))
+    let s = x .before .before .before .before .before in
+    rw (x .command3 .given .1) (e .fetch .ensures .does (s .pre .1 .1))
 
 returns-5 : tie.Need-returns-5
 unfolding Made
 returns-5 c =
     let e = c .before .before .before .before in
     let x = e .before .before .before .before in
-    rw (x .command4 .given .1) (e .evict .ensures .does (x .before .before .before .before .before .pre .1 .1))
+    let s = x .before .before .before .before .before in
+    rw (x .command4 .given .1) (e .evict .ensures .does (s .pre .1 .1))
 
 returns-6 : tie.Need-returns-6
 unfolding Made
 returns-6 c =
     let e = c .before .before .before .before in
     let x = e .before .before .before .before in
-    rw (x .command5 .given .1) (e .prepare .ensures .does (x .before .before .before .before .before .pre .1 .1))
+    let s = x .before .before .before .before .before in
+    rw (x .command5 .given .1) (e .prepare .ensures .does (s .pre .1 .1))
 
 returns-7 : tie.Need-returns-7
 unfolding Made
 returns-7 c =
     let e = c .before .before .before .before in
     let x = e .before .before .before .before in
-    rw (x .command6 .given .1) (e .step .ensures .does (x .before .before .before .before .before .pre .1 .1))
+    let s = x .before .before .before .before .before in
+    rw (x .command6 .given .1) (e .step .ensures .does (s .pre .1 .1))
 
 returns-8 : tie.Need-returns-8
 unfolding Made
 returns-8 c =
     let e = c .before .before .before .before in
     let x = e .before .before .before .before in
-    rw (x .command7 .given .1) (e .issue .ensures .does (x .before .before .before .before .before .pre .1 .1))
+    let s = x .before .before .before .before .before in
+    rw (x .command7 .given .1) (e .issue .ensures .does (s .pre .1 .1))
 
 returns-9 : tie.Need-returns-9
 unfolding Made
 returns-9 c =
     let e = c .before .before .before .before in
     let x = e .before .before .before .before in
-    rw (x .command8 .given .1) (e .drop .ensures .does (x .before .before .before .before .before .pre .1 .1))
+    let s = x .before .before .before .before .before in
+    rw (x .command8 .given .1) (e .drop .ensures .does (s .pre .1 .1))
 
 returns-10 : tie.Need-returns-10
 unfolding Made
 returns-10 c =
     let e = c .before .before in
     let x = e .before .before .before .before in
-    rw (x .command9 .given .1)
-    (e .look .ensures .does (x .before .before .before .before .before .pre .1 .1))
+    let s = x .before .before .before .before .before in
+    rw (x .command9 .given .1) (e .look .ensures .does (s .pre .1 .1))
 
 pub make-spec : {M : Type 1} → statement M
 make-spec =

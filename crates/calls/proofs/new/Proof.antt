@@ -10,9 +10,10 @@ returns c = export-short _ _ _ (c .if1 .taken)
 
 returns-2 : tie.Need-returns-2
 returns-2 c =
-    let k = c .before .before .before .before .before .before .new .ensures in
-    export-done _ _ _ _ _ _ _ (c .before .before .before .before .before .before .before .before .if1 .left) (k .0) (k .1) (c .before .before .lay .ensures)
-    (few-answered _)
+    let k = c .before .before .before .before .before .before in
+    let e = k .new .ensures in
+    let h = k .before .before .if1 .left in
+    export-done _ _ _ _ _ _ _ h (e .0) (e .1) (c .before .before .lay .ensures) (few-answered _)
 
 pub new-spec : {M : Type 1} → statement M
 new-spec =
