@@ -28,13 +28,13 @@ export-done c l m a b n h d = record {
 }
 
 pub short-as : (o : Option Call) (l a : List ℕ) → length a < answerRoom → ExportedAs o l l a a 0
-short-as none l a h = tt
+short-as none l a h = (refl, refl, refl)
 short-as (some c) l a h = export-short c l a h
 
 pub done-as : (o : Option Call) (l m a b : List ℕ) (n : ℕ) → answerRoom ≤ length a
     → Made o l m a b n → ExportedAs o l m a b n
 unfolding Made
-done-as none l m a b n h d = tt
+done-as none l m a b n h d = (d .2, d .0, d .1)
 done-as (some c) l m a b n h d = export-done c l m a b n h d
 
 -- An open with all of the lent words.

@@ -16,6 +16,7 @@ pub record Exported (c : Call) (l m a b : List ℕ) (n : ℕ) : Type 0 where
   pub does : answerRoom ≤ length a → Does c l m a b n
   pub short : length a < answerRoom → (n ≡ 0) × (m ≡ l) × (b ≡ a)
 
+-- No call: nothing is done, and 0 is answered.
 abbrev pub ExportedAs : Option Call → List ℕ → List ℕ → List ℕ → List ℕ → ℕ → Type 0
-ExportedAs none l m a b n = Unit
+ExportedAs none l m a b n = (n ≡ 0) × (m ≡ l) × (b ≡ a)
 ExportedAs (some c) l m a b n = Exported c l m a b n
