@@ -19,7 +19,7 @@ use Rattle.model.specs.Version.{Version, held, unheld, versions}
 use Rattle.model.specs.Sets.{draws, pulled}
 use Rattle.model.specs.Store.{Store}
 use Rattle.model.specs.Outcome.{Outcome, refused, broken, done, told, unless}
-use Rattle.model.specs.Step.{stepRule, stepReads, stepCache, stepPlan, stepPull, stepSnapshot, stepMoved, stepCause, stepBroken, stepDone}
+use Rattle.model.specs.Step.{stepRule, stepBranch, stepReads, stepCache, stepPlan, stepPull, stepSnapshot, stepMoved, stepCause, stepBroken, stepDone}
 use Rattle.model.proofs.Outcomes.{unless-cases}
 use Rattle.model.proofs.Merges.{merge-right}
 use Rattle.model.proofs.Needs.{dependency-mono, supersedes-iff, supersedes-trans}
@@ -33,10 +33,10 @@ use Rattle.consistency.specs.Claim.{Pick, Pick.ofSnapshot, Pick.ofCache,
 -- fetch a causal cut, and each read key is on the snapshot.
 pub record Ready (s : Store) (r j : ℕ) : Type 0 where
   pub overlaps : So (overlappingCut (versions (s .counts .writers)) (s .counts .keys)
-      (stepPlan s r j) (s .run r .snapshot))
+      (stepPlan s r j) (stepBranch s r j .snapshot))
   pub cut : So (causalCut (versions (s .counts .writers)) (s .counts .keys) (stepCache s r j))
-  pub on-snapshot : (k : ℕ) → k < s .counts .keys → So (testBit (s .run r .read) k)
-      → So (held (s .run r .snapshot k))
+  pub on-snapshot : (k : ℕ) → k < s .counts .keys → So (testBit (stepBranch s r j .read) k)
+      → So (held (stepBranch s r j .snapshot k))
 
 -- ---- a choice that works takes all of C from the cache
 
@@ -65,7 +65,7 @@ module _ (s : Store) (r j : ℕ) where
   K = s .counts .keys
 
   abbrev snapshot : Place Version
-  snapshot = s .run r .snapshot
+  snapshot = stepBranch s r j .snapshot
 
   abbrev plan : Items
   plan = stepPlan s r j
@@ -134,12 +134,13 @@ module _ (s : Store) (r j : ℕ) where
 
     -- A read key stays as it was, so it isn't in C.
     works-unmoved : Accepted s r j → Works s r j pick → (k : ℕ) → k < K → So (stepPull s r j k)
-        → testBit (s .run r .read) k ≡ false
+        → testBit (stepBranch s r j .read) k ≡ false
     unfolding stepPull
     works-unmoved a w k l p =
         let reads = stepReads s r j in
         let x = taken a w (pullSet-reached (versions W) K plan snapshot cache reads k l p) in
-        test (testBit (s .run r .read) k) (λ y. absurd (x .other (w .keeps k l y))) (λ n. n)
+        test (testBit (stepBranch s r j .read) k) (λ y. absurd (x .other (w .keeps k l y)))
+        (λ n. n)
 
   -- ---- where C has no read key, what the step leaves is a choice that works
 
@@ -164,12 +165,12 @@ module _ (s : Store) (r j : ℕ) where
           rw (chosen-merging k (step-planned s r j k (a .job-in) p))
           (stepSnapshot-held s r j a k l p)
 
-      keeps : (k : ℕ) → k < K → So (testBit (s .run r .read) k)
+      keeps : (k : ℕ) → k < K → So (testBit (stepBranch s r j .read) k)
           → chosen s r j merging k ≡ snapshot k
       keeps k l p =
           let h = x .on-snapshot k l p in
           let q = overlappingCut-within (versions W) K plan snapshot (x .overlaps) k l h in
-          elim (and-cases (stepPull s r j k) (testBit (s .run r .read) k)
+          elim (and-cases (stepPull s r j k) (testBit (stepBranch s r j .read) k)
           (any-none K (stepMoved s r j) n k l)) [
             | inl e ↦ chosen-merging k q ∙ stepSnapshot-out s r j k e
             | inr e ↦ clash p e
@@ -210,7 +211,7 @@ module _ (s : Store) (r j : ℕ) where
             λ p w.
                 let m = any-some K moved (broken-moved c ∙˙ p) in
                 let pull = stepPull s r j (m .0) in
-                let read = testBit (s .run r .read) (m .0) in
+                let read = testBit (stepBranch s r j .read) (m .0) in
                 clash (and-right pull read (m .2))
                 (works-unmoved (w .0) a (w .1) (m .0) (m .1) (and-left pull read (m .2))),
             λ g. broken-moved c ∙ test (anyBelow K moved) (λ y. y)

@@ -1,5 +1,5 @@
 -- The invariant with one part changed, and on a fresh store.
--- unless-moves: a call that may be refused. HasRead: what a list of finished jobs has read.
+-- HasRead: what a list of finished jobs has read.
 -- inv-..: with a cache, all caches or a run changed; inv-anew: a run begun or freed.
 -- Assumes nothing.
 use mathlib.Core.Path.{_≡_, refl, sym, ap}
@@ -16,9 +16,6 @@ use Rattle.sizes.specs.declared.Counts.{Counts}
 use Rattle.model.specs.Algebra.{Place}
 use Rattle.model.specs.Version.{Version, zeroPast}
 use Rattle.model.specs.Store.{Run, Site, Store, fresh, withSites, withCache, withRun}
-use Rattle.model.specs.Outcome.{Outcome, unless}
-use Rattle.model.specs.Calls.{StoreCall}
-use Rattle.model.proofs.Outcomes.{unless-cases}
 use Rattle.history.specs.History.{saved}
 use Rattle.history.specs.Copies.{Copy, heldCopy, byWriter, counted}
 use Rattle.history.specs.Book.{BookRun, Book, freshBook, withBookCaches, withBookRun}
@@ -28,19 +25,13 @@ use Rattle.history.proofs.Counted.{counted-none, counted-unheld}
 use Rattle.consistency.specs.Trace.{ReadSet}
 use Rattle.consistency.specs.Claim.{Counted, Among}
 use Rattle.consistency.proofs.Closing.{empty-closed}
-use Rattle.consistency.proofs.Invariant.{RunFollows, Follows, ReadAs, Inv, Moves}
+use Rattle.consistency.proofs.Invariant.{RunFollows, Follows, ReadAs, Inv}
 use Rattle.consistency.proofs.Following.{free-follows, follows-caches, follows-cache, follows-run}
-
--- ---- a call that may be refused
-
-pub unless-moves : (c : StoreCall) (s : Store) (b : Book) (f : ℕ → List ReadSet) (n : ℕ)
-    (x : Outcome) → Inv s b f → (n ≡ 0 → Moves c s b f x) → Moves c s b f (unless n x)
-unless-moves c s b f n x v g = unless-cases (Moves c s b f) n x g (λ _. v)
 
 -- ---- what finished jobs have read
 
 abbrev pub HasRead : ℕ → Run → BookRun → List ReadSet → Type 0
-HasRead K a c xs = (x : ReadSet) → Among x xs → ReadAs K a c x
+HasRead K a c xs = (x : ReadSet) → Among x xs → ReadAs K (a .branch) (c .branch) x
 
 pub none-among {ℓ} : {X : Type ℓ} {x : ReadSet} → Among x [] → X
 none-among a = elim a [ ]
@@ -63,9 +54,10 @@ inv-next {s} {b} {f} t d g r a c v F e er ed l same has = record {
 }
   where
     reads : (q : ℕ) → q < s .counts .runs → (x : ReadSet) → Among x (g q)
-        → ReadAs (s .counts .keys) (putAt (s .run) r a q) (putAt (b .run) r c q) x
+        → ReadAs (s .counts .keys) (putAt (s .run) r a q .branch) (putAt (b .run) r c q .branch) x
     reads q h x i =
-        putAt-both (λ a c. ReadAs (s .counts .keys) a c x) (s .run) (b .run) r a c q
+        putAt-both (λ (a : Run) (c : BookRun). ReadAs (s .counts .keys) (a .branch) (c .branch) x)
+        (s .run) (b .run) r a c q
         (λ z. has x (rw z at i)) (λ z. v .reads q h x (rw (same q z) at i))
 
 module _ {s : Store} {b : Book} {f : ℕ → List ReadSet} (v : Inv s b f) where

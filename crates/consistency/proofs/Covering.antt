@@ -21,7 +21,7 @@ pub record EveryRow (s : Store) (P : ℕ → Clock → Type 0) : Type 0 where
   pub cache : (o k d : ℕ) → o < s .counts .sites → k < s .counts .keys
       → P d (s .site o .cache k .past d)
   pub snapshot : (r k d : ℕ) → r < s .counts .runs → k < s .counts .keys
-      → P d (s .run r .snapshot k .past d)
+      → P d (s .run r .branch .snapshot k .past d)
   pub writer : (w d : ℕ) → w < s .counts .writers → P d (s .writer w .past d)
 
 module _ {s : Store} {b : Book} (F : Follows s b) where
@@ -32,7 +32,8 @@ module _ {s : Store} {b : Book} (F : Follows s b) where
   every-row P f = record {
     master = λ k d l. rw (F .master k l) (f d (b .master k));
     cache = λ o k d h l. rw (F .cache o h k l) (f d (b .cache o k));
-    snapshot = λ r k d h l. rw (F .run r h .snapshot k l) (f d (b .run r .snapshot k));
+    snapshot = λ r k d h l.
+        rw (F .run r h .branch .snapshot k l) (f d (b .run r .branch .snapshot k));
     writer = λ w d l.
         rw (F .writer w l .past) (f d (byWriter (s .counts .keys) (b .history) w));
   }

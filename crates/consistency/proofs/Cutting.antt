@@ -10,7 +10,7 @@ use Rattle.model.specs.Version.{versions}
 use Rattle.model.specs.Store.{Store, planned}
 use Rattle.model.specs.Step.{stepPlan, stepCache, stepRule}
 use Rattle.model.proofs.Steps.{Accepted}
-use Rattle.layout.proofs.KeptStep.{was}
+use Rattle.layout.proofs.Rules.Step.{was}
 use Rattle.layout.proofs.Follow.{Fine}
 use Rattle.history.specs.Book.{Book}
 use Rattle.consistency.specs.Claim.{BreakExact}
@@ -30,11 +30,11 @@ module _ {s : Store} {b : Book} (F : Follows s b) where
 
   pub overlaps : (r : ℕ) → r < s .counts .runs
       → So (overlappingCut (versions (s .counts .writers)) (s .counts .keys)
-      (planned (s .run r .jobs) (s .run r .job)) (s .run r .snapshot))
+      (planned (s .run r .jobs) (s .run r .job)) (s .run r .branch .snapshot))
   overlaps r l =
       let S = planned (s .run r .jobs) (s .run r .job) in
-      overlappingCut-same (now-simulates F) S S (s .run r .snapshot) (b .run r .snapshot)
-      (λ _ _. refl) (snapshot-related F r l)
+      overlappingCut-same (now-simulates F) S S (s .run r .branch .snapshot)
+      (b .run r .branch .snapshot) (λ _ _. refl) (snapshot-related F r l)
       ∙ closed-overlapping (snapshot-closed F r l)
 
   -- A step that is not refused finds what it needs.

@@ -24,7 +24,7 @@ use Rattle.model.specs.Store.{Store, fresh, planned, doneReads, withMaster, wit
 use Rattle.model.specs.Form.{zeroRows, versionFormed, placeFormed, validJob, zeroJob, freeFormed, jobsFormed, masksFormed, snapshotFormed, runFormed, wellFormed}
 use Rattle.model.specs.Outcome.{answer, refuse, unless, allowed, runCause}
 use Rattle.model.specs.Runs.{listedJob, listedCount, listedJobs, listValid, openCause, openedRun, openDone, openRule, dropCause, dropDone, dropRule}
-use Rattle.model.specs.Step.{readStart, stepSite, stepReads, stepStart, stepFetch, stepCache, stepPlan, stepPull, stepSnapshot, stepMoved, jobLimit, notReady, jobCause, stepCause, stepBroken, stepDone, stepRule}
+use Rattle.model.specs.Step.{readStart, stepBranch, stepSite, stepReads, stepStart, stepFetch, stepCache, stepPlan, stepPull, stepSnapshot, stepMoved, jobLimit, notReady, jobCause, stepCause, stepBroken, stepDone, stepRule}
 use Rattle.model.specs.Issue.{raiseCause, issueCause, takenIn, rowsSet, newPast, newVersion, issuedMaster, issuedWriter, savedStore, issuedStore, issuedNumber, issueDone, issueRule}
 use Rattle.model.specs.Calls.{openRun, step, issue, dropRun, ruleOf}
 use Rattle.model.proofs.Cuts.{needsMet-at}
@@ -35,7 +35,8 @@ use Rattle.layout.specs.Calls.{Call, on, newCause, newOn, onStore, callOn, leav
 use Rattle.history.specs.History.{History, writerOf, saved, leads, inPast, HappensBefore.together}
 use Rattle.history.specs.Copies.{Copy, reaches, heldCopy, needsCopy, meetsCopy, union, lastIn, byWriter, counted}
 use Rattle.history.specs.Book.{freshBook, withBookCaches, withBookRun, bookOpen, bookStepJob, entry, bookIssue, bookIssued, bookRule, bookOk, bookStep}
-use Rattle.consistency.specs.Trace.{ReadSet, Trace, start, readNow, finish, advance, follow}
+use Rattle.consistency.specs.Roles.{roleOf}
+use Rattle.consistency.specs.Trace.{ReadSet, Trace, start, readNow, finishBy, finish, advance, follow}
 use Rattle.consistency.specs.Claim.{Snapshot, Pick, Pick.ofSnapshot, Pick.ofCache, pickOf, chosen, Works}
 
 -- ---- choices: which work, and which don't
@@ -53,7 +54,8 @@ module _ (s : Store) (r j : ℕ) (pick : ℕ → Pick) where
   -- It "holds all that the job reads, leaves the sheets already read as they were and meets every
   -- need among the plan's sheets".
   pub works-by : ((k : ℕ) → k < K → So (stepReads s r j k) → So (held (choice k)))
-      → ((k : ℕ) → k < K → So (testBit (s .run r .read) k) → choice k ≡ s .run r .snapshot k)
+      → ((k : ℕ) → k < K → So (testBit (stepBranch s r j .read) k)
+      → choice k ≡ stepBranch s r j .snapshot k)
       → So (needsMet (versions W) K (stepPlan s r j) choice) → Works s r j pick
   works-by h k m = record { holds = h; keeps = k; meets = m }
 
@@ -63,8 +65,8 @@ module _ (s : Store) (r j : ℕ) (pick : ℕ → Pick) where
   lacking-fails k l p n w = clash (w .holds k l p) n
 
   -- nor one that moves a sheet that was read,
-  pub moving-fails : (k : ℕ) → k < K → So (testBit (s .run r .read) k)
-      → choice k .issue ≢ s .run r .snapshot k .issue → ¬ (Works s r j pick)
+  pub moving-fails : (k : ℕ) → k < K → So (testBit (stepBranch s r j .read) k)
+      → choice k .issue ≢ stepBranch s r j .snapshot k .issue → ¬ (Works s r j pick)
   moving-fails k l p n w = n (ap (λ v. v .issue) (w .keeps k l p))
 
   -- nor one that leaves a need among the plan's sheets unmet.
@@ -76,7 +78,7 @@ module _ (s : Store) (r j : ℕ) (pick : ℕ → Pick) where
 
   -- A choice of the card's version.
   snapshot-kept : (k : ℕ) → So (stepPlan s r j k) → pick k ≡ ofSnapshot
-      → choice k ≡ s .run r .snapshot k
+      → choice k ≡ stepBranch s r j .snapshot k
   unfolding chosen pickOf
   snapshot-kept k p e = rw (p, e)
 
@@ -148,7 +150,8 @@ unfolding anyBelow allBelow only foldBelow countBelow largest when putAt upto bl
     countsIn storeOf written headerRight shaped inForm newCause newOn onStore callOn leaves isOk
     writerOf leads inPast reaches heldCopy needsCopy meetsCopy union lastIn byWriter counted
     freshBook withBookCaches withBookRun bookOpen bookStepJob entry bookIssue bookIssued
-    bookRule bookOk bookStep start readNow finish advance follow needsMet pickOf chosen
+    bookRule bookOk bookStep start readNow roleOf finishBy finish advance follow needsMet pickOf
+    chosen
 computed = record {
   both = refl;
   breaks = refl;
@@ -176,8 +179,8 @@ computed = record {
     holds (suc zero) l p = refl
     holds (suc (suc k)) l p = absurd (omega (arith, l))
 
-    keeps : (k : ℕ) → k < 2 → So (testBit (store 2 .run 0 .read) k)
-        → chosen (store 2) 0 1 older k ≡ store 2 .run 0 .snapshot k
+    keeps : (k : ℕ) → k < 2 → So (testBit (stepBranch (store 2) 0 1 .read) k)
+        → chosen (store 2) 0 1 older k ≡ stepBranch (store 2) 0 1 .snapshot k
     keeps zero l p = snapshot-kept (store 2) 0 1 older 0 refl refl
     keeps (suc zero) l p = absurd (false≢true p)
     keeps (suc (suc k)) l p = absurd (omega (arith, l))

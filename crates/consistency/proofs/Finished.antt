@@ -24,20 +24,24 @@ use Rattle.consistency.proofs.Invariant.{RunFollows, ReadAs, Inv}
 
 module _ (K W : ℕ) (h : History) (a : Run) (c : BookRun) (sound : Sound K W h)
     (F : RunFollows K h a c)
-    (plan : (k : ℕ) → k < K → So (testBit (a .read) k) → So (planned (a .jobs) (a .job) k)) where
+    (plan : (k : ℕ) → k < K → So (testBit (a .branch .read) k)
+    → So (planned (a .jobs) (a .job) k)) where
   -- A key that a finished job has read is in the book's plan.
-  in-plan : (x : ReadSet) → ReadAs K a c x → (k : ℕ) → k < K → So (x .keys k)
+  in-plan : (x : ReadSet) → ReadAs K (a .branch) (c .branch) x → (k : ℕ) → k < K → So (x .keys k)
       → So (planned (c .jobs) (c .job) k)
   in-plan x X k l p =
-      let q = plan k l (sym (F .read k l) ∙˙ X .keys k l p) in
+      let q = plan k l (sym (F .branch .read k l) ∙˙ X .keys k l p) in
       rw (F .jobs, F .job) at q
 
-  pub share : (x y : ReadSet) → ReadAs K a c x → ReadAs K a c y → Snapshot K h x y
+  pub share : (x y : ReadSet) → ReadAs K (a .branch) (c .branch) x
+      → ReadAs K (a .branch) (c .branch) y → Snapshot K h x y
   share x y X Y = record {
     one-version = λ k l p q. X .version k l p ∙ sym (Y .version k l q);
     included = λ e i d j le ld p m q t.
-        let has : So (c .snapshot e i) = ap (λ (s : ℕ → Bool). s i) (X .copy e le p) ∙˙ m in
-        let got = F .closed .closed e i d j le ld (in-plan y Y d ld q) has (before-past sound t) in
+        let has : So (c .branch .snapshot e i) =
+        ap (λ (s : ℕ → Bool). s i) (X .copy e le p) ∙˙ m in
+        let got = F .branch .closed .closed e i d j le ld (in-plan y Y d ld q) has
+        (before-past sound t) in
         ap (λ (s : ℕ → Bool). s j) (sym (Y .copy d ld q)) ∙˙ got;
   }
 
@@ -54,7 +58,7 @@ module _ (s : Store) (b : Book) (f : ℕ → List ReadSet) (I : Inv s b f) where
       let l = run-in r x p in
       let X = I .reads r l x p in
       X .version k h q
-      ∙ I .follows .run r l .snapshot k h
+      ∙ I .follows .run r l .branch .snapshot k h
       ∙ ap (counted (s .counts .keys) (b .history)) (sym (X .copy k h q))
 
   pub shared : Fine s → (r : ℕ) (x y : ReadSet) → Among x (f r) → Among y (f r)

@@ -5,17 +5,16 @@
 use mathlib.Core.Path.{_≡_, refl, sym, ap₂}
 use mathlib.Core.Bool.{false≢true}
 use Prim.Native.Nat.{ℕ, _<_}
-use Rattle.words.specs.Tests.{none}
 use Rattle.words.specs.Lists.{putAt}
 use Rattle.words.proofs.Lists.{putAt-both}
 use Rattle.masks.proofs.Bits.{test-none}
 use Rattle.sizes.specs.declared.Counts.{Counts}
 use Rattle.model.specs.Algebra.{Place}
 use Rattle.model.specs.Version.{Version, versions}
-use Rattle.model.specs.Store.{Job, Run, Site, Store, emptyPlace, noJobs, freeRun, planned, withSites, siteWith, withCache, withRun}
+use Rattle.model.specs.Store.{Job, Run, Site, Store, noJobs, noBranch, freeRun, planned, withSites, siteWith, withCache, withRun}
 use Rattle.history.specs.History.{History}
 use Rattle.history.specs.Copies.{Copy, copies}
-use Rattle.history.specs.Book.{BookRun, Book, noCopies, noRun, withBookCaches, withBookRun}
+use Rattle.history.specs.Book.{BookRun, Book, noBookBranch, noRun, withBookCaches, withBookRun}
 use Rattle.history.proofs.Notions.{ClosedIn, ClosedAll}
 use Rattle.history.proofs.Past.{past-laws}
 use Rattle.history.proofs.Counted.{counted-none}
@@ -56,9 +55,9 @@ module _ {s : Store} {b : Book} (F : Follows s b) where
 
   module _ (r : ℕ) (l : r < s .counts .runs) where
     pub snapshot-related :
-        Related (s .counts .keys) (CountedAs (s .counts .keys) (b .history)) (s .run r .snapshot)
-        (b .run r .snapshot)
-    snapshot-related = counted-related (F .run r l .snapshot) (F .run r l .closed)
+        Related (s .counts .keys) (CountedAs (s .counts .keys) (b .history))
+        (s .run r .branch .snapshot) (b .run r .branch .snapshot)
+    snapshot-related = counted-related (F .run r l .branch .snapshot) (F .run r l .branch .closed)
 
 -- The plan of a run is that of the book's.
 pub plan-same : {K : ℕ} {h : History} {a : Run} {c : BookRun} → RunFollows K h a c
@@ -68,8 +67,8 @@ plan-same F = ap₂ planned (F .jobs) (F .job)
 -- So the book's snapshot is a cut for the plan of the store's run.
 pub snapshot-closed : {s : Store} {b : Book} → Follows s b → (r : ℕ) → r < s .counts .runs
     → ClosedIn (s .counts .keys) (b .history) (planned (s .run r .jobs) (s .run r .job))
-    (b .run r .snapshot)
-snapshot-closed F r l = rw (plan-same (F .run r l)) (F .run r l .closed)
+    (b .run r .branch .snapshot)
+snapshot-closed F r l = rw (plan-same (F .run r l)) (F .run r l .branch .closed)
 
 -- A run with nothing read and nothing on its snapshot.
 pub empty-follows : (K : ℕ) (h : History) (state jobs done : ℕ) (job : ℕ → Job)
@@ -77,17 +76,18 @@ pub empty-follows : (K : ℕ) (h : History) (state jobs done : ℕ) (job : ℕ �
       state = state;
       jobs = jobs;
       done = done;
-      read = 0;
       job = job;
-      snapshot = emptyPlace;
-    }) (record { jobs = jobs; job = job; read = none; snapshot = noCopies })
+      branch = noBranch;
+    }) (record { jobs = jobs; job = job; branch = noBookBranch })
 empty-follows K h state jobs done job = record {
   jobs = refl;
   job = refl;
-  read = λ k _. test-none k;
-  low = λ k p. absurd (false≢true p);
-  snapshot = λ k _. sym (counted-none K h);
-  closed = empty-closed K h (planned jobs job);
+  branch = record {
+    read = λ k _. test-none k;
+    low = λ k p. absurd (false≢true p);
+    snapshot = λ k _. sym (counted-none K h);
+    closed = empty-closed K h (planned jobs job);
+  };
 }
 
 pub free-follows : (K : ℕ) (h : History) → RunFollows K h freeRun noRun

@@ -1,6 +1,6 @@
 -- What holds of store, book and reads after each call, and what a call has to show.
--- RunFollows, WriterFollows, Follows: store and book. ReadAs: what a finished job has read.
--- Inv: all of it. Moves: after an outcome.
+-- BranchFollows, RunFollows, WriterFollows, Follows: store and book. ReadAs: what a finished job
+-- has read. Inv: all of it. Moves: after an outcome.
 -- Assumes nothing.
 use mathlib.Core.Path.{_≡_}
 use mathlib.Core.Bool.{So, cond}
@@ -8,27 +8,33 @@ use mathlib.Core.List.{List}
 use Prim.Native.Nat.{ℕ, _≤_, _<_}
 use lib.Dec.{eqb}
 use lib.ListN.{length}
+use Rattle.words.specs.Tests.{Items}
 use Rattle.words.specs.Numbers.{countBelow}
 use Rattle.masks.specs.Mask.{testBit}
-use Rattle.model.specs.Store.{Run, Store, planned}
+use Rattle.model.specs.Store.{Branch, Run, Store, planned}
 use Rattle.model.specs.Outcome.{Outcome, refused, broken, done, told}
 use Rattle.model.specs.Calls.{StoreCall}
 use Rattle.layout.specs.Calls.{on}
 use Rattle.history.specs.History.{History, saved}
 use Rattle.history.specs.Copies.{byWriter, counted}
-use Rattle.history.specs.Book.{Book, BookRun, bookRule, bookStep}
+use Rattle.history.specs.Book.{Book, BookBranch, BookRun, bookRule, bookStep}
 use Rattle.history.proofs.Notions.{Sound, ClosedIn, ClosedAll}
 use Rattle.consistency.specs.Trace.{ReadSet, finish}
 use Rattle.consistency.specs.Claim.{Counted, Among}
+
+-- A branch and the book's, for the keys of a plan.
+pub record BranchFollows (K : ℕ) (h : History) (plan : Items) (a : Branch) (c : BookBranch)
+    : Type 0 where
+  pub read : (k : ℕ) → k < K → testBit (a .read) k ≡ c .read k
+  pub low : (k : ℕ) → So (c .read k) → k < K
+  pub snapshot : Counted K h (a .snapshot) (c .snapshot)
+  pub closed : ClosedIn K h plan (c .snapshot)
 
 -- A run and the book's.
 pub record RunFollows (K : ℕ) (h : History) (a : Run) (c : BookRun) : Type 0 where
   pub jobs : a .jobs ≡ c .jobs
   pub job : a .job ≡ c .job
-  pub read : (k : ℕ) → k < K → testBit (a .read) k ≡ c .read k
-  pub low : (k : ℕ) → So (c .read k) → k < K
-  pub snapshot : Counted K h (a .snapshot) (c .snapshot)
-  pub closed : ClosedIn K h (planned (c .jobs) (c .job)) (c .snapshot)
+  pub branch : BranchFollows K h (planned (c .jobs) (c .job)) (a .branch) (c .branch)
 
 -- A writer's count, and its past: that of all its issues.
 pub record WriterFollows (K : ℕ) (h : History) (s : Store) (w : ℕ) : Type 0 where
@@ -53,8 +59,8 @@ pub record Follows (s : Store) (b : Book) : Type 0 where
   pub run : (r : ℕ) → r < s .counts .runs
       → RunFollows (s .counts .keys) (b .history) (s .run r) (b .run r)
 
--- What a finished job has read is still so on the snapshot.
-pub record ReadAs (K : ℕ) (a : Run) (c : BookRun) (x : ReadSet) : Type 0 where
+-- What a finished job has read is still so on the snapshot of a branch.
+pub record ReadAs (K : ℕ) (a : Branch) (c : BookBranch) (x : ReadSet) : Type 0 where
   pub keys : (k : ℕ) → k < K → So (x .keys k) → So (c .read k)
   pub version : (k : ℕ) → k < K → So (x .keys k) → x .version k ≡ a .snapshot k
   pub copy : (k : ℕ) → k < K → So (x .keys k) → x .copy k ≡ c .snapshot k
@@ -62,7 +68,7 @@ pub record ReadAs (K : ℕ) (a : Run) (c : BookRun) (x : ReadSet) : Type 0 where
 pub record Inv (s : Store) (b : Book) (f : ℕ → List ReadSet) : Type 0 where
   pub follows : Follows s b
   pub reads : (r : ℕ) → r < s .counts .runs → (x : ReadSet) → Among x (f r)
-      → ReadAs (s .counts .keys) (s .run r) (b .run r) x
+      → ReadAs (s .counts .keys) (s .run r .branch) (b .run r .branch) x
   pub no-run : (r : ℕ) → s .counts .runs ≤ r → (x : ReadSet) → Among x (f r) → ⊥
 
 -- What a call has to show, by its outcome.

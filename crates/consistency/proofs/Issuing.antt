@@ -18,12 +18,12 @@ use Rattle.masks.specs.Mask.{testBit}
 use Rattle.clock.specs.Clock.{Clock, join}
 use Rattle.model.specs.Algebra.{Place}
 use Rattle.model.specs.Version.{Version, merge}
-use Rattle.model.specs.Store.{Run, Store}
+use Rattle.model.specs.Store.{Branch, Run, Store}
 use Rattle.model.specs.Issue.{takenIn, rowsSet, newPast, newVersion, issuedMaster}
 use Rattle.model.proofs.Merges.{version-path}
 use Rattle.history.specs.History.{Issue, History, saved, inPast}
 use Rattle.history.specs.Copies.{Copy, counted}
-use Rattle.history.specs.Book.{Book, BookRun, entry}
+use Rattle.history.specs.Book.{Book, BookBranch, BookRun, entry}
 use Rattle.history.proofs.Notions.{ClosedIn}
 use Rattle.history.proofs.Past.{saved-top, saved-low, saved-below, past-top, topPast-own, past-laws}
 use Rattle.history.proofs.Counted.{counted-fold}
@@ -31,7 +31,7 @@ use Rattle.history.proofs.Grown.{counted-grow}
 use Rattle.history.proofs.Entered.{readAny, enteredPast, entered, merged-counted}
 use Rattle.consistency.specs.Claim.{Counted}
 use Rattle.consistency.proofs.Closing.{closed-grow}
-use Rattle.consistency.proofs.Invariant.{RunFollows, Follows}
+use Rattle.consistency.proofs.Invariant.{BranchFollows, RunFollows, Follows}
 
 module _ (K : ℕ) (e : Issue) (h : History) where
   -- ---- places that the issue leaves as they were
@@ -45,10 +45,12 @@ module _ (K : ℕ) (e : Issue) (h : History) where
   run-grow F = record {
     jobs = F .jobs;
     job = F .job;
-    read = F .read;
-    low = F .low;
-    snapshot = place-grow (F .closed) (F .snapshot);
-    closed = closed-grow (F .closed) e;
+    branch = record {
+      read = F .branch .read;
+      low = F .branch .low;
+      snapshot = place-grow (F .branch .closed) (F .branch .snapshot);
+      closed = closed-grow (F .branch .closed) e;
+    };
   }
 
   -- ---- the master
@@ -107,11 +109,12 @@ module _ (K : ℕ) (e : Issue) (h : History) where
 -- ---- the version that the store makes
 
 -- What a run read, taken into a past: the copies that the book's run read, counted.
-pub taken-counted : (K : ℕ) (h : History) (past : ℕ → Clock) (a : Run) (c : BookRun)
-    → RunFollows K h a c → (d : ℕ) → takenIn K (a .read) (a .snapshot) past d
+pub taken-counted : (K : ℕ) (h : History) (past : ℕ → Clock) (plan : Items) (a : Branch)
+    (c : BookBranch) → BranchFollows K h plan a c → (d : ℕ)
+    → takenIn K (a .read) (a .snapshot) past d
     ≡ join (past d) (counted K h (λ i. anyBelow K (λ k. c .read k && c .snapshot k i)) .past d)
 unfolding takenIn
-taken-counted K h past a c F d =
+taken-counted K h past plan a c F d =
     fold-same K (λ k x. cond (testBit (a .read) k) (join x (a .snapshot k .past d)) x)
     (λ k x. cond (c .read k) (join x (counted K h (c .snapshot k) .past d)) x)
     (λ k x l. rw (F .read k l, F .snapshot k l)) (past d)
@@ -127,7 +130,8 @@ module _ (s : Store) (b : Book) (F : Follows s b) (r w S : ℕ) (hr : r < s .cou
       let v = F .writer w hw in
       let K = s .counts .keys in
       rw (
-        taken-counted K (b .history) (s .writer w .past) (s .run r) (b .run r) (F .run r hr) d,
+        taken-counted K (b .history) (s .writer w .past) _ (s .run r .branch) (b .run r .branch)
+            (F .run r hr .branch) d,
         v .past,
         v .count,
         add-one,

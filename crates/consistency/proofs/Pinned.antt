@@ -1,19 +1,21 @@
 -- What the claim is made of, so that none of it can say less.
 -- every-among: each member of a list is among it. picks: what each pick chooses.
--- ..-finishes, ..-finished: what a call does to what finished jobs have read.
+-- roles: what a call is to a run. ..-finishes, ..-finished: what it does to what finished jobs
+-- have read.
 -- Assumes nothing.
 use mathlib.Core.Path.{_≡_, refl}
-use mathlib.Core.Logic.{_≢_}
+use mathlib.Core.Bool.{false}
 use mathlib.Core.List.{List, [], _∷_, _++_}
+use mathlib.Core.Option.{none, some}
 use Prim.Native.Nat.{ℕ}
-use Rattle.words.specs.Lists.{putAt}
+use Rattle.words.proofs.Bools.{eqb-ne}
 use Rattle.words.proofs.Lists.{putAt-same, putAt-other}
 use Rattle.model.specs.Version.{Version, unheld, merge}
 use Rattle.model.specs.Store.{Store}
 use Rattle.model.specs.Calls.{Query, openRun, fetch, evict, prepare, step, issue, dropRun, ask}
-use Rattle.layout.specs.Calls.{on}
 use Rattle.history.specs.Book.{Book}
-use Rattle.consistency.specs.Trace.{ReadSet, readNow, finish}
+use Rattle.consistency.specs.Roles.{Role, opening, working, freeing, elsewhere, roleOf, isOn}
+use Rattle.consistency.specs.Trace.{ReadSet, readNow, finishBy}
 use Rattle.consistency.specs.Claim.{Among, Among.first, Among.later, pickOf, Pick.ofSnapshot, Pick.ofCache, Pick.merged, Pick.neither}
 
 pub every-among : (xs ys : List ReadSet) (x : ReadSet) → Among x (xs ++ (x ∷ ys))
@@ -26,29 +28,36 @@ pub picks : (a b : Version) → (pickOf ofSnapshot a b ≡ a) × (pickOf ofCache
 unfolding pickOf
 picks a b = (refl, refl, refl, refl)
 
+-- What document 01's calls are to a run.
+pub roles : (r j w S o k : ℕ) (l : List ℕ) (q : Query) → (roleOf (openRun r l) ≡ opening r)
+    × (roleOf (prepare r) ≡ working r none) × (roleOf (step r j) ≡ working r (some j))
+    × (roleOf (issue r w S) ≡ freeing r) × (roleOf (dropRun r) ≡ freeing r)
+    × (roleOf (fetch o k) ≡ elsewhere) × (roleOf (evict o k) ≡ elsewhere)
+    × (roleOf (ask q) ≡ elsewhere)
+unfolding roleOf
+roles r j w S o k l q = (refl, refl, refl, refl, refl, refl, refl, refl)
+
 module _ (s : Store) (b : Book) (f : ℕ → List ReadSet) where
   -- "A job whose step is answered ok is finished and has read its sheets": beside those before it.
-  pub step-finishes : (r j : ℕ) → finish (on (step r j)) s b f r ≡ readNow r j s b ∷ f r
-  unfolding finish
+  pub step-finishes : (r j : ℕ) → finishBy (working r (some j)) s b f r ≡ readNow r j s b ∷ f r
+  unfolding finishBy
   step-finishes r j = putAt-same f r (readNow r j s b ∷ f r)
 
   -- "A run lasts from its open until it is freed."
-  pub frees-finished : (r w S : ℕ) (l : List ℕ) → (finish (on (openRun r l)) s b f r ≡ [])
-      × (finish (on (issue r w S)) s b f r ≡ []) × (finish (on (dropRun r)) s b f r ≡ [])
-  unfolding finish
-  frees-finished r w S l = (putAt-same f r [], putAt-same f r [], putAt-same f r [])
+  pub frees-finished : (r : ℕ) → (finishBy (opening r) s b f r ≡ [])
+      × (finishBy (freeing r) s b f r ≡ [])
+  unfolding finishBy
+  frees-finished r = (putAt-same f r [], putAt-same f r [])
 
-  -- A call on another run, and one that is no open, step, issue or drop, leaves it.
-  pub others-finished : (x r j w S : ℕ) (l : List ℕ) → r ≢ x
-      → (finish (on (openRun x l)) s b f r ≡ f r) × (finish (on (step x j)) s b f r ≡ f r)
-      × (finish (on (issue x w S)) s b f r ≡ f r) × (finish (on (dropRun x)) s b f r ≡ f r)
-  unfolding finish
-  others-finished x r j w S l n =
-      let freed = putAt-other f x [] r n in
-      (freed, putAt-other f x _ r n, freed, freed)
+  -- A call that finishes no job, and one that is not on the run, leave it.
+  pub none-finished : (r x : ℕ) → finishBy (working x none) s b f r ≡ f r
+  unfolding finishBy
+  none-finished r x = refl
 
-  pub none-finished : (o k r : ℕ) (q : Query) → (finish (on (fetch o k)) s b f ≡ f)
-      × (finish (on (evict o k)) s b f ≡ f) × (finish (on (prepare r)) s b f ≡ f)
-      × (finish (on (ask q)) s b f ≡ f)
-  unfolding finish
-  none-finished o k r q = (refl, refl, refl, refl)
+  pub others-finished : (r : ℕ) (p : Role) → isOn r p ≡ false → finishBy p s b f r ≡ f r
+  unfolding finishBy isOn
+  others-finished r (opening x) n = putAt-other f x [] r (eqb-ne r x n)
+  others-finished r (working x none) n = refl
+  others-finished r (working x (some j)) n = putAt-other f x _ r (eqb-ne r x n)
+  others-finished r (freeing x) n = putAt-other f x [] r (eqb-ne r x n)
+  others-finished r elsewhere n = refl

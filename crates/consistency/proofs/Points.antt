@@ -1,5 +1,5 @@
 -- A list of calls followed: at each point the buffer holds a fine store, and the invariant holds.
--- At: such a point. start-at, advance-at, follow-at. The calls' own part comes in as CallsMove.
+-- At: such a point. start-at, advance-at, follow-at.
 -- Assumes nothing.
 use mathlib.Core.Path.{_≡_, refl, ap, _∙_}
 use mathlib.Core.Bool.{So, false≢true}
@@ -18,16 +18,11 @@ use Rattle.layout.specs.Calls.{Call, new, on, newCause, newOn, callOn, leaves, 
 use Rattle.layout.proofs.Whole.{store-back}
 use Rattle.layout.proofs.Follow.{Fine, fine-rule, fine-leaves}
 use Rattle.layout.proofs.Rules.{rule-kept, new-fine, new-done, new-refused}
-use Rattle.history.specs.Book.{Book, freshBook, bookOk, bookStep}
-use Rattle.consistency.specs.Trace.{ReadSet, Trace, start, finish, advance, follow}
+use Rattle.history.specs.Book.{freshBook, bookOk, bookStep}
+use Rattle.consistency.specs.Trace.{Trace, start, finish, advance, follow}
 use Rattle.consistency.proofs.Invariant.{Inv, Moves}
 use Rattle.consistency.proofs.Changing.{inv-fresh}
-
--- What each call's own proof gives.
-abbrev pub CallsMove : Type 0
-CallsMove =
-    (c : StoreCall) (s : Store) (b : Book) (f : ℕ → List ReadSet)
-    → Fine s → Inv s b f → Moves c s b f (ruleOf c s)
+use Rattle.consistency.proofs.Calls.{laws}
 
 pub record At (t : Trace) : Type 0 where
   pub store : Store
@@ -57,12 +52,13 @@ module _ (c : StoreCall) (t : Trace) (s : Store) (l : List ℕ) (e : t .buffer �
       ap storeOf q ∙ store-back s l (F .fits) in
       rw p (record { store = s; base = l; holds = q; fine = F; inv = rw back m })
 
-  call-at : CallsMove → Fine s → Inv s (t .book) (t .finished) → At (advance (on c) t)
-  call-at moves F I =
+  call-at : Fine s → Inv s (t .book) (t .finished) → At (advance (on c) t)
+  call-at F I =
       let K = rule-kept c s F in
       let rule = ap (callOn (on c)) e ∙ fine-rule c s l F in
       let after = rw (fine-rule c s l F) at (fine-leaves c s l F (K .counts)) in
-      outcome-at (ruleOf c s) rule (rw e after) (K .fine) (moves c s (t .book) (t .finished) F I)
+      outcome-at (ruleOf c s) rule (rw e after) (K .fine)
+      (laws c s F .moves (t .book) (t .finished) I)
 
 -- ---- new
 
@@ -96,11 +92,11 @@ start-at z l ok =
       | no e ↦ absurd (false≢true (rw (new-refused l z e) at ok))
     ]
 
-pub advance-at : CallsMove → (c : Call) (t : Trace) → At t → At (advance c t)
-advance-at moves (new k w n p) t A = again-at k w n p t A
-advance-at moves (on c) t A = call-at c t (A .store) (A .base) (A .holds) moves (A .fine) (A .inv)
+pub advance-at : (c : Call) (t : Trace) → At t → At (advance c t)
+advance-at (new k w n p) t A = again-at k w n p t A
+advance-at (on c) t A = call-at c t (A .store) (A .base) (A .holds) (A .fine) (A .inv)
 
-pub follow-at : CallsMove → (cs : List Call) (t : Trace) → At t → At (follow cs t)
+pub follow-at : (cs : List Call) (t : Trace) → At t → At (follow cs t)
 unfolding follow
-follow-at moves [] t A = A
-follow-at moves (c ∷ cs) t A = follow-at moves cs (advance c t) (advance-at moves c t A)
+follow-at [] t A = A
+follow-at (c ∷ cs) t A = follow-at cs (advance c t) (advance-at c t A)

@@ -1,5 +1,5 @@
 -- A step on versions and on copies: the cache after its fetch, and the snapshot that it leaves.
--- copyCache, copyPull, copySnapshot, copyRun: the book's; book-step: they are.
+-- copyBranch, copyCache, copyPull, copySnapshot, copyRun: the book's; book-step: they are.
 -- ..-related: the store's stand for them. ..-closed: they are cuts. ..-out: outside of C.
 -- Assumes nothing.
 use mathlib.Core.Path.{_≡_, refl, sym, _∙_}
@@ -10,13 +10,13 @@ use Rattle.words.specs.Lists.{putAt}
 use Rattle.model.specs.Algebra.{Place}
 use Rattle.model.specs.Sets.{fetched, pullSet, pulled}
 use Rattle.model.specs.Store.{Store}
-use Rattle.model.specs.Step.{readStart, stepSite, stepReads, stepStart, stepCache, stepPlan, stepPull, stepSnapshot}
+use Rattle.model.specs.Step.{readStart, stepBranch, stepSite, stepReads, stepStart, stepCache, stepPlan, stepPull, stepSnapshot}
 use Rattle.model.proofs.Draws.{pulled-out}
 use Rattle.model.proofs.Steps.{Accepted, step-planned}
-use Rattle.layout.proofs.KeptStep.{site}
+use Rattle.layout.proofs.Rules.Step.{site}
 use Rattle.layout.proofs.Follow.{Fine}
 use Rattle.history.specs.Copies.{Copy, copies}
-use Rattle.history.specs.Book.{Book, BookRun, bookStepJob, withBookRun, withBookCaches}
+use Rattle.history.specs.Book.{Book, BookBranch, BookRun, bookStepJob, withBookRun, withBookCaches}
 use Rattle.history.proofs.Notions.{ClosedIn, ClosedAll}
 use Rattle.consistency.proofs.Simulation.{Agree, Related, readStart-same, fetched-rel, pullSet-same, pulled-rel}
 use Rattle.consistency.proofs.ClosingSets.{fetched-closed, pulled-closed}
@@ -27,33 +27,39 @@ use Rattle.consistency.proofs.Following.{now-simulates, master-closed, 
 -- ---- the book's run r and its cache after job j, with the store's counts and jobs
 
 module _ (s : Store) (b : Book) (r j : ℕ) where
+  -- What the step goes by.
+  abbrev pub copyBranch : BookBranch
+  copyBranch = b .run r .branch
+
   unfoldable pub copyCache : Place Copy
   copyCache =
       let K = s .counts .keys in
       let alg = copies K (b .history) in
       let cache = b .cache (stepSite s r j) in
       fetched alg K (b .master) cache
-      (readStart alg K (b .run r .snapshot) cache (stepReads s r j))
+      (readStart alg K (copyBranch .snapshot) cache (stepReads s r j))
 
   -- C
   unfoldable pub copyPull : Items
   copyPull =
       let K = s .counts .keys in
-      pullSet (copies K (b .history)) K (stepPlan s r j) (b .run r .snapshot) copyCache
+      pullSet (copies K (b .history)) K (stepPlan s r j) (copyBranch .snapshot) copyCache
       (stepReads s r j)
 
   unfoldable pub copySnapshot : Place Copy
   copySnapshot =
       let K = s .counts .keys in
-      pulled (copies K (b .history)) K (stepPlan s r j) (b .run r .snapshot) copyCache
+      pulled (copies K (b .history)) K (stepPlan s r j) (copyBranch .snapshot) copyCache
       (stepReads s r j)
 
   unfoldable pub copyRun : BookRun
   copyRun = record {
     jobs = s .run r .jobs;
     job = s .run r .job;
-    read = λ k. b .run r .read k || stepReads s r j k;
-    snapshot = copySnapshot;
+    branch = record {
+      read = λ k. copyBranch .read k || stepReads s r j k;
+      snapshot = copySnapshot;
+    };
   }
 
   pub book-step : Follows s b → r < s .counts .runs
@@ -78,8 +84,9 @@ module _ {s : Store} {b : Book} {r j : ℕ} (fine : Fine s) (F : Follows s b)
       let rc = cache-related F o (site s r j fine a) in
       fetched-rel L (s .master) (s .site o .cache) (b .master) (b .cache o) _ _ (master-related F)
       rc
-      (readStart-same L (s .run r .snapshot) (s .site o .cache) (b .run r .snapshot) (b .cache o)
-      reads reads (snapshot-related F r (a .run-in)) rc (λ _ _. refl))
+      (readStart-same L (stepBranch s r j .snapshot) (s .site o .cache)
+      (copyBranch s b r j .snapshot) (b .cache o) reads reads
+      (snapshot-related F r (a .run-in)) rc (λ _ _. refl))
 
   pub stepCache-closed : ClosedAll (s .counts .keys) (b .history) (copyCache s b r j)
   unfolding copyCache
@@ -95,8 +102,8 @@ module _ {s : Store} {b : Book} {r j : ℕ} (fine : Fine s) (F : Follows s b)
   unfolding stepPull copyPull
   stepPull-same =
       let reads = stepReads s r j in
-      pullSet-same (now-simulates F) (stepPlan s r j) (stepPlan s r j) (s .run r .snapshot)
-      (stepCache s r j) (b .run r .snapshot) (copyCache s b r j) reads reads
+      pullSet-same (now-simulates F) (stepPlan s r j) (stepPlan s r j) (stepBranch s r j .snapshot)
+      (stepCache s r j) (copyBranch s b r j .snapshot) (copyCache s b r j) reads reads
       (λ _ _. refl) (snapshot-related F r (a .run-in)) stepCache-related (λ _ _. refl)
 
   -- ---- the snapshot
@@ -106,22 +113,23 @@ module _ {s : Store} {b : Book} {r j : ℕ} (fine : Fine s) (F : Follows s b)
   unfolding stepSnapshot copySnapshot
   stepSnapshot-related =
       let reads = stepReads s r j in
-      pulled-rel (now-simulates F) (stepPlan s r j) (stepPlan s r j) (s .run r .snapshot)
-      (stepCache s r j) (b .run r .snapshot) (copyCache s b r j) reads reads
+      pulled-rel (now-simulates F) (stepPlan s r j) (stepPlan s r j) (stepBranch s r j .snapshot)
+      (stepCache s r j) (copyBranch s b r j .snapshot) (copyCache s b r j) reads reads
       (λ _ _. refl) (snapshot-related F r (a .run-in)) stepCache-related (λ _ _. refl)
 
   pub stepSnapshot-closed : ClosedIn (s .counts .keys) (b .history) (stepPlan s r j)
       (copySnapshot s b r j)
   unfolding copySnapshot stepPlan
   stepSnapshot-closed =
-      pulled-closed (s .counts .keys) (b .history) (stepPlan s r j) (b .run r .snapshot)
+      pulled-closed (s .counts .keys) (b .history) (stepPlan s r j) (copyBranch s b r j .snapshot)
       (copyCache s b r j) (stepReads s r j) (snapshot-closed F r (a .run-in)) stepCache-closed
       (λ k _. step-planned s r j k (a .job-in))
 
   -- Outside of C the book's too is as it was.
   pub copySnapshot-out : (k : ℕ) → k < s .counts .keys → stepPull s r j k ≡ false
-      → copySnapshot s b r j k ≡ b .run r .snapshot k
+      → copySnapshot s b r j k ≡ copyBranch s b r j .snapshot k
   unfolding copySnapshot copyPull
   copySnapshot-out k h e =
       pulled-out (copies (s .counts .keys) (b .history)) (s .counts .keys) (stepPlan s r j)
-      (b .run r .snapshot) (copyCache s b r j) (stepReads s r j) k (sym (stepPull-same k h) ∙ e)
+      (copyBranch s b r j .snapshot) (copyCache s b r j) (stepReads s r j) k
+      (sym (stepPull-same k h) ∙ e)

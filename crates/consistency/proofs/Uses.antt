@@ -3,25 +3,26 @@
 -- At a point: form, shelves, versions, reads, steps. Lists: each point of one, two in a row. Runs.
 -- Assumes nothing.
 use mathlib.Core.Path.{_≡_, refl, sym, ap, _∙_}
-use mathlib.Core.Bool.{false, So, false≢true}
+use mathlib.Core.Bool.{false, So}
 use mathlib.Core.Logic.{_⊎_, inr, _≢_}
 use mathlib.Core.List.{List, [], _∷_, _++_, append-nil}
 use Prim.Native.Nat.{ℕ, _<_}
-use Rattle.words.proofs.Bools.{eqb-eq, eq-eqb, ne-eqb, and-intro, and-left, and-right}
+use Rattle.words.proofs.Bools.{eq-eqb, ne-eqb, and-intro, and-left, and-right}
 use Rattle.sizes.specs.declared.Counts.{Counts}
 use Rattle.model.specs.Version.{held, dependency, supersedes, versions}
 use Rattle.model.specs.Store.{Run, Store, freeRun, planned}
-use Rattle.model.specs.Outcome.{refused, broken, done, freeState}
-use Rattle.model.specs.Calls.{StoreCall, openRun, fetch, evict, prepare, step, issue, dropRun, Query, ask}
+use Rattle.model.specs.Outcome.{refused, broken, done, freeState, openState}
+use Rattle.model.specs.Calls.{StoreCall, openRun, fetch, evict, step, dropRun, Query, ask}
 use Rattle.model.proofs.Cuts.{causalCut-at, overlappingCut-within, overlappingCut-at}
-use Rattle.layout.specs.Reading.{countsIn, storeOf}
+use Rattle.layout.specs.Reading.{storeOf}
 use Rattle.layout.specs.Buffer.{inForm}
 use Rattle.layout.specs.Calls.{Call, on, newOn, callOn, leaves, isOk, after}
 use Rattle.history.specs.History.{History, HappensBefore, saved, inPast}
 use Rattle.history.specs.Copies.{counted}
 use Rattle.consistency.specs.Trace.{ReadSet, Trace, start, follow}
 use Rattle.consistency.specs.Claim.{Among, Choice, isRefused, isBroken, HoldsAt, Consistent, Demand3}
-use Rattle.consistency.specs.Lasting.{roleOf, onRole, opensRole, freesRole, opens, Lasting, Framed}
+use Rattle.consistency.specs.Roles.{roleOf, isOn, opens, frees}
+use Rattle.consistency.specs.Lasting.{Lasting}
 use Rattle.consistency.proofs.Rows.{after-append, follow-append, follow-buffer}
 
 -- ---- an outcome is refused, broken or done, and one of them alone
@@ -63,13 +64,13 @@ module _ (t : Trace) (H : HoldsAt t) where
 
   -- "only those sheets are held, and every need among them is met", on each card
   pub snapshot-within : (r : ℕ) → r < s .counts .runs → (k : ℕ) → k < K
-      → So (held (s .run r .snapshot k)) → So (planned (s .run r .jobs) (s .run r .job) k)
+      → So (held (s .run r .branch .snapshot k)) → So (planned (s .run r .jobs) (s .run r .job) k)
   snapshot-within r l = overlappingCut-within (versions W) K _ _ (H .holds .overlaps r l)
 
   pub snapshot-meets : (r : ℕ) → r < s .counts .runs → (k d : ℕ) → k < K → d < K
-      → So (planned (s .run r .jobs) (s .run r .job) d) → So (held (s .run r .snapshot k))
-      → So (dependency W k (s .run r .snapshot k) d)
-      → So (supersedes W d (s .run r .snapshot d) (s .run r .snapshot k .past d))
+      → So (planned (s .run r .jobs) (s .run r .job) d) → So (held (s .run r .branch .snapshot k))
+      → So (dependency W k (s .run r .branch .snapshot k) d)
+      → So (supersedes W d (s .run r .branch .snapshot d) (s .run r .branch .snapshot k .past d))
   snapshot-meets r l = overlappingCut-at (versions W) K _ _ (H .holds .overlaps r l)
 
   -- "A version on the desk is its copy counted": master, shelves, cards, what jobs have read
@@ -81,7 +82,7 @@ module _ (t : Trace) (H : HoldsAt t) where
   cache-counted = H .holds .caches
 
   pub snapshot-counted : (r : ℕ) → r < s .counts .runs → (k : ℕ) → k < K
-      → s .run r .snapshot k ≡ counted K h (t .book .run r .snapshot k)
+      → s .run r .branch .snapshot k ≡ counted K h (t .book .run r .branch .snapshot k)
   snapshot-counted = H .holds .snapshots
 
   pub read-counted : (r : ℕ) (x : ReadSet) → Among x (t .finished r) → (k : ℕ) → k < K
@@ -164,58 +165,45 @@ module _ (claim : Demand3) (l : List ℕ) (z : Counts) (ok : So (isOk (newOn l z
 
 -- ---- runs
 
--- An opening of run r is an open of run r, and nothing else is.
-pub opening-open : (r : ℕ) (c : StoreCall) → So (opens r c) → (ws : List ℕ) × (c ≡ openRun r ws)
-unfolding roleOf opensRole
-opening-open r (openRun x ws) p = (ws, ap (λ y. openRun y ws) (sym (eqb-eq r x p)))
-opening-open r (fetch o k) p = absurd (false≢true p)
-opening-open r (evict o k) p = absurd (false≢true p)
-opening-open r (prepare x) p = absurd (false≢true p)
-opening-open r (step x j) p = absurd (false≢true p)
-opening-open r (issue x w S) p = absurd (false≢true p)
-opening-open r (dropRun x) p = absurd (false≢true p)
-opening-open r (ask q) p = absurd (false≢true p)
-
-pub open-opening : (r : ℕ) (ws : List ℕ) → So (opens r (openRun r ws))
-unfolding roleOf opensRole
-open-opening r ws = eq-eqb r r refl
-
-module _ (lasting : Lasting) (l : List ℕ) (r : ℕ) (F : So (inForm l))
-    (low : r < countsIn l .runs) where
+module _ (lasting : Lasting) (l : List ℕ) (r : ℕ) (F : So (inForm l)) where
   -- Run r after a call.
   abbrev next : StoreCall → Run
   next c = storeOf (leaves (callOn (on c) l) l) .run r
 
-  -- A run that was free and isn't after a call was opened by it.
+  -- A run that was free and isn't after a call was opened by it,
   pub begun-open : (c : StoreCall) → storeOf l .run r .state ≡ freeState
-      → next c .state ≢ freeState
-      → ((ws : List ℕ) × (c ≡ openRun r ws)) × So (isOk (callOn (on c) l))
+      → next c .state ≢ freeState → So (opens r (roleOf c)) × So (isOk (callOn (on c) l))
   begun-open c a b =
-      let p = lasting l c r F low .begun a b in
-      (opening-open r c (and-left (opens r c) _ p), and-right (opens r c) _ p)
+      let p = lasting l c r F .begun a b in
+      (and-left (opens r (roleOf c)) _ p, and-right (opens r (roleOf c)) _ p)
+
+  -- and an accepted open finds it free and leaves it open.
+  pub open-begins : (ws : List ℕ) → So (isOk (callOn (on (openRun r ws)) l))
+      → (storeOf l .run r .state ≡ freeState) × (next (openRun r ws) .state ≡ openState)
+  unfolding roleOf opens
+  open-begins ws p = lasting l (openRun r ws) r F .opened (and-intro (eq-eqb r r refl) p)
 
   -- An accepted drop leaves it all zero,
   pub drop-frees : So (isOk (callOn (on (dropRun r)) l)) → next (dropRun r) ≡ freeRun
-  unfolding roleOf freesRole
-  drop-frees p = lasting l (dropRun r) r F low .freed (and-intro (eq-eqb r r refl) p)
+  unfolding roleOf frees
+  drop-frees p = lasting l (dropRun r) r F .freed (and-intro (eq-eqb r r refl) p)
 
   -- and a step leaves it in use, with its jobs.
   pub step-goes-on : (j : ℕ) → storeOf l .run r .state ≢ freeState
       → (next (step r j) .state ≢ freeState) × (next (step r j) .jobs ≡ storeOf l .run r .jobs)
-  unfolding roleOf freesRole
+  unfolding roleOf frees
   step-goes-on j u =
-      let G = lasting l (step r j) r F low .lasts u refl in
+      let G = lasting l (step r j) r F .lasts u refl in
       (G .used, G .jobs)
 
--- Fetch, evict and the calls that only answer leave every run, and a step every other one.
-pub others-stay : Framed → (l : List ℕ) (r : ℕ) → So (inForm l) → (o k x j : ℕ) (q : Query) → r ≢ x
-    → let after-it : StoreCall → Run = λ c. storeOf (leaves (callOn (on c) l) l) .run r in
-    (after-it (fetch o k) ≡ storeOf l .run r) × (after-it (evict o k) ≡ storeOf l .run r)
-    × (after-it (ask q) ≡ storeOf l .run r) × (after-it (step x j) ≡ storeOf l .run r)
-unfolding roleOf onRole
-others-stay framed l r F o k x j q n = (
-  framed l (fetch o k) r F refl,
-  framed l (evict o k) r F refl,
-  framed l (ask q) r F refl,
-  framed l (step x j) r F (ne-eqb r x n),
-)
+  -- Fetch, evict and the calls that only answer leave every run, and a step every other one.
+  pub others-stay : (o k x j : ℕ) (q : Query) → r ≢ x → let a = storeOf l .run r in
+      (next (fetch o k) ≡ a) × (next (evict o k) ≡ a) × (next (ask q) ≡ a)
+      × (next (step x j) ≡ a)
+  unfolding roleOf isOn
+  others-stay o k x j q n = (
+    lasting l (fetch o k) r F .others refl,
+    lasting l (evict o k) r F .others refl,
+    lasting l (ask q) r F .others refl,
+    lasting l (step x j) r F .others (ne-eqb r x n),
+  )

@@ -14,7 +14,7 @@ use Rattle.model.specs.Version.{Version, held, merge, unheld, versions}
 use Rattle.model.specs.Store.{Store, planned}
 use Rattle.model.specs.Outcome.{Outcome, refused, broken, done, told}
 use Rattle.model.specs.Calls.{step}
-use Rattle.model.specs.Step.{stepReads, stepCache, stepPlan}
+use Rattle.model.specs.Step.{stepBranch, stepReads, stepCache, stepPlan}
 use Rattle.layout.specs.Reading.{storeOf}
 use Rattle.layout.specs.Buffer.{inForm}
 use Rattle.layout.specs.Calls.{Call, on, callOn, newOn, isOk}
@@ -74,15 +74,16 @@ pickOf neither snapshot cache = unheld
 -- The choice made for run r's job j: nothing outside of the plan.
 unfoldable pub chosen : Store → ℕ → ℕ → (ℕ → Pick) → Place Version
 chosen s r j pick k =
-    cond (stepPlan s r j k) (pickOf (pick k) (s .run r .snapshot k) (stepCache s r j k)) unheld
+    cond (stepPlan s r j k)
+    (pickOf (pick k) (stepBranch s r j .snapshot k) (stepCache s r j k)) unheld
 
 -- It "holds all that the job reads, leaves the sheets already read as they were and meets every
 -- need among the plan's sheets".
 pub record Works (s : Store) (r j : ℕ) (pick : ℕ → Pick) : Type 0 where
   pub holds : (k : ℕ) → k < s .counts .keys → So (stepReads s r j k)
       → So (held (chosen s r j pick k))
-  pub keeps : (k : ℕ) → k < s .counts .keys → So (testBit (s .run r .read) k)
-      → chosen s r j pick k ≡ s .run r .snapshot k
+  pub keeps : (k : ℕ) → k < s .counts .keys → So (testBit (stepBranch s r j .read) k)
+      → chosen s r j pick k ≡ stepBranch s r j .snapshot k
   pub meets : So (needsMet (versions (s .counts .writers)) (s .counts .keys) (stepPlan s r j)
       (chosen s r j pick))
 
@@ -121,7 +122,8 @@ pub record Holds (s : Store) (b : Book) (finished : ℕ → List ReadSet) : Type
   pub caches : (o : ℕ) → o < s .counts .sites
       → Counted (s .counts .keys) (b .history) (s .site o .cache) (b .cache o)
   pub snapshots : (r : ℕ) → r < s .counts .runs
-      → Counted (s .counts .keys) (b .history) (s .run r .snapshot) (b .run r .snapshot)
+      → Counted (s .counts .keys) (b .history) (s .run r .branch .snapshot)
+      (b .run r .branch .snapshot)
   pub reads : (r : ℕ) (x : ReadSet) → Among x (finished r)
       → ReadCounted (s .counts .keys) (b .history) x
   -- (c)
@@ -130,7 +132,7 @@ pub record Holds (s : Store) (b : Book) (finished : ℕ → List ReadSet) : Type
   -- Besides: each card is a keyset-overlapping cut for its plan, and the master holds every save.
   pub overlaps : (r : ℕ) → r < s .counts .runs
       → So (overlappingCut (versions (s .counts .writers)) (s .counts .keys)
-      (planned (s .run r .jobs) (s .run r .job)) (s .run r .snapshot))
+      (planned (s .run r .jobs) (s .run r .job)) (s .run r .branch .snapshot))
   pub every-save : (k i : ℕ) → k < s .counts .keys → So (saved (b .history) k i)
       → So (b .master k i)
 

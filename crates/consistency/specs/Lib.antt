@@ -1,3 +1,4 @@
+pub mod Roles
 pub mod Trace
 pub mod Claim
 pub mod Lasting

@@ -4,6 +4,7 @@
 -- Assumes nothing.
 use mathlib.Core.Bool.{cond}
 use mathlib.Core.List.{List, [], _∷_}
+use mathlib.Core.Option.{none, some}
 use Prim.Native.Nat.{ℕ}
 use Rattle.words.specs.Tests.{Items}
 use Rattle.words.specs.Lists.{putAt}
@@ -12,11 +13,11 @@ use Rattle.sizes.specs.declared.Counts.{Counts}
 use Rattle.model.specs.Algebra.{Place}
 use Rattle.model.specs.Version.{Version}
 use Rattle.model.specs.Store.{Store}
-use Rattle.model.specs.Calls.{openRun, fetch, evict, prepare, step, issue, dropRun, ask}
 use Rattle.layout.specs.Reading.{storeOf}
 use Rattle.layout.specs.Calls.{Call, new, on, callOn, leaves, isOk, newOn}
 use Rattle.history.specs.Copies.{Copy}
 use Rattle.history.specs.Book.{Book, freshBook, bookStep}
+use Rattle.consistency.specs.Roles.{Role, opening, working, freeing, elsewhere, roleOf}
 
 -- "A job whose step is answered ok is finished and has read its sheets, as that step left them on
 -- the card."
@@ -39,22 +40,22 @@ start z l = record { buffer = leaves (newOn l z) l; book = freshBook z; finished
 unfoldable pub readNow : ℕ → ℕ → Store → Book → ReadSet
 readNow r j s b = record {
   keys = testBit (b .run r .job j .reads);
-  version = s .run r .snapshot;
-  copy = b .run r .snapshot;
+  version = s .run r .branch .snapshot;
+  copy = b .run r .branch .snapshot;
 }
 
 -- A call answered ok, on what has been read: s and b are the store and the book after it.
 -- "A run lasts from its open until it is freed."
+unfoldable pub finishBy : Role → Store → Book → (ℕ → List ReadSet) → ℕ → List ReadSet
+finishBy (opening r) s b f = putAt f r []
+finishBy (working r none) s b f = f
+finishBy (working r (some j)) s b f = putAt f r (readNow r j s b ∷ f r)
+finishBy (freeing r) s b f = putAt f r []
+finishBy elsewhere s b f = f
+
 unfoldable pub finish : Call → Store → Book → (ℕ → List ReadSet) → ℕ → List ReadSet
 finish (new k w n p) s b f = λ r. []
-finish (on (openRun r l)) s b f = putAt f r []
-finish (on (fetch o k)) s b f = f
-finish (on (evict o k)) s b f = f
-finish (on (prepare r)) s b f = f
-finish (on (step r j)) s b f = putAt f r (readNow r j s b ∷ f r)
-finish (on (issue r w S)) s b f = putAt f r []
-finish (on (dropRun r)) s b f = putAt f r []
-finish (on (ask q)) s b f = f
+finish (on c) s b f = finishBy (roleOf c) s b f
 
 -- One call. The book gets the call, and whether it was answered ok.
 unfoldable pub advance : Call → Trace → Trace

@@ -22,9 +22,11 @@ pub run-words : (z : Counts) (l : List ℕ) (at : ℕ) → readRun z l at ≡ re
   state = getD l at 0;
   jobs = getD l (at + jobsOffset) 0;
   done = getD l (at + doneOffset) 0;
-  read = getD l (at + readOffset) 0;
   job = readJobs l (at + planOffset);
-  snapshot = readPlace z l (at + snapshotOffset);
+  branch = record {
+    read = getD l (at + readOffset) 0;
+    snapshot = readPlace z l (at + snapshotOffset);
+  };
 }
 unfolding readRun
 run-words z l at = refl

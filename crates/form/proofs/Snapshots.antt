@@ -86,27 +86,28 @@ abbrev heldMask : Counts → Place Version → ℕ
 heldMask z p = maskBelow (z .keys) (λ k. held (p k))
 
 pub carried-test : (z : Counts) (a : Run) → So (jobsFormed z a) → So (masksFormed z a)
-    → let h = heldMask z (a .snapshot) in
-    placeFormed z (a .snapshot) && (eqb (without h (readsOf (a .jobs) (a .job) 255)) 0
-    && eqb (without (a .read) h) 0)
+    → let h = heldMask z (a .branch .snapshot) in
+    placeFormed z (a .branch .snapshot) && (eqb (without h (readsOf (a .jobs) (a .job) 255)) 0
+    && eqb (without (a .branch .read) h) 0)
     ≡ snapshotFormed z a
 unfolding snapshotFormed
 carried-test z a J M =
     let n = z .keys in
-    let holds : Items = λ k. held (a .snapshot k) in
+    let holds : Items = λ k. held (a .branch .snapshot k) in
     let h = maskBelow n holds in
     let plan = readsOf (a .jobs) (a .job) 255 in
     let most = jobs-out z a J .high in
-    let low : a .read < 2 ^ n = rw (masks-out z a M .reads) (mask-lt n _ n (omega arith)) in
+    let low : a .branch .read < 2 ^ n =
+    rw (masks-out z a M .reads) (mask-lt n _ n (omega arith)) in
     let A : Items = λ k. implies (holds k) (planned (a .jobs) (a .job) k) in
-    let B : Items = λ k. implies (testBit (a .read) k) (holds k) in
-    ap (λ (t : Bool). placeFormed z (a .snapshot) && t)
+    let B : Items = λ k. implies (testBit (a .branch .read) k) (holds k) in
+    ap (λ (t : Bool). placeFormed z (a .branch .snapshot) && t)
     (ap₂ _&&_
     (without-none n h plan (mask-lt n holds n (omega arith))
     ∙ all-same n (λ k. implies (testBit h k) (testBit plan k)) A
     (λ k i. rw (test-mask n holds k i, test-plan (a .jobs) (a .job) most)))
-    (without-none n (a .read) h low
-    ∙ all-same n (λ k. implies (testBit (a .read) k) (testBit h k)) B
+    (without-none n (a .branch .read) h low
+    ∙ all-same n (λ k. implies (testBit (a .branch .read) k) (testBit h k)) B
     (λ k i. rw (test-mask n holds k i)))
     ∙ both-below n A B)
 

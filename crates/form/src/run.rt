@@ -10,6 +10,8 @@ use sizes::Counts;
 use sizes::Sizes;
 use sizes::is_between;
 use sizes::run::RunOffset;
+use states::BROKEN_STATE;
+use states::FREE_STATE;
 use version::held_mask;
 use words::wide;
 ghost use mathlib.Core.Path.{_≡_};
@@ -102,9 +104,9 @@ pub fn run_formed(words: &[u32], z: Counts, at: usize) -> bool
     ensures { λ r. ⌜ r ≡ runFormed z (readRun z (now (words .entry)) at) ⌝ }
 {
     let state = words[at];
-    if state == 0 {
+    if state == FREE_STATE {
         free_formed(words, z, at)
     } else {
-        (state <= 2) & plan_formed(words, z, at)
+        (state <= BROKEN_STATE) & plan_formed(words, z, at)
     }
 }

@@ -72,8 +72,10 @@ abbrev pub keptRun : ℕ → ℕ → BookRun → BookRun
 keptRun K n a = record {
   jobs = a .jobs;
   job = a .job;
-  read = tabled K false (a .read);
-  snapshot = keptPlace K n (a .snapshot);
+  branch = record {
+    read = tabled K false (a .branch .read);
+    snapshot = keptPlace K n (a .branch .snapshot);
+  };
 }
 
 abbrev pub keptBook : Book → Book
@@ -107,7 +109,8 @@ abbrev pub follows : Store → Book → Bool
 follows s b =
     isCounted b (s .master) (b .master)
     && (allBelow (b .counts .sites) (λ o. isCounted b (s .site o .cache) (b .cache o))
-    && allBelow (b .counts .runs) (λ r. isCounted b (s .run r .snapshot) (b .run r .snapshot)))
+    && allBelow (b .counts .runs) (λ r.
+    isCounted b (s .run r .branch .snapshot) (b .run r .branch .snapshot)))
 
 -- After each call. The store is written down as its words (crate layout, `store-back`: the same).
 abbrev pub followed : List StoreCall → Store → Book → Bool

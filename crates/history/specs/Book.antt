@@ -1,6 +1,6 @@
 -- The history model (document 01: "the book"), fed each call with its arguments and whether it
 -- was answered ok.
--- BookRun, Book, freshBook; bookStep: one call.
+-- BookBranch, BookRun, Book, freshBook; bookStep: one call.
 -- Assumes nothing.
 use mathlib.Core.Bool.{Bool, cond, _&&_, _||_}
 use mathlib.Core.List.{List, [], _∷_}
@@ -23,12 +23,16 @@ use Rattle.layout.specs.Calls.{Call, new, on}
 use Rattle.history.specs.History.{Issue, History, inPast}
 use Rattle.history.specs.Copies.{Copy, copies}
 
+-- "read sheets", and the card's copies.
+pub record BookBranch : Type 0 where
+  pub read : Items
+  pub snapshot : Place Copy
+
 -- "each run's jobs and read sheets", and its card.
 pub record BookRun : Type 0 where
   pub jobs : ℕ
   pub job : ℕ → Job
-  pub read : Items
-  pub snapshot : Place Copy
+  pub branch : BookBranch
 
 pub record Book : Type 0 where
   pub counts : Counts
@@ -40,8 +44,11 @@ pub record Book : Type 0 where
 abbrev pub noCopies : Place Copy
 noCopies k = none
 
+abbrev pub noBookBranch : BookBranch
+noBookBranch = record { read = none; snapshot = noCopies }
+
 abbrev pub noRun : BookRun
-noRun = record { jobs = 0; job = noJobs; read = none; snapshot = noCopies }
+noRun = record { jobs = 0; job = noJobs; branch = noBookBranch }
 
 -- "New: all empty."
 unfoldable pub freshBook : Counts → Book
@@ -79,8 +86,7 @@ bookOpen r l b =
     withBookRun b r (record {
       jobs = listedCount l;
       job = listedJobs l;
-      read = none;
-      snapshot = noCopies;
+      branch = noBookBranch;
     })
 
 unfoldable pub bookFetch : ℕ → ℕ → Book → Book
@@ -104,8 +110,10 @@ bookPrepare r b =
     withBookRun (withBookCaches b caches) r (record {
       jobs = a .jobs;
       job = a .job;
-      read = a .read;
-      snapshot = sitesMerged alg (b .counts .sites) (usesSite (a .jobs) (a .job)) plan caches;
+      branch = record {
+        read = a .branch .read;
+        snapshot = sitesMerged alg (b .counts .sites) (usesSite (a .jobs) (a .job)) plan caches;
+      };
     })
 
 unfoldable pub bookStepJob : ℕ → ℕ → Book → Book
@@ -113,15 +121,18 @@ bookStepJob r j b =
     let K = b .counts .keys in
     let alg = copies K (b .history) in
     let a = b .run r in
+    let v = a .branch in
     let o = a .job j .site in
     let reads = testBit (a .job j .reads) in
-    let missing = readStart alg K (a .snapshot) (b .cache o) reads in
+    let missing = readStart alg K (v .snapshot) (b .cache o) reads in
     let cache = fetched alg K (b .master) (b .cache o) missing in
     withBookRun (withBookCaches b (putAt (b .cache) o cache)) r (record {
       jobs = a .jobs;
       job = a .job;
-      read = λ k. a .read k || reads k;
-      snapshot = pulled alg K (planned (a .jobs) (a .job)) (a .snapshot) cache reads;
+      branch = record {
+        read = λ k. v .read k || reads k;
+        snapshot = pulled alg K (planned (a .jobs) (a .job)) (v .snapshot) cache reads;
+      };
     })
 
 -- ---- issue
@@ -131,7 +142,7 @@ unfoldable pub entry : ℕ → ℕ → ℕ → Book → Issue
 entry r w S b = record {
   writer = w;
   keys = testBit S;
-  read = λ k i. b .run r .read k && b .run r .snapshot k i;
+  read = λ k i. b .run r .branch .read k && b .run r .branch .snapshot k i;
 }
 
 -- "for each k in S the master's copy takes in what the new version includes": "its own save and

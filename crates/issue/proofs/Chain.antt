@@ -23,7 +23,7 @@ use Rattle.layout.specs.Stored.{putPlace, putWriter, putRun}
 use Rattle.layout.specs.Buffer.{written}
 use Rattle.layout.proofs.Whole.{FitStore, store-fits, counts-back, store-back}
 use Rattle.layout.proofs.Fit.{fit-last, fit-writer}
-use Rattle.layout.proofs.KeptIssue.{taken-fits, rows-fit}
+use Rattle.layout.proofs.Rules.Issue.{taken-fits, rows-fit}
 use Rattle.layout.proofs.Updates.{put-last, put-master, put-writer, put-run}
 use Rattle.layout.proofs.Readings.{master-in, writer-in, snapshot-in}
 use Rattle.form.specs.Parts.{FormWith}
@@ -47,10 +47,10 @@ module _ (s : Store) (l : List ℕ) (z : Counts) (F : FitStore s) (e : s .counts
       ∙ ap (λ (t : Store). t .writer w) (store-back s l F)
 
   snapshot-back : (r : ℕ) → r < z .runs
-      → readPlace z (written s l) (snapshotAt z r) ≡ s .run r .snapshot
+      → readPlace z (written s l) (snapshotAt z r) ≡ s .run r .branch .snapshot
   snapshot-back r h =
       sym (snapshot-in (written s l) z counted r h)
-      ∙ ap (λ (t : Store). t .run r .snapshot) (store-back s l F)
+      ∙ ap (λ (t : Store). t .run r .branch .snapshot) (store-back s l F)
 
 module _ (s : Store) (l : List ℕ) (z : Counts) (e : s .counts ≡ z) where
   writer-put : (w : ℕ) (y : Writer) → w < z .writers
@@ -123,7 +123,8 @@ module _ (l : List ℕ) (z : Counts) (H : FormWith l z) (r w S : ℕ) (hr : r < 
       record {
         count = n;
         past = rowsSet S w n
-            (takenIn (z .keys) (s .run r .read) (s .run r .snapshot) (s .writer w .past));
+            (takenIn (z .keys) (s .run r .branch .read) (s .run r .branch .snapshot)
+            (s .writer w .past));
       }
 
   saved-as : issuedWriter s r w S ≡ saved
@@ -135,8 +136,9 @@ module _ (l : List ℕ) (z : Counts) (H : FormWith l z) (r w S : ℕ) (hr : r < 
   fits₂ =
       let same = form-counts l z H in
       let F = store-fits l in
-      let taken = taken-fits (s .counts) (s .run r .read) (s .run r .snapshot) (s .writer w .past)
-      (F .run .each r (rw same hr) .snapshot) (F .writer .each w (rw same hw) .past) in
+      let taken = taken-fits (s .counts) (s .run r .branch .read) (s .run r .branch .snapshot)
+      (s .writer w .past) (F .run .each r (rw same hr) .snapshot)
+      (F .writer .each w (rw same hw) .past) in
       fit-writer s₁ fits₁ w (issuedWriter s r w S) (rw same hw)
       (record { past = rows-fit (s .counts) S w _ _ (rw same hS) (rw same hw) taken })
 
@@ -144,7 +146,7 @@ module _ (l : List ℕ) (z : Counts) (H : FormWith l z) (r w S : ℕ) (hr : r < 
   unfolding withWriter
   same₂ = same₁
 
-  writer-stored : (m₁ m₂ : List ℕ) (read n : ℕ) → read ≡ s .run r .read
+  writer-stored : (m₁ m₂ : List ℕ) (read n : ℕ) → read ≡ s .run r .branch .read
       → n ≡ s .writer w .count + 1 → m₁ ≡ written s₁ l
       → m₂ ≡ putWriter z m₁ (writerAt z w)
       (record {
@@ -183,7 +185,7 @@ module _ (l : List ℕ) (z : Counts) (H : FormWith l z) (r w S : ℕ) (hr : r < 
 
   -- From what the code reads and stores, by its own indices and numbers: number and writer,
   pub writer-done : (at place read i n : ℕ) (m₁ m₂ : List ℕ) → at ≡ writerAt z w
-      → place ≡ snapshotAt z r → read ≡ s .run r .read → i ≡ s .last + 1
+      → place ≡ snapshotAt z r → read ≡ s .run r .branch .read → i ≡ s .last + 1
       → n ≡ s .writer w .count + 1 → m₁ ≡ set l 4 i
       → m₂ ≡ putWriter z m₁ at
       (record {

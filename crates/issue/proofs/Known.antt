@@ -44,7 +44,7 @@ module _ (l : List ℕ) (z : Counts) (H : FormWith l z) where
     unfolding readRun
     done-word = rw (run-known l z r H h .run) (ap (readWord l) (omega arith))
 
-    pub read-word : storeOf l .run r .read ≡ readWord l (runAt z r + 3)
+    pub read-word : storeOf l .run r .branch .read ≡ readWord l (runAt z r + 3)
     unfolding readRun
     read-word = rw (run-known l z r H h .run) (ap (readWord l) (omega arith))
 

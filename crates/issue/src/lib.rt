@@ -139,7 +139,7 @@ fn raise_cause(words: &[u32], z: Counts, w: usize) -> u32
     if old.issue.is_last() {
         return 9;
     }
-    if old.count.is_last() {
+    if old.count.is_full() {
         return 10;
     }
     0
@@ -163,7 +163,7 @@ fn save(words: &mut [u32], z: Counts, r: usize, w: usize, mask: u32) -> IssueNum
 fn read_mask(words: &[u32], z: Counts, r: usize) -> u32
     requires { ⌜ FormWith (now words) z ⌝ }
     requires { ⌜ r < z .runs ⌝ }
-    ensures { λ m. ⌜ m ≡ storeOf (now (words .entry)) .run r .read ⌝ }
+    ensures { λ m. ⌜ m ≡ storeOf (now (words .entry)) .run r .branch .read ⌝ }
 {
     let at = z.run_at(r);
     words[at + RunOffset::READ]

@@ -15,9 +15,5 @@ pub mod Pasts
 pub mod Readings
 pub mod Follow
 pub mod Kept
-pub mod KeptOpen
-pub mod KeptPrepare
-pub mod KeptStep
-pub mod KeptIssue
 pub mod Rules
 pub mod Forms

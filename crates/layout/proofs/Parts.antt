@@ -176,7 +176,7 @@ jobs-laws = many maxJobs job-laws noJob
 
 pub record FitRun (z : Counts) (r : Run) : Type 0 where
   pub job : FitJobs (r .job)
-  pub snapshot : FitPlace z (r .snapshot)
+  pub snapshot : FitPlace z (r .branch .snapshot)
 
 -- Four words, and a window behind them.
 abbrev fourWords : List ℕ → ℕ → List ℕ → List ℕ
@@ -217,8 +217,15 @@ run-same z a b F G e =
     let d = append-same _ _ _ _ (J .long (a .job) ∙ sym (J .long (b .job))) (c₄ .1) in
     let p = c₁ .0 in let q = c₂ .0 in let r = c₃ .0 in let s = c₄ .0 in
     let t = J .same (a .job) (b .job) (F .job) (G .job) (d .0) in
-    let u = P .same (a .snapshot) (b .snapshot) (F .snapshot) (G .snapshot) (d .1) in
-    λ i. record { state = p i; jobs = q i; done = r i; read = s i; job = t i; snapshot = u i }
+    let u = P .same (a .branch .snapshot) (b .branch .snapshot) (F .snapshot) (G .snapshot)
+    (d .1) in
+    λ i. record {
+      state = p i;
+      jobs = q i;
+      done = r i;
+      job = t i;
+      branch = record { read = s i; snapshot = u i };
+    }
 
 pub run-laws : (z : Counts) → Laws (runSize z) (runWords z) (readRun z) (FitRun z)
 unfolding runSize runWords readRun
@@ -226,7 +233,8 @@ run-laws z =
     let J = jobs-laws in
     let P = place-laws z in
     record {
-      long = λ r. rw (length-append, J .long (r .job), P .long (r .snapshot)) (omega arith);
+      long = λ r.
+          rw (length-append, J .long (r .job), P .long (r .branch .snapshot)) (omega arith);
       round = run-round z;
       fits = λ l at. record { job = J .fits l _; snapshot = P .fits l _ };
       same = run-same z;

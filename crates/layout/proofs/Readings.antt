@@ -52,7 +52,7 @@ module _ (l : List ℕ) (z : Counts) (e : z ≡ countsIn l) where
       rw (← e) (upto-in (z .runs) freeRun (λ r. readRun z l (runsAt z + r * runSize z)) r h)
 
   pub snapshot-in : (r : ℕ) → r < z .runs
-      → storeOf l .run r .snapshot ≡ readPlace z l (snapshotAt z r)
+      → storeOf l .run r .branch .snapshot ≡ readPlace z l (snapshotAt z r)
   unfolding readRun snapshotAt
   snapshot-in r h =
       rw (run-in r h)

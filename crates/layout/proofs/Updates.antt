@@ -168,10 +168,10 @@ put-snapshot s l r p h =
     let a = s .run r in
     let L = place-laws z in
     let new = placeWords z p in
-    let before = a .state ∷ a .jobs ∷ a .done ∷ a .read ∷ jobsWords (a .job) in
-    let old = placeWords z (a .snapshot) in
+    let before = a .state ∷ a .jobs ∷ a .done ∷ a .branch .read ∷ jobsWords (a .job) in
+    let old = placeWords z (a .branch .snapshot) in
     let e : length before ≡ snapshotOffset = omega (arith, jobs-laws .long (a .job)) in
-    let same : length new ≡ length old = L .long p ∙ sym (L .long (a .snapshot)) in
+    let same : length new ≡ length old = L .long p ∙ sym (L .long (a .branch .snapshot)) in
     put-run-part s l r snapshotOffset new (withSnapshot a p) h (omega (arith, L .long p))
     (ap (λ (i : ℕ). sets (runWords z a) i new) (sym e ∙ sym (add-zero (length before)))
     ∙ sets-behind before old new 0 (omega arith)
@@ -180,12 +180,12 @@ put-snapshot s l r p h =
 -- The done and the read mask.
 pub put-masks : (s : Store) (l : List ℕ) (r x y : ℕ) → r < s .counts .runs
     → sets (written s l) (runAt (s .counts) r + doneOffset) (x ∷ y ∷ [])
-    ≡ written (withRun s r (withJobDone (s .run r) x y (s .run r .snapshot))) l
+    ≡ written (withRun s r (withJobDone (s .run r) x y (s .run r .branch .snapshot))) l
 unfolding runSize runWords withJobDone
 put-masks s l r x y h =
     let a = s .run r in
-    put-run-part s l r doneOffset (x ∷ y ∷ []) (withJobDone a x y (a .snapshot)) h (omega arith)
-    refl
+    put-run-part s l r doneOffset (x ∷ y ∷ []) (withJobDone a x y (a .branch .snapshot)) h
+    (omega arith) refl
 
 -- ---- one change after another
 

@@ -49,9 +49,11 @@ readRun z l at = record {
   state = readWord l at;
   jobs = readWord l (at + jobsOffset);
   done = readWord l (at + doneOffset);
-  read = readWord l (at + readOffset);
   job = readJobs l (at + planOffset);
-  snapshot = readPlace z l (at + snapshotOffset);
+  branch = record {
+    read = readWord l (at + readOffset);
+    snapshot = readPlace z l (at + snapshotOffset);
+  };
 }
 
 unfoldable pub readTail : Counts → List ℕ → ℕ → Tail

@@ -48,7 +48,8 @@ jobsWords f = blocks maxJobs (λ i. jobWords (f i))
 -- "state, number of jobs, done mask, read mask, 8 jobs of 3 words, then the card, K versions"
 unfoldable pub runWords : Counts → Run → List ℕ
 runWords z r =
-    r .state ∷ r .jobs ∷ r .done ∷ r .read ∷ (jobsWords (r .job) ++ placeWords z (r .snapshot))
+    r .state ∷ r .jobs ∷ r .done ∷ r .branch .read
+    ∷ (jobsWords (r .job) ++ placeWords z (r .branch .snapshot))
 
 unfoldable pub runsWords : Counts → (ℕ → Run) → List ℕ
 runsWords z f = blocks (z .runs) (λ r. runWords z (f r))

@@ -37,9 +37,8 @@ run state n finished read jobs card = record {
   state = state;
   jobs = n;
   done = finished;
-  read = read;
   job = jobs;
-  snapshot = card;
+  branch = record { read = read; snapshot = card };
 }
 
 -- An open run of n jobs, nothing done, all its words zero but for one job's.

@@ -87,17 +87,17 @@ pub record Masks (z : Counts) (n : ℕ) (job : ℕ → Job) (done read : ℕ) : 
   pub reads : read ≡ maskBelow (z .keys) (doneReads n job done)
 
 pub masks-out : (z : Counts) (a : Run) → So (masksFormed z a)
-    → Masks z (a .jobs) (a .job) (a .done) (a .read)
+    → Masks z (a .jobs) (a .job) (a .done) (a .branch .read)
 unfolding masksFormed
 masks-out z a p =
     let d = ltb (a .done) (2 ^ a .jobs) in
     let reads = maskBelow (z .keys) (doneReads (a .jobs) (a .job) (a .done)) in
     record {
-      low = ltb-lt _ _ (and-left d (eqb (a .read) reads) p);
-      reads = eqb-eq _ _ (and-right d (eqb (a .read) reads) p);
+      low = ltb-lt _ _ (and-left d (eqb (a .branch .read) reads) p);
+      reads = eqb-eq _ _ (and-right d (eqb (a .branch .read) reads) p);
     }
 
-masks-in : (z : Counts) (a : Run) → Masks z (a .jobs) (a .job) (a .done) (a .read)
+masks-in : (z : Counts) (a : Run) → Masks z (a .jobs) (a .job) (a .done) (a .branch .read)
     → So (masksFormed z a)
 unfolding masksFormed
 masks-in z a M = and-intro (lt-ltb _ _ (M .low)) (eq-eqb _ _ (M .reads))
@@ -112,42 +112,43 @@ pub record Snapshot (z : Counts) (n : ℕ) (job : ℕ → Job) (read : ℕ) (p :
 -- What is asked of key k.
 abbrev keyTest : Run → ℕ → Bool
 keyTest a k =
-    implies (held (a .snapshot k)) (planned (a .jobs) (a .job) k)
-    && implies (testBit (a .read) k) (held (a .snapshot k))
+    implies (held (a .branch .snapshot k)) (planned (a .jobs) (a .job) k)
+    && implies (testBit (a .branch .read) k) (held (a .branch .snapshot k))
 
 snapshot-out : (z : Counts) (a : Run) → So (snapshotFormed z a)
-    → Snapshot z (a .jobs) (a .job) (a .read) (a .snapshot)
+    → Snapshot z (a .jobs) (a .job) (a .branch .read) (a .branch .snapshot)
 unfolding snapshotFormed
 snapshot-out z a p =
-    let b = placeFormed z (a .snapshot) in
+    let b = placeFormed z (a .branch .snapshot) in
     let each = all-at (z .keys) (keyTest a) (and-right b (allBelow (z .keys) (keyTest a)) p) in
     let plan : ℕ → Bool = planned (a .jobs) (a .job) in
     record {
-      place = place-out z (a .snapshot) (and-left b (allBelow (z .keys) (keyTest a)) p);
-      carried = λ k h. implies-out (held (a .snapshot k)) (plan k) (and-left
-          (implies (held (a .snapshot k)) (plan k))
-          (implies (testBit (a .read) k) (held (a .snapshot k))) (each k h));
-      has = λ k h. implies-out (testBit (a .read) k) (held (a .snapshot k)) (and-right
-          (implies (held (a .snapshot k)) (plan k))
-          (implies (testBit (a .read) k) (held (a .snapshot k))) (each k h));
+      place = place-out z (a .branch .snapshot) (and-left b (allBelow (z .keys) (keyTest a)) p);
+      carried = λ k h. implies-out (held (a .branch .snapshot k)) (plan k) (and-left
+          (implies (held (a .branch .snapshot k)) (plan k))
+          (implies (testBit (a .branch .read) k) (held (a .branch .snapshot k))) (each k h));
+      has = λ k h. implies-out (testBit (a .branch .read) k) (held (a .branch .snapshot k))
+          (and-right (implies (held (a .branch .snapshot k)) (plan k))
+          (implies (testBit (a .branch .read) k) (held (a .branch .snapshot k))) (each k h));
     }
 
-snapshot-in : (z : Counts) (a : Run) → Snapshot z (a .jobs) (a .job) (a .read) (a .snapshot)
+snapshot-in : (z : Counts) (a : Run)
+    → Snapshot z (a .jobs) (a .job) (a .branch .read) (a .branch .snapshot)
     → So (snapshotFormed z a)
 unfolding snapshotFormed
 snapshot-in z a S =
-    and-intro (place-in z (a .snapshot) (S .place))
+    and-intro (place-in z (a .branch .snapshot) (S .place))
     (all-intro (z .keys) (keyTest a) (λ k h. and-intro
-    (implies-in (held (a .snapshot k)) (planned (a .jobs) (a .job) k) (S .carried k h))
-    (implies-in (testBit (a .read) k) (held (a .snapshot k)) (S .has k h))))
+    (implies-in (held (a .branch .snapshot k)) (planned (a .jobs) (a .job) k) (S .carried k h))
+    (implies-in (testBit (a .branch .read) k) (held (a .branch .snapshot k)) (S .has k h))))
 
 -- ---- a run that isn't free
 
 pub record Plan (z : Counts) (a : Run) : Type 0 where
   pub state : a .state ≤ 2
   pub jobs : Jobs z (a .jobs) (a .job)
-  pub masks : Masks z (a .jobs) (a .job) (a .done) (a .read)
-  pub snapshot : Snapshot z (a .jobs) (a .job) (a .read) (a .snapshot)
+  pub masks : Masks z (a .jobs) (a .job) (a .done) (a .branch .read)
+  pub snapshot : Snapshot z (a .jobs) (a .job) (a .branch .read) (a .branch .snapshot)
 
 pub plan-out : (z : Counts) (a : Run) → 1 ≤ a .state → So (runFormed z a) → Plan z a
 unfolding runFormed
@@ -183,22 +184,22 @@ free-formed z =
     (all-intro (z .keys) (λ k. not (held unheld) && zeroRows z unheld) (λ k h. zero-rows z))
 
 -- A free run has read nothing.
-free-read : (z : Counts) (a : Run) → So (freeFormed z a) → a .read ≡ 0
+free-read : (z : Counts) (a : Run) → So (freeFormed z a) → a .branch .read ≡ 0
 unfolding freeFormed
 free-read z a p =
     let jobs = allBelow maxJobs (λ i. zeroJob (a .job i)) in
     let place = allBelow (z .keys) (λ k.
-    not (held (a .snapshot k)) && zeroRows z (a .snapshot k)) in
-    let read = eqb (a .read) 0 in
+    not (held (a .branch .snapshot k)) && zeroRows z (a .branch .snapshot k)) in
+    let read = eqb (a .branch .read) 0 in
     let done = eqb (a .done) 0 in
-    eqb-eq (a .read) 0
+    eqb-eq (a .branch .read) 0
     (and-left read (jobs && place)
     (and-right done (read && (jobs && place))
     (and-right (eqb (a .jobs) 0) (done && (read && (jobs && place))) p)))
 
 -- What a run has read is among the keys of its plan.
 pub read-planned : (z : Counts) (a : Run) → So (runFormed z a) → (k : ℕ) → k < z .keys
-    → So (testBit (a .read) k) → So (planned (a .jobs) (a .job) k)
+    → So (testBit (a .branch .read) k) → So (planned (a .jobs) (a .job) k)
 unfolding runFormed
 read-planned z a F k l p =
     test (eqb (a .state) 0)

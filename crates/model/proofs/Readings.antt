@@ -15,7 +15,7 @@ use Rattle.sizes.specs.Bounds.{countsOf}
 use Rattle.model.specs.Algebra.{Place, causalCut, overlappingCut}
 use Rattle.model.specs.Version.{Version, zeroPast, unheld, dependency, supersedes, merge, versions}
 use Rattle.model.specs.Sets.{evictSet}
-use Rattle.model.specs.Store.{Store, Job, emptyPlace, noJob, noJobs, fresh, withLast, withMaster, withCache, withWriter, withRun}
+use Rattle.model.specs.Store.{Store, Job, noJob, noJobs, noBranch, fresh, withLast, withMaster, withCache, withWriter, withRun}
 use Rattle.model.specs.Form.{wellFormed}
 use Rattle.model.specs.Outcome.{answer}
 use Rattle.model.specs.Issue.{maxWord}
@@ -121,9 +121,8 @@ store-of read need =
       state = 1;
       jobs = 2;
       done = read;
-      read = read;
       job = jobs;
-      snapshot = place (version 1 (one-zero ∷ []) ∷ []);
+      branch = record { read = read; snapshot = place (version 1 (one-zero ∷ []) ∷ []) };
     })
 
 -- A call on a store that is in form.
@@ -206,9 +205,8 @@ counted-to last count =
       state = 1;
       jobs = 1;
       done = 1;
-      read = 0;
       job = noJobs;
-      snapshot = emptyPlace;
+      branch = noBranch;
     })
 
 -- "Issue with S not empty": 9 before 10, both where both are reached; neither with S empty, nor

@@ -20,7 +20,7 @@ use Rattle.model.specs.Version.{held, versions}
 use Rattle.model.specs.Sets.{unfetchable}
 use Rattle.model.specs.Store.{Run, Store, planned, withJobDone}
 use Rattle.model.specs.Outcome.{refuse, allowed, stepRow, freeState}
-use Rattle.model.specs.Step.{readStart, stepSite, stepReads, stepStart, stepCache, stepPlan, stepPull, stepSnapshot, jobLimit, notReady, jobCause, stepCause}
+use Rattle.model.specs.Step.{readStart, stepBranch, stepSite, stepReads, stepStart, stepCache, stepPlan, stepPull, stepSnapshot, jobLimit, notReady, jobCause, stepCause}
 use Rattle.model.proofs.Outcomes.{no-cause, no-lack, allowed-used}
 use Rattle.model.proofs.Draws.{lacking-iff, fetched-held, pulled-out}
 use Rattle.model.proofs.Pulls.{pulled-held, pulled-keeps, pulled-planned, pulled-overlap}
@@ -116,12 +116,13 @@ step-planned s r j k l p = any-intro (s .run r .jobs) _ j l p
 
 -- and where the snapshot lacks it the cache holds it, after the fetch.
 pub step-cached : (s : Store) (r j k : ℕ) → Accepted s r j → k < s .counts .keys
-    → So (stepReads s r j k) → held (s .run r .snapshot k) ≡ false → So (held (stepCache s r j k))
+    → So (stepReads s r j k) → held (stepBranch s r j .snapshot k) ≡ false
+    → So (held (stepCache s r j k))
 unfolding stepCache stepStart readStart
 step-cached s r j k a l p n =
     let alg = versions (s .counts .writers) in
     let K = s .counts .keys in
-    let snapshot = s .run r .snapshot in
+    let snapshot = stepBranch s r j .snapshot in
     let cache = s .site (stepSite s r j) .cache in
     let gone = lacking-iff alg K snapshot (stepReads s r j) k .1 (p, n) in
     fetched-held alg K (s .master) cache (stepStart s r j) (a .fetchable) k l
@@ -133,53 +134,54 @@ step-cached s r j k a l p n =
 module _ (s : Store) (r j : ℕ) where
   -- Outside of C it is as it was.
   pub stepSnapshot-out : (k : ℕ) → stepPull s r j k ≡ false
-      → stepSnapshot s r j k ≡ s .run r .snapshot k
+      → stepSnapshot s r j k ≡ stepBranch s r j .snapshot k
   unfolding stepSnapshot stepPull
   stepSnapshot-out =
       pulled-out (versions (s .counts .writers)) (s .counts .keys) (stepPlan s r j)
-      (s .run r .snapshot) (stepCache s r j) (stepReads s r j)
+      (stepBranch s r j .snapshot) (stepCache s r j) (stepReads s r j)
 
   -- It holds what it held, and all that the job reads,
-  pub stepSnapshot-keeps : (k : ℕ) → So (held (s .run r .snapshot k))
+  pub stepSnapshot-keeps : (k : ℕ) → So (held (stepBranch s r j .snapshot k))
       → So (held (stepSnapshot s r j k))
   unfolding stepSnapshot
   stepSnapshot-keeps =
-      pulled-keeps (s .counts .writers) (s .counts .keys) (stepPlan s r j) (s .run r .snapshot)
-      (stepCache s r j) (stepReads s r j)
+      pulled-keeps (s .counts .writers) (s .counts .keys) (stepPlan s r j)
+      (stepBranch s r j .snapshot) (stepCache s r j) (stepReads s r j)
 
   module _ (a : Accepted s r j) where
     pub stepSnapshot-held : (k : ℕ) → k < s .counts .keys → So (stepReads s r j k)
         → So (held (stepSnapshot s r j k))
     unfolding stepSnapshot
     stepSnapshot-held k l p =
-        pulled-held (s .counts .writers) (s .counts .keys) (stepPlan s r j) (s .run r .snapshot)
-        (stepCache s r j) (stepReads s r j) k p (step-cached s r j k a l p)
+        pulled-held (s .counts .writers) (s .counts .keys) (stepPlan s r j)
+        (stepBranch s r j .snapshot) (stepCache s r j) (stepReads s r j) k p
+        (step-cached s r j k a l p)
 
     -- only keys of the plan, if that was so,
     pub stepSnapshot-planned :
-        Within (s .counts .keys) (λ k. held (s .run r .snapshot k)) (stepPlan s r j)
+        Within (s .counts .keys) (λ k. held (stepBranch s r j .snapshot k)) (stepPlan s r j)
         → Within (s .counts .keys) (λ k. held (stepSnapshot s r j k)) (stepPlan s r j)
     unfolding stepSnapshot
     stepSnapshot-planned =
         pulled-planned (s .counts .writers) (s .counts .keys) (stepPlan s r j)
-        (s .run r .snapshot) (stepCache s r j) (stepReads s r j)
+        (stepBranch s r j .snapshot) (stepCache s r j) (stepReads s r j)
         (λ k _. step-planned s r j k (a .job-in))
 
     -- and is still a cut for the plan.
     pub stepSnapshot-overlaps :
         So (overlappingCut (versions (s .counts .writers)) (s .counts .keys) (stepPlan s r j)
-        (s .run r .snapshot))
+        (stepBranch s r j .snapshot))
         → So (causalCut (versions (s .counts .writers)) (s .counts .keys) (stepCache s r j))
         → So (overlappingCut (versions (s .counts .writers)) (s .counts .keys) (stepPlan s r j)
         (stepSnapshot s r j))
     unfolding stepSnapshot
     stepSnapshot-overlaps o c =
         pulled-overlap (s .counts .writers) (s .counts .keys) (stepPlan s r j)
-        (s .run r .snapshot) (stepCache s r j) (stepReads s r j) o c
+        (stepBranch s r j .snapshot) (stepCache s r j) (stepReads s r j) o c
         (λ k _. step-planned s r j k (a .job-in))
 
 -- The run after it.
 abbrev pub steppedRun : Store → ℕ → ℕ → Run
 steppedRun s r j =
     withJobDone (s .run r) (withBit (s .run r .done) j)
-    (bitOr (s .run r .read) (s .run r .job j .reads)) (stepSnapshot s r j)
+    (bitOr (stepBranch s r j .read) (s .run r .job j .reads)) (stepSnapshot s r j)

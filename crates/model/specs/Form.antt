@@ -37,9 +37,10 @@ zeroJob j = eqb (j .site) 0 && (eqb (j .reads) 0 && eqb (j .upstream) 0)
 -- "a free run is all zero"
 unfoldable pub freeFormed : Counts → Run → Bool
 freeFormed z r =
-    eqb (r .jobs) 0 && (eqb (r .done) 0 && (eqb (r .read) 0
+    eqb (r .jobs) 0 && (eqb (r .done) 0 && (eqb (r .branch .read) 0
     && (allBelow maxJobs (λ i. zeroJob (r .job i))
-    && allBelow (z .keys) (λ k. not (held (r .snapshot k)) && zeroRows z (r .snapshot k)))))
+    && allBelow (z .keys) (λ k.
+    not (held (r .branch .snapshot k)) && zeroRows z (r .branch .snapshot k)))))
 
 -- "has 1..8 jobs, zero words beyond them, valid jobs"
 unfoldable pub jobsFormed : Counts → Run → Bool
@@ -52,15 +53,15 @@ jobsFormed z r =
 unfoldable pub masksFormed : Counts → Run → Bool
 masksFormed z r =
     ltb (r .done) (2 ^ r .jobs)
-    && eqb (r .read) (maskBelow (z .keys) (doneReads (r .jobs) (r .job) (r .done)))
+    && eqb (r .branch .read) (maskBelow (z .keys) (doneReads (r .jobs) (r .job) (r .done)))
 
 -- "carried sheets among the plan's sheets, each read sheet on the card"
 unfoldable pub snapshotFormed : Counts → Run → Bool
 snapshotFormed z r =
-    placeFormed z (r .snapshot)
+    placeFormed z (r .branch .snapshot)
     && allBelow (z .keys) (λ k.
-    implies (held (r .snapshot k)) (planned (r .jobs) (r .job) k)
-    && implies (testBit (r .read) k) (held (r .snapshot k)))
+    implies (held (r .branch .snapshot k)) (planned (r .jobs) (r .job) k)
+    && implies (testBit (r .branch .read) k) (held (r .branch .snapshot k)))
 
 -- "any other run is in state 1 or 2 and .."
 unfoldable pub runFormed : Counts → Run → Bool

@@ -51,7 +51,7 @@ rowsSet S w n past d u = cond (testBit S d && eqb u w) n (past d u)
 -- The writer's past after both.
 unfoldable pub newPast : Store → ℕ → ℕ → ℕ → ℕ → Clock
 newPast s r w S =
-    let a = s .run r in
+    let a = s .run r .branch in
     let x = s .writer w in
     rowsSet S w (x .count + 1) (takenIn (s .counts .keys) (a .read) (a .snapshot) (x .past))
 

@@ -15,7 +15,7 @@ use Rattle.model.specs.Outcome.{Reply, refuse}
 -- "place (0 master, 1 shelf, 2 card), its number (0 for the master)"
 unfoldable pub lookPlace : Store → ℕ → ℕ → Place Version
 lookPlace s p i =
-    cond (eqb p 0) (s .master) (cond (eqb p 1) (s .site i .cache) (s .run i .snapshot))
+    cond (eqb p 0) (s .master) (cond (eqb p 1) (s .site i .cache) (s .run i .branch .snapshot))
 
 -- How many places there are of each kind.
 unfoldable pub lookLimit : Counts → ℕ → ℕ

@@ -9,7 +9,7 @@ use Rattle.words.specs.Tests.{allBelow}
 use Rattle.words.specs.Lists.{upto}
 use Rattle.sizes.specs.Bounds.{between, maxJobs, jobSize, readsOffset, upstreamOffset}
 use Rattle.sizes.specs.declared.Counts.{Counts}
-use Rattle.model.specs.Store.{Job, Run, Store, noJob, freeRun, emptyPlace, withRun}
+use Rattle.model.specs.Store.{Job, Run, Store, noJob, noBranch, freeRun, withRun}
 use Rattle.model.specs.Form.{validJob}
 use Rattle.model.specs.Outcome.{Outcome, done, refuse, unless, openRow, dropRow, openState, runCause}
 
@@ -47,9 +47,8 @@ openedRun l = record {
   state = openState;
   jobs = listedCount l;
   done = 0;
-  read = 0;
   job = listedJobs l;
-  snapshot = emptyPlace;
+  branch = noBranch;
 }
 
 -- "Answers the number of jobs."

@@ -1,6 +1,7 @@
 -- Step: a job reads its keys, from the snapshot ("card"), its site's cache or the master.
--- stepReads (R), stepStart (what is fetched), stepCache (the cache after the fetch), stepPull
--- (C), stepMoved. jobLimit, notReady, jobCause: the causes that the run decides alone.
+-- stepBranch (read mask and card), stepReads (R), stepStart (what is fetched), stepCache (the
+-- cache after the fetch), stepPull (C), stepMoved. jobLimit, notReady, jobCause: the causes that
+-- the run decides alone.
 -- Assumes nothing.
 use mathlib.Core.Bool.{Bool, cond, not, _&&_, _||_}
 use mathlib.Core.List.{[], _∷_}
@@ -13,7 +14,7 @@ use Rattle.sizes.specs.Bounds.{maxJobs}
 use Rattle.model.specs.Algebra.{Algebra, Place, lacking}
 use Rattle.model.specs.Version.{Version, versions}
 use Rattle.model.specs.Sets.{fetchSet, fetched, unfetchable, pullSet, pulled}
-use Rattle.model.specs.Store.{Run, Store, planned, withCache, withRun, withState, withJobDone}
+use Rattle.model.specs.Store.{Branch, Run, Store, planned, withCache, withRun, withState, withJobDone}
 use Rattle.model.specs.Outcome.{Outcome, broken, done, refuse, unless, allowed, stepRow, freeState, brokenState}
 
 -- "reads R that the card lacks and the shelf lacks are fetched together"
@@ -38,6 +39,10 @@ jobCause a j rest =
     rest))
 
 module _ (s : Store) (r j : ℕ) where
+  -- The read mask and the card that the step goes by.
+  abbrev pub stepBranch : Branch
+  stepBranch = s .run r .branch
+
   unfoldable pub stepSite : ℕ
   stepSite = s .run r .job j .site
 
@@ -47,7 +52,7 @@ module _ (s : Store) (r j : ℕ) where
 
   unfoldable pub stepStart : Items
   stepStart =
-      readStart (versions (s .counts .writers)) (s .counts .keys) (s .run r .snapshot)
+      readStart (versions (s .counts .writers)) (s .counts .keys) (stepBranch .snapshot)
       (s .site stepSite .cache) stepReads
 
   -- T
@@ -67,18 +72,18 @@ module _ (s : Store) (r j : ℕ) where
   -- C
   unfoldable pub stepPull : Items
   stepPull =
-      pullSet (versions (s .counts .writers)) (s .counts .keys) stepPlan (s .run r .snapshot)
+      pullSet (versions (s .counts .writers)) (s .counts .keys) stepPlan (stepBranch .snapshot)
       stepCache stepReads
 
   -- The card after a step that doesn't break.
   unfoldable pub stepSnapshot : Place Version
   stepSnapshot =
-      pulled (versions (s .counts .writers)) (s .counts .keys) stepPlan (s .run r .snapshot)
+      pulled (versions (s .counts .writers)) (s .counts .keys) stepPlan (stepBranch .snapshot)
       stepCache stepReads
 
   -- "If C has a sheet of the read mask, the run is broken .. with those sheets."
   unfoldable pub stepMoved : Items
-  stepMoved k = stepPull k && testBit (s .run r .read) k
+  stepMoved k = stepPull k && testBit (stepBranch .read) k
 
   unfoldable pub stepCause : ℕ
   stepCause =
@@ -103,7 +108,7 @@ module _ (s : Store) (r j : ℕ) where
       ∷ maskBelow K (λ k. stepReads k && (stepPull k && stepFetch k)) ∷ [])
       (withRun (withCache s stepSite stepCache) r
       (withJobDone (s .run r) (withBit (s .run r .done) j)
-      (bitOr (s .run r .read) (s .run r .job j .reads)) stepSnapshot))
+      (bitOr (stepBranch .read) (s .run r .job j .reads)) stepSnapshot))
 
 unfoldable pub stepRule : ℕ → ℕ → Store → Outcome
 stepRule r j s =

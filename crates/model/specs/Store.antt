@@ -1,6 +1,6 @@
 -- The store ("desk"): what a buffer of words stands for.
--- Writer, Job, Run, Site (an office and its shelf), Tail (behind the runs), Store; planned
--- ("plan's sheets"), doneReads; with..: one part changed.
+-- Writer, Job, Branch (read mask and card), Run, Site (an office and its shelf), Tail (behind the
+-- runs), Store; planned ("plan's sheets"), doneReads; with..: one part changed.
 -- Assumes nothing.
 use mathlib.Core.Bool.{_&&_}
 use Prim.Native.Nat.{ℕ}
@@ -23,14 +23,18 @@ pub record Job : Type 0 where
   pub reads : ℕ
   pub upstream : ℕ
 
+-- "read mask", "card"
+pub record Branch : Type 0 where
+  pub read : ℕ
+  pub snapshot : Place Version
+
 -- "state (0 free, 1 open, 2 broken), number of jobs, done mask, read mask, 8 jobs, then the card"
 pub record Run : Type 0 where
   pub state : ℕ
   pub jobs : ℕ
   pub done : ℕ
-  pub read : ℕ
   pub job : ℕ → Job
-  pub snapshot : Place Version
+  pub branch : Branch
 
 -- An office: its shelf.
 pub record Site : Type 0 where
@@ -66,8 +70,11 @@ noJobs j = noJob
 abbrev pub noSite : Site
 noSite = record { cache = emptyPlace }
 
+abbrev pub noBranch : Branch
+noBranch = record { read = 0; snapshot = emptyPlace }
+
 abbrev pub freeRun : Run
-freeRun = record { state = 0; jobs = 0; done = 0; read = 0; job = noJobs; snapshot = emptyPlace }
+freeRun = record { state = 0; jobs = 0; done = 0; job = noJobs; branch = noBranch }
 
 abbrev pub noTail : Tail
 noTail = record {}
@@ -188,9 +195,8 @@ withState a x = record {
   state = x;
   jobs = a .jobs;
   done = a .done;
-  read = a .read;
   job = a .job;
-  snapshot = a .snapshot;
+  branch = a .branch;
 }
 
 unfoldable pub withSnapshot : Run → Place Version → Run
@@ -198,9 +204,8 @@ withSnapshot a p = record {
   state = a .state;
   jobs = a .jobs;
   done = a .done;
-  read = a .read;
   job = a .job;
-  snapshot = p;
+  branch = record { read = a .branch .read; snapshot = p };
 }
 
 -- The run after a job: done and read masks, and the snapshot.
@@ -209,7 +214,6 @@ withJobDone a done read p = record {
   state = a .state;
   jobs = a .jobs;
   done = done;
-  read = read;
   job = a .job;
-  snapshot = p;
+  branch = record { read = read; snapshot = p };
 }

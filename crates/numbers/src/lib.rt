@@ -16,6 +16,14 @@ pub struct IssueNumber(u32);
 // How many issues a writer has made.
 pub struct WriterCount(u32);
 
+// The largest of each: no issue follows it.
+pub const MAX: u32 = 4294967295;
+
+// It is that of the definitions.
+pub fn limits()
+    ensures { λ _. do ⌜ (← ⟦MAX⟧ .entry) ≡ maxWord ⌝ }
+{}
+
 // What an issue raises: the last issue number and its writer's count.
 pub struct Tally {
     pub issue: IssueNumber,
@@ -55,7 +63,7 @@ impl IssueNumber {
     pub fn is_last(self) -> bool
         ensures { λ r. ⌜ r ≡ eqb (self .0) maxWord ⌝ }
     {
-        self.0 == 4294967295
+        self.0 == MAX
     }
 
     // The number of the next issue.
@@ -69,10 +77,10 @@ impl IssueNumber {
 
 impl WriterCount {
     // Whether the writer can make no further issue.
-    pub fn is_last(self) -> bool
+    pub fn is_full(self) -> bool
         ensures { λ r. ⌜ r ≡ eqb (self .0) maxWord ⌝ }
     {
-        self.0 == 4294967295
+        self.0 == MAX
     }
 
     // The count after one more issue.

@@ -25,7 +25,7 @@ use Rattle.layout.proofs.Readings.{snapshot-in}
 use Rattle.layout.proofs.Updates.{phase}
 use Rattle.layout.proofs.Follow.{form-fine}
 use Rattle.layout.proofs.Kept.{Kept}
-use Rattle.layout.proofs.KeptPrepare.{prepare-kept}
+use Rattle.layout.proofs.Rules.Prepare.{prepare-kept}
 use Rattle.form.proofs.Known.{form-counts, Ends, ends-refused, ends-done}
 use Rattle.trial.specs.Jobs.{UsedRun}
 use Rattle.prepare.specs.Turns.{fetchedJobs, mergedSites, merged}
@@ -59,10 +59,10 @@ unfolding prepareDone next merged mergedSites fetchedJobs withCaches withSites p
 next-as s r = refl
 
 -- Its snapshot of the run.
-next-snapshot : (s : Store) (r : ℕ) → next s r .run r .snapshot ≡ prepareSnapshot s r
+next-snapshot : (s : Store) (r : ℕ) → next s r .run r .branch .snapshot ≡ prepareSnapshot s r
 unfolding next merged mergedSites fetchedJobs withCaches withSites withRun withSnapshot
     prepareSnapshot prepareCaches siteCaches
-next-snapshot s r = ap (λ (a : Run). a .snapshot) (putAt-same (s .run) r _)
+next-snapshot s r = ap (λ (a : Run). a .branch .snapshot) (putAt-same (s .run) r _)
 
 merged-counts : (s : Store) (r : ℕ) → merged s r .counts ≡ s .counts
 unfolding merged withRun
@@ -105,7 +105,7 @@ module _ (l : List ℕ) (z : Counts) (r : ℕ) (U : UsedRun l z r)
         sym (form-counts l z (U .form)) ∙ sym (next-counts s r)
         ∙ rw next-left (sym (counts-back (next s r) l)) in
         rw c (sym (snapshot-in m z counts r (U .run))
-        ∙ ap (λ (t : Store). t .run r .snapshot) back ∙ next-snapshot s r)
+        ∙ ap (λ (t : Store). t .run r .branch .snapshot) back ∙ next-snapshot s r)
 
     pub prepare-done : (at C : ℕ) → at ≡ snapshotAt z r
         → C ≡ maskBelow (z .keys) (λ k. held (readPlace z m at k))

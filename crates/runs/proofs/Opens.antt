@@ -21,7 +21,7 @@ use Rattle.layout.specs.Buffer.{inForm}
 use Rattle.layout.specs.Calls.{leaves}
 use Rattle.layout.proofs.Parts.{run-laws}
 use Rattle.model.proofs.Outcomes.{no-cause, no-lack, free-state, run-rest}
-use Rattle.layout.proofs.KeptOpen.{Listed, list-out}
+use Rattle.layout.proofs.Rules.Open.{Listed, list-out}
 use Rattle.form.specs.Parts.{FormWith}
 use Rattle.form.proofs.Known.{form-counts, Ends, ends-refused, ends-done}
 use Rattle.status.proofs.Freed.{free-is}

@@ -15,7 +15,7 @@ use Rattle.words.proofs.Lists.{upto-out}
 use Rattle.words.proofs.Stores.{sets-left, sets-behind}
 use Rattle.sizes.specs.declared.Counts.{Counts}
 use Rattle.sizes.specs.Bounds.{maxJobs, jobSize, readsOffset, upstreamOffset, jobsOffset, planOffset, planSize, snapshotOffset, runSize}
-use Rattle.model.specs.Store.{Run, noJob, noJobs, emptyPlace, freeRun}
+use Rattle.model.specs.Store.{Run, noJob, noJobs, emptyPlace, noBranch, freeRun}
 use Rattle.model.specs.Outcome.{openState}
 use Rattle.model.specs.Runs.{listedJob, listedCount, listedJobs, openedRun}
 use Rattle.layout.specs.Words.{jobsWords, placeWords, runWords}
@@ -23,7 +23,7 @@ use Rattle.layout.specs.Reading.{readJob, readJobs, readRun}
 use Rattle.layout.proofs.Parts.{jobs-laws, run-laws}
 use Rattle.layout.proofs.Windows.{part-again, part-twice}
 use Rattle.layout.proofs.Readings.{job-at}
-use Rattle.layout.proofs.KeptOpen.{Listed, job-in, job-out}
+use Rattle.layout.proofs.Rules.Open.{Listed, job-in, job-out}
 use Rattle.layout.specs.Stored.{putRun}
 use Rattle.status.proofs.Copies.{put-list, sets-front}
 use Rattle.status.proofs.Freed.{no-jobs-words}
@@ -78,9 +78,8 @@ started n = record {
   state = openState;
   jobs = n;
   done = 0;
-  read = 0;
   job = noJobs;
-  snapshot = emptyPlace;
+  branch = noBranch;
 }
 
 started-words : (z : Counts) (n : ℕ)

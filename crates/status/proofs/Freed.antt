@@ -50,9 +50,8 @@ no-run z at =
       state = 0;
       jobs = 0;
       done = 0;
-      read = 0;
       job = job i;
-      snapshot = snapshot i;
+      branch = record { read = 0; snapshot = snapshot i };
     }
 
 -- ---- zeros
@@ -87,19 +86,19 @@ jobs-are f F p =
 
 module _ (z : Counts) (a : Run) (F : FitRun z a) where
   abbrev keyEmpty : ℕ → Bool
-  keyEmpty k = not (held (a .snapshot k)) && zeroRows z (a .snapshot k)
+  keyEmpty k = not (held (a .branch .snapshot k)) && zeroRows z (a .branch .snapshot k)
 
-  place-is : So (allBelow (z .keys) keyEmpty) → a .snapshot ≡ emptyPlace
+  place-is : So (allBelow (z .keys) keyEmpty) → a .branch .snapshot ≡ emptyPlace
   place-is p =
       fun-ext (λ k. ⊎-elim (below k) (F .snapshot .rest k) (below-or-not k (z .keys)))
     where
-      below : (k : ℕ) → k < z .keys → a .snapshot k ≡ unheld
+      below : (k : ℕ) → k < z .keys → a .branch .snapshot k ≡ unheld
       below k h =
           let q = all-at (z .keys) keyEmpty p k h in
-          let no = not (held (a .snapshot k)) in
-          let rows = zeroRows z (a .snapshot k) in
-          unheld-is z (a .snapshot k) (F .snapshot .each k h) (not-elim (and-left no rows q))
-          (and-right no rows q)
+          let no = not (held (a .branch .snapshot k)) in
+          let rows = zeroRows z (a .branch .snapshot k) in
+          unheld-is z (a .branch .snapshot k) (F .snapshot .each k h)
+          (not-elim (and-left no rows q)) (and-right no rows q)
 
   pub free-is : So (runFormed z a) → a .state ≡ 0 → a ≡ freeRun
   unfolding runFormed freeFormed
@@ -107,7 +106,7 @@ module _ (z : Counts) (a : Run) (F : FitRun z a) where
       let q : So (freeFormed z a) = rw (eq-eqb (a .state) 0 e) at p in
       let jobs = eqb (a .jobs) 0 in
       let done = eqb (a .done) 0 in
-      let read = eqb (a .read) 0 in
+      let read = eqb (a .branch .read) 0 in
       let job = allBelow maxJobs (λ i. zeroJob (a .job i)) in
       let snapshot = allBelow (z .keys) keyEmpty in
       let q₁ = and-right jobs (done && (read && (job && snapshot))) q in
@@ -122,7 +121,6 @@ module _ (z : Counts) (a : Run) (F : FitRun z a) where
         state = e i;
         jobs = x i;
         done = y i;
-        read = w i;
         job = f i;
-        snapshot = g i;
+        branch = record { read = w i; snapshot = g i };
       }

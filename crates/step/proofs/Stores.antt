@@ -20,7 +20,7 @@ use Rattle.model.specs.Version.{Version, merge, versions}
 use Rattle.model.specs.Sets.{fetched, pulled}
 use Rattle.model.specs.Store.{Run, Store, withSites, withCache, withRun, withSnapshot, withJobDone}
 use Rattle.model.specs.Form.{placeFormed}
-use Rattle.model.specs.Step.{stepSite, stepStart, stepFetch, stepCache, stepPull, stepSnapshot, stepDone}
+use Rattle.model.specs.Step.{stepBranch, stepSite, stepStart, stepFetch, stepCache, stepPull, stepSnapshot, stepDone}
 use Rattle.model.proofs.Formed.{place-out, place-in}
 use Rattle.model.proofs.Steps.{step-free}
 use Rattle.layout.specs.Reading.{readPlace, storeOf}
@@ -58,7 +58,7 @@ run-stepped s l r q x y h =
     let t = withRun s r a in
     let here : t .run r ≡ a = putAt-same (s .run) r a in
     let next : runAt z r + 3 ≡ suc (runAt z r + 2) = omega arith in
-    let after : Run → Store = λ b. withRun t r (withJobDone b x y (b .snapshot)) in
+    let after : Run → Store = λ b. withRun t r (withJobDone b x y (b .branch .snapshot)) in
     rw (put-snapshot s l r q h, next)
     (put-masks t l r x y h ∙ ap (λ (b : Run). written (after b) l) here
     ∙ ap (λ (s : Store). written s l) (run-twice s r a (withJobDone a x y q)))
@@ -104,7 +104,7 @@ module _ (l : List ℕ) (z : Counts) (r j : ℕ) (v : Visit) (t : Trial)
   unfolding trialOf
   found-pulled = ap (λ (t : Trial). t .pulled) (F .trial)
 
-  pub found-read : v .read ≡ s .run r .read
+  pub found-read : v .read ≡ stepBranch s r j .read
   unfolding visitOf
   found-read = ap (λ (v : Visit). v .read) (F .visit)
 
@@ -147,7 +147,7 @@ module _ (l : List ℕ) (z : Counts) (r j : ℕ) (v : Visit) (t : Trial)
   same-cache : s .site (stepSite s r j) .cache ≡ cache
   same-cache = old-cache l z r j (snapshotAt z r) (found-run .0) (found-run .1) v (F .visit)
 
-  same-snapshot : s .run r .snapshot ≡ readPlace z l (v .snapshot)
+  same-snapshot : stepBranch s r j .snapshot ≡ readPlace z l (v .snapshot)
   same-snapshot = rw snapshot-at (snapshot-in l z (F .form .counts) r (found-run .0 .run))
 
   pub copied :
@@ -180,7 +180,7 @@ module _ (l : List ℕ) (z : Counts) (r j : ℕ) (v : Visit) (t : Trial)
         (fetched-fits z master cache (stepStart s r j) (place-laws z .fits l (v .master))
         (place-laws z .fits l (v .cache))) (fetch-areas .target .fits))
 
-    snapshot-back : readPlace z m (v .snapshot) ≡ s .run r .snapshot
+    snapshot-back : readPlace z m (v .snapshot) ≡ stepBranch s r j .snapshot
     snapshot-back =
         let behind : v .cache + placeSize z ≤ v .snapshot =
         rw (site-at, snapshot-at) (snapshot-behind l z r (found-run .0) _ found-site) in
@@ -206,7 +206,8 @@ module _ (l : List ℕ) (z : Counts) (r j : ℕ) (v : Visit) (t : Trial)
     merged =
         rw (snapshot-back, cache-back)
         (chosen z m (v .snapshot) (t .pulled) (stepPull s r j)
-        (λ k. merge (s .run r .snapshot k) (stepCache s r j k)) (s .run r .snapshot)
+        (λ k. merge (stepBranch s r j .snapshot k) (stepCache s r j k))
+        (stepBranch s r j .snapshot)
         (found-pulled ∙ ap (λ (y : Counts). maskBelow (y .keys) (stepPull s r j)) found-counts))
 
   -- ---- all that is stored

@@ -12,7 +12,7 @@ use native.Mathlib.Decide.{decLt}
 use lib.Dec.{lit<}
 use lib.ListN.{length, getD, length-append, List·getD-append}
 use borrow.Author.Tests.{le-leb}
-use Rattle.text.specs.Fields.{digitsOnly, valueFrom, isEmpty, numberOf}
+use Rattle.text.specs.Fields.{digitsOnly, valueFrom, isEmpty, maxNumber, numberOf}
 use Rattle.text.specs.Decimal.{digitsOf, decimalOf}
 
 -- ---- the digits of a number from those of its tenth part
@@ -72,8 +72,8 @@ places (suc k) n h = elim (decLt n 10) [
 ]
 
 -- A word has ten digits at most.
-pub decimal-length : (n : ℕ) → n ≤ 4294967295 → length (decimalOf n) ≤ 10
-decimal-length n h = places 9 n (omega (arith, lit< {m = 4294967295} {n = 10 ^ 10} tt))
+pub decimal-length : (n : ℕ) → n ≤ maxNumber → length (decimalOf n) ≤ 10
+decimal-length n h = places 9 n (omega (arith, lit< {m = maxNumber} {n = 10 ^ 10} tt))
 
 -- ---- what they spell
 
@@ -117,7 +117,7 @@ unfolding digitsOf
 filled-digits k n = filled-append (digitsOf k (suc n / 10)) (48 + suc n % 10)
 
 -- A number that is put in decimal is read as itself.
-pub reads-back : (n : ℕ) → n ≤ 4294967295 → numberOf (decimalOf n) ≡ some n
+pub reads-back : (n : ℕ) → n ≤ maxNumber → numberOf (decimalOf n) ≡ some n
 unfolding numberOf decimalOf digitsOnly valueFrom isEmpty
 reads-back zero h = refl
 reads-back (suc n) h =
@@ -125,7 +125,7 @@ reads-back (suc n) h =
       filled-digits n n,
       only-digits (suc n) (suc n),
       value-digits (suc n) (suc n) (omega arith),
-      le-leb (suc n) 4294967295 h,
+      le-leb (suc n) maxNumber h,
     )
 
 some-digits : (k n : ℕ) → 0 < n → n ≤ k → 0 < length (digitsOf k n)

@@ -16,12 +16,12 @@ use lib.Seq.{drop-cons, take-suc-set}
 use borrow.Author.Tests.{eq-eqb, ne-eqb, le-leb, lt-leb}
 use Rattle.words.proofs.Bools.{and-left, and-right, and-false-right, leb-le}
 use Rattle.text.proofs.Firsts.{fields-some}
-use Rattle.text.specs.Fields.{inFirst, fieldsOf, isDigit, digitsOnly, valueFrom, isEmpty, numberOf, numberBefore, numbersOf}
+use Rattle.text.specs.Fields.{inFirst, fieldsOf, isDigit, digitsOnly, valueFrom, isEmpty, maxNumber, numberOf, numberBefore, numbersOf}
 
 -- The number of a field after digits worth v; there are none where any is false.
 unfoldable pub numberFrom : Bool → ℕ → List ℕ → Option ℕ
 numberFrom any v f =
-    cond ((any || not (isEmpty f)) && digitsOnly f && leb (valueFrom v f) 4294967295)
+    cond ((any || not (isEmpty f)) && digitsOnly f && leb (valueFrom v f) maxNumber)
     (some (valueFrom v f)) none
 
 unfoldable pub firstFrom : Bool → ℕ → List (List ℕ) → Option (List ℕ)
@@ -60,13 +60,13 @@ unfolding numberFrom digitsOnly valueFrom isEmpty
 number-other true v b f n = rw n
 number-other false v b f n = rw n
 
-number-over : (v : ℕ) (f : List ℕ) → 4294967295 < v → numberFrom true v f ≡ none
+number-over : (v : ℕ) (f : List ℕ) → maxNumber < v → numberFrom true v f ≡ none
 unfolding numberFrom
 number-over v f o =
     let g = value-grows v f in
-    let h : 4294967295 < valueFrom v f = omega arith in simp (lt-leb _ _ h, and-false-right)
+    let h : maxNumber < valueFrom v f = omega arith in simp (lt-leb _ _ h, and-false-right)
 
-number-ends : (v : ℕ) → v ≤ 4294967295 → numberFrom true v [] ≡ some v
+number-ends : (v : ℕ) → v ≤ maxNumber → numberFrom true v [] ≡ some v
 unfolding numberFrom digitsOnly valueFrom
 number-ends v h = simp (le-leb _ _ h)
 
@@ -84,7 +84,7 @@ unfolding firstFrom inFirst numberBefore
 first-other any v b [] n = rw (number-other any v b [] n)
 first-other any v b (f ∷ fs) n = rw (number-other any v b f n)
 
-first-over : (v : ℕ) (F : List (List ℕ)) → 4294967295 < v → firstFrom true v F ≡ none
+first-over : (v : ℕ) (F : List (List ℕ)) → maxNumber < v → firstFrom true v F ≡ none
 unfolding firstFrom numberBefore
 first-over v [] o = rw (number-over v [] o)
 first-over v (f ∷ fs) o = rw (number-over v f o)
@@ -128,7 +128,7 @@ module _ (s : List ℕ) (i v : ℕ) (any : Bool) (xs : List ℕ) (h : i < length
   unfolding firstFrom numberFrom numberBefore isEmpty behind
   gap e n = rw (at-space e, n)
 
-  pub number : getD s i 0 ≡ 32 → any ≡ true → v ≤ 4294967295
+  pub number : getD s i 0 ≡ 32 → any ≡ true → v ≤ maxNumber
       → toldFrom s i any v xs ≡ toldFrom s (i + 1) false 0 (xs ++ (v ∷ []))
   unfolding firstFrom
   number e y m =
@@ -149,7 +149,7 @@ module _ (s : List ℕ) (i v : ℕ) (any : Bool) (xs : List ℕ) (h : i < length
     digit d = rw (at-other, first-digit any v (getD s i 0) (fieldsOf (drop (i + 1) s)) d)
 
     pub over : isDigit (getD s i 0) ≡ true
-        → 4294967295 < v * 10 + (getD s i 0 - 48) → toldFrom s i any v xs ≡ none
+        → maxNumber < v * 10 + (getD s i 0 - 48) → toldFrom s i any v xs ≡ none
     unfolding behind
     over d o =
         let n = v * 10 + (getD s i 0 - 48) in
@@ -160,6 +160,6 @@ module _ (s : List ℕ) (i v : ℕ) (any : Bool) (xs : List ℕ) (h : length s �
   unfolding fieldsOf firstFrom numberFrom numberBefore isEmpty behind
   ends-bare n = rw (drop-of-length-le s h, n)
 
-  pub ends : any ≡ true → v ≤ 4294967295 → toldFrom s i any v xs ≡ some (xs ++ (v ∷ []))
+  pub ends : any ≡ true → v ≤ maxNumber → toldFrom s i any v xs ≡ some (xs ++ (v ∷ []))
   unfolding fieldsOf firstFrom numberBefore behind numbersOf
   ends y m = rw (drop-of-length-le s h, y, number-ends v m)

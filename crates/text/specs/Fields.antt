@@ -1,6 +1,6 @@
 -- The parts of a line between spaces, and the numbers that they spell.
 -- fieldsOf: the parts, called fields. firstOf, fieldsAfter: the first, and all others.
--- numberOf: the number of a field. numbersOf: the numbers of all.
+-- maxNumber: the largest. numberOf: the number of a field. numbersOf: the numbers of all.
 -- numbersIn, howMany: the numbers that the code's answer tells.
 -- Assumes nothing.
 use mathlib.Core.Bool.{Bool, true, false, cond, not, _&&_}
@@ -48,10 +48,14 @@ unfoldable pub isEmpty : List ℕ → Bool
 isEmpty [] = true
 isEmpty (b ∷ bs) = false
 
--- "a number is digits only, leading zeros allowed"; "over 4,294,967,295": none.
+-- "a number over 4,294,967,295, gives `unread`"
+abbrev pub maxNumber : ℕ
+maxNumber = 4294967295
+
+-- "a number is digits only, leading zeros allowed". Any other field is none.
 unfoldable pub numberOf : List ℕ → Option ℕ
 numberOf f =
-    cond (not (isEmpty f) && digitsOnly f && leb (valueFrom 0 f) 4294967295)
+    cond (not (isEmpty f) && digitsOnly f && leb (valueFrom 0 f) maxNumber)
     (some (valueFrom 0 f)) none
 
 -- A number in front of others, if all are numbers.

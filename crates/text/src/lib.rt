@@ -5,13 +5,21 @@ ghost use Prim.Native.Nat.{_+_, _-_, _≤_, _<_};
 ghost use lib.ListN.{length, drop, take};
 ghost use Rattle.text.specs.Bytes.{sameBytes};
 ghost use Rattle.text.specs.Decimal.{decimalOf};
-ghost use Rattle.text.specs.Fields.{fieldsOf, fieldsAfter, firstOf, isDigit, numbersOf, numbersIn, howMany};
+ghost use Rattle.text.specs.Fields.{fieldsOf, fieldsAfter, firstOf, isDigit, maxNumber, numbersOf, numbersIn, howMany};
 
 // How many numbers there are, or that a field is no number.
 pub enum Count {
     Of(usize),
     Unread,
 }
+
+// The largest number that a field spells.
+pub const MAX_NUMBER: u64 = 4294967295;
+
+// It is that of the definitions.
+pub fn limits()
+    ensures { λ _. do ⌜ (← ⟦MAX_NUMBER⟧ .entry) ≡ maxNumber ⌝ }
+{}
 
 // Whether two words are the same.
 pub fn is_word(s: &[u8], w: &[u8]) -> bool
@@ -99,7 +107,7 @@ pub fn numbers(line: &[u8], at: usize, out: &mut [u32]) -> Count
                 return Count::Unread;
             }
             let next = v * 10 + digit_value(b);
-            if 4294967295 < next {
+            if MAX_NUMBER < next {
                 return Count::Unread;
             }
             v = next;

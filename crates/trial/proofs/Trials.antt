@@ -3,7 +3,7 @@
 -- visit-is: a visit as the code makes it. VisitKnown, visit-known: what holds of it.
 -- master-at, cache-at, old-..: the parts of the rule, where a visit reads them.
 -- cause-last: cause 7, as the code tests it. trial-found: T and C.
--- line-own: the run's own snapshot and read mask.
+-- branch-own: the run's own snapshot and read mask.
 -- Assumes nothing.
 use mathlib.Core.Path.{_≡_, refl, sym, ap, _∙_}
 use mathlib.Core.Bool.{Bool, true, false}
@@ -39,7 +39,7 @@ use Rattle.trial.specs.declared.Trial.{Trial}
 use Rattle.trial.specs.declared.Tried.{Tried}
 use Rattle.trial.specs.declared.jobs.PlannedJob.{PlannedJob}
 use Rattle.trial.specs.Jobs.{UsedRun, plannedJob}
-use Rattle.trial.specs.Trials.{visitOf, trialOf, triedOf, LineAt}
+use Rattle.trial.specs.Trials.{visitOf, trialOf, triedOf, BranchAt}
 use Rattle.trial.proofs.Known.{jobs-known, job-known}
 use Rattle.trial.proofs.Masks.{fetchable, taken-mask, pulled-mask}
 
@@ -103,7 +103,7 @@ module _ (s : Store) (r j snapshot : ℕ) where
 
 -- m, c, p, x: what the code finds.
 pub visit-is : (l : List ℕ) (z : Counts) (r j snapshot read : ℕ) → FormWith l z
-    → LineAt l z r snapshot read → let a = storeOf l .run r in
+    → BranchAt l z r snapshot read → let a = storeOf l .run r in
     (m c p : ℕ) (x : PlannedJob) → m ≡ masterAt z → c ≡ siteAt z (x .site)
     → p ≡ readsOf (a .jobs) (a .job) everyJob → x ≡ plannedJob (a .job j)
     → _≡_ {A = Visit} (record {
@@ -176,7 +176,7 @@ module _ (l : List ℕ) (z : Counts) (r j snapshot : ℕ) (U : UsedRun l z r)
       }
 
   -- wanted, start: what the code finds one after the other.
-  module _ (read : ℕ) (L : LineAt l z r snapshot read) (wanted start : ℕ)
+  module _ (read : ℕ) (L : BranchAt l z r snapshot read) (wanted start : ℕ)
       (w : wanted ≡ maskBelow (z .keys) (lacking (versions (z .writers)) (z .keys)
       (readPlace z l snapshot) (testBit (v .reads))))
       (e : start ≡ maskBelow (z .keys) (lacking (versions (z .writers)) (z .keys)
@@ -223,15 +223,15 @@ module _ (l : List ℕ) (z : Counts) (r j snapshot : ℕ) (U : UsedRun l z r)
 
 -- ---- the run's own
 
-pub line-own : (l : List ℕ) (z : Counts) (r : ℕ) → FormWith l z → r < z .runs
-    → LineAt l z r (snapshotAt z r) (runAt z r + readOffset)
+pub branch-own : (l : List ℕ) (z : Counts) (r : ℕ) → FormWith l z → r < z .runs
+    → BranchAt l z r (snapshotAt z r) (runAt z r + readOffset)
 unfolding readRun
-line-own l z r H h =
+branch-own l z r H h =
     let S = form-area l z H in
     let K = run-known l z r H h in
     record {
       area = snapshot-area (length l) z (S .ranged) (S .fits) r h;
       place = snapshot-in l z (H .counts) r h;
       low = omega (arith, K .area .fits);
-      mask = ap (λ (a : Run). a .read) (K .run);
+      mask = ap (λ (a : Run). a .branch .read) (K .run);
     }

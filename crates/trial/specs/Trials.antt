@@ -1,6 +1,6 @@
 -- What a step would do, by the model's sets.
 -- visitOf: what it looks at. trialOf: T and C. triedOf: refused for its cause, or these.
--- LineAt: where the snapshot and the read mask of a run stand. Finds: what was found.
+-- BranchAt: where the snapshot and the read mask of a run stand. Finds: what was found.
 -- Assumes nothing.
 use mathlib.Core.Path.{_≡_}
 use mathlib.Core.Bool.{cond}
@@ -12,7 +12,7 @@ use Rattle.masks.specs.Mask.{maskBelow}
 use Rattle.sizes.specs.declared.Counts.{Counts}
 use Rattle.sizes.specs.Bounds.{everyJob, masterAt, siteAt, snapshotAt}
 use Rattle.model.specs.Store.{Store}
-use Rattle.model.specs.Step.{stepSite, stepFetch, stepPull, stepCause}
+use Rattle.model.specs.Step.{stepBranch, stepSite, stepFetch, stepPull, stepCause}
 use Rattle.layout.specs.Reading.{readPlace, storeOf}
 use Rattle.version.specs.Places.{Area}
 use Rattle.form.specs.Parts.{readsOf, FormWith}
@@ -31,7 +31,7 @@ module _ (s : Store) (r j : ℕ) where
         snapshot = snapshot;
         plan = readsOf (a .jobs) (a .job) everyJob;
         reads = a .job j .reads;
-        read = a .read;
+        read = stepBranch s r j .read;
       }
 
   -- T and C.
@@ -47,11 +47,11 @@ module _ (s : Store) (r j : ℕ) where
       (Tried.Refused (stepCause s r j))
 
 -- The snapshot and the read mask of run r stand at two indices of the buffer.
-pub record LineAt (l : List ℕ) (z : Counts) (r snapshot read : ℕ) : Type 0 where
+pub record BranchAt (l : List ℕ) (z : Counts) (r snapshot read : ℕ) : Type 0 where
   pub area : Area (length l) z snapshot
-  pub place : storeOf l .run r .snapshot ≡ readPlace z l snapshot
+  pub place : storeOf l .run r .branch .snapshot ≡ readPlace z l snapshot
   pub low : read < length l
-  pub mask : storeOf l .run r .read ≡ getD l read 0
+  pub mask : storeOf l .run r .branch .read ≡ getD l read 0
 
 -- What a trial of job j of run r found: no cause, and what the step looks at and would do.
 pub record Finds (l : List ℕ) (z : Counts) (r j : ℕ) (v : Visit) (t : Trial) : Type 0 where

@@ -20,7 +20,7 @@ ghost use Rattle.sizes.specs.Bounds.{snapshotAt};
 ghost use Rattle.layout.specs.Reading.{storeOf};
 ghost use Rattle.form.specs.Parts.{FormWith};
 ghost use Rattle.trial.specs.Jobs.{UsedRun};
-ghost use Rattle.trial.specs.Trials.{visitOf, triedOf, LineAt};
+ghost use Rattle.trial.specs.Trials.{visitOf, triedOf, BranchAt};
 
 // What a step looks at: where three places begin, the plan's keys, the job's reads (R), and what
 // the run has read.
@@ -63,7 +63,7 @@ pub fn try_job(words: &[u32], z: Counts, r: usize, j: usize) -> Tried
 // found once; C against the cache seen through T, as the fetch would leave it.
 pub fn try_at(words: &[u32], z: Counts, r: usize, j: usize, snapshot: usize, read: usize) -> Tried
     requires { ⌜ FormWith (now words) z × (r < z .runs) ⌝ }
-    requires { ⌜ LineAt (now words) z r snapshot read ⌝ }
+    requires { ⌜ BranchAt (now words) z r snapshot read ⌝ }
     ensures { λ t. ⌜ t ≡ triedOf (storeOf (now (words .entry))) r j snapshot ⌝ }
 {
     let early = job_cause(words, z, r, j);
@@ -89,7 +89,7 @@ pub fn try_at(words: &[u32], z: Counts, r: usize, j: usize, snapshot: usize, rea
 // What a step of job j of run r looks at.
 fn visit_of(words: &[u32], z: Counts, r: usize, j: usize, snapshot: usize, read: usize) -> Visit
     requires { ⌜ UsedRun (now words) z r × (j < storeOf (now words) .run r .jobs) ⌝ }
-    requires { ⌜ LineAt (now words) z r snapshot read ⌝ }
+    requires { ⌜ BranchAt (now words) z r snapshot read ⌝ }
     ensures { λ v. ⌜ v ≡ visitOf (storeOf (now (words .entry))) r j snapshot ⌝ }
 {
     let job = job_of(words, z, r, j);

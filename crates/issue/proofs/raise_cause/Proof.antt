@@ -20,13 +20,13 @@ returns c =
     let n = c .before .before in
     rw (← n .numbers-of .ensures .0, sym (c .before .is-last .ensures) ∙ c .if1 .taken)
 
-is-last-requires-2 : tie.Need-is-last-requires-2
-is-last-requires-2 c κs = search needs
+is-full-requires : tie.Need-is-full-requires
+is-full-requires c κs = search needs
 
 -- What the test of the count says.
-told : (c : tie.After-is-last2)
+told : (c : tie.After-is-full)
     → let a = c .before .before .before .before .before .args in
-    raiseCause (storeOf (a .words .now)) (a .w) ≡ refuse (c .is-last2 .result) 10 0
+    raiseCause (storeOf (a .words .now)) (a .w) ≡ refuse (c .is-full .result) 10 0
 unfolding raiseCause refuse
 told c =
     let e = c .before in
@@ -35,7 +35,7 @@ told c =
       ← n .numbers-of .ensures .0,
       ← n .numbers-of .ensures .1,
       sym (e .before .is-last .ensures) ∙ e .if1 .left,
-      ← c .is-last2 .ensures,
+      ← c .is-full .ensures,
     )
 
 returns-2 : tie.Need-returns-2
@@ -53,6 +53,6 @@ raise-cause-spec =
     numbers-of-requires
     is-last-requires
     returns
-    is-last-requires-2
+    is-full-requires
     returns-2
     returns-3)

@@ -7,14 +7,14 @@ use mathlib.Core.Option.{some}
 use Prim.Native.Nat.{_≤_, _-_}
 use lib.ListN.{length, drop, take, length-set}
 use borrow.Author.Tests.{not-true, not-false}
-use Rattle.text.specs.Fields.{fieldsOf, numbersOf, numbersIn, howMany}
+use Rattle.text.specs.Fields.{fieldsOf, maxNumber, numbersOf, numbersIn, howMany}
 use Rattle.text.proofs.Scans.{digit-range, toldFrom, told-start, stored, gap, number, other, digit, over, ends-bare, ends}
 use Rattle.text.proofs.numbers.Statement.{statement}
 use Rattle.text.proofs.numbers.Tie as tie
 
 abbrev Inv-loop : tie.InvT-loop
 Inv-loop line at out₀ i₀ k₀ v₀ any₀ out i k v any =
-    (i ≤ length line) × (k ≤ i) × (v ≤ 4294967295) × (length out ≡ length out₀)
+    (i ≤ length line) × (k ≤ i) × (v ≤ maxNumber) × (length out ≡ length out₀)
     × (toldFrom line i any v (take k out) ≡ numbersOf (fieldsOf (drop at line)))
 
 abbrev μ-loop : tie.MeasureT-loop

@@ -7,7 +7,7 @@ use Rattle.layout.specs.Reading.{storeOf}
 use Rattle.form.proofs.Known.{form-area, form-counts}
 use Rattle.status.proofs.Known.{run-known}
 use Rattle.trial.specs.Trials.{triedOf}
-use Rattle.trial.proofs.Trials.{tried-no, line-own}
+use Rattle.trial.proofs.Trials.{tried-no, branch-own}
 use Rattle.trial.proofs.try_job.Statement.{statement}
 use Rattle.trial.proofs.try_job.Tie as tie
 
@@ -40,7 +40,7 @@ try-at-requires c κs =
     let s = e .before .before in
     let a = s .args in
     rw (n .run-at .ensures, c .snapshot-at .ensures)
-    ((s .pre, e .if1 .left), line-own (a .words .now) (a .z) (a .r) (s .pre) (e .if1 .left))
+    ((s .pre, e .if1 .left), branch-own (a .words .now) (a .z) (a .r) (s .pre) (e .if1 .left))
 
 returns-2 : tie.Need-returns-2
 returns-2 c =

@@ -1,0 +1,164 @@
+-- The laws of issue: the book's history has one more issue, and the run is freed.
+-- issuedBook, issued-..: store and book with the new issue. writer-..: the writers.
+-- Assumes nothing.
+use mathlib.Core.Path.{_≡_, refl, sym, _∙_}
+use mathlib.Core.Bool.{false}
+use mathlib.Core.Logic.{_≢_}
+use mathlib.Core.List.{List, [], _∷_}
+use Prim.Native.Nat.{ℕ, _<_, _^_}
+use native.Mathlib.Omega.{arith}
+use native.Mathlib.Decide.{ℕ-discrete}
+use lib.Dec.{eqb}
+use Rattle.words.specs.Lists.{putAt}
+use Rattle.words.proofs.Bools.{test, and-left, and-right, leb-gt}
+use Rattle.words.proofs.Lists.{putAt-same, putAt-other}
+use Rattle.masks.proofs.Bits.{test-low}
+use Rattle.masks.proofs.Sets.{mask-some}
+use Rattle.model.specs.Store.{Store, freeRun, withLast, withMaster, withRun, withWriter}
+use Rattle.model.specs.Outcome.{runCause}
+use Rattle.model.specs.Issue.{issueCause, issuedWriter, savedStore, issuedStore, issueDone, issueRule}
+use Rattle.model.specs.Calls.{issue}
+use Rattle.model.proofs.Outcomes.{no-cause}
+use Rattle.layout.proofs.Follow.{Fine}
+use Rattle.history.specs.Book.{Book, noRun, withBookRun, entry, bookIssue, bookIssued, bookRule}
+use Rattle.history.proofs.Notions.{Sound}
+use Rattle.history.proofs.Past.{past-laws}
+use Rattle.history.proofs.Sounds.{sound-issue}
+use Rattle.history.proofs.Grown.{writer-count, other-count}
+use Rattle.history.proofs.Entered.{writer-past, other-past}
+use Rattle.consistency.specs.Roles.{roleOf}
+use Rattle.consistency.specs.Trace.{ReadSet, finishBy, finish}
+use Rattle.consistency.proofs.Closing.{closed-grow}
+use Rattle.consistency.proofs.Invariant.{WriterFollows, Follows, Inv, Moves}
+use Rattle.consistency.proofs.Laws.{Laws, laws-unless}
+use Rattle.consistency.proofs.Following.{free-follows, follows-run}
+use Rattle.consistency.proofs.Changing.{nothing-read, inv-next, inv-anew}
+use Rattle.consistency.proofs.Issuing.{place-grow, run-grow, issuedCopies, issued-every, issued-writes, newPast-entered, issuedMaster-counted}
+
+-- ---- the book with the new issue, the run not yet freed
+
+unfoldable issuedBook : ℕ → ℕ → ℕ → Book → Book
+issuedBook r w S b = record {
+  counts = b .counts;
+  history = entry r w S b ∷ b .history;
+  master = issuedCopies (b .counts .keys) (entry r w S b) (b .history) (b .master);
+  cache = b .cache;
+  run = b .run;
+}
+
+-- With the run cleared this is the book after the call.
+book-issued : (r w S : ℕ) (b : Book)
+    → bookIssue r w S b ≡ withBookRun (issuedBook r w S b) r noRun
+unfolding bookIssue issuedBook issuedCopies entry withBookRun
+book-issued r w S b = refl
+
+-- An issue of the keys S by writer w, from run r.
+module _ (s : Store) (b : Book) (F : Follows s b) (r w S : ℕ) (hr : r < s .counts .runs)
+    (hw : w < s .counts .writers) (hS : S < 2 ^ s .counts .keys) (some : eqb S 0 ≡ false) where
+  -- What the run had read are writes of keys of the store.
+  issued-sound : Sound (s .counts .keys) (s .counts .writers) (entry r w S b ∷ b .history)
+  unfolding entry
+  issued-sound =
+      let K = s .counts .keys in
+      let G = F .run r hr .branch in
+      let c = b .run r .branch in
+      sound-issue K (s .counts .writers) (entry r w S b) (b .history) (F .sound) hw
+      (λ d. test-low S K d hS) (mask-some K S hS some)
+      (λ d j p.
+      let l = G .low d (and-left (c .read d) (c .snapshot d j) p) in
+      let u = G .closed .writes d j l (and-right (c .read d) (c .snapshot d j) p) in
+      (l, u .0, u .1))
+
+  -- The writer has one issue more, whose past is its own now,
+  writer-next : (v : ℕ) → v ≡ w
+      → WriterFollows (s .counts .keys) (entry r w S b ∷ b .history) (savedStore s r w S) v
+  unfolding savedStore withLast withWriter withMaster issuedWriter entry
+  writer-next v q =
+      let K = s .counts .keys in
+      let e = entry r w S b in
+      let h = b .history in
+      let put = putAt-same (s .writer) w (issuedWriter s r w S) in
+      let old = F .writer w hw .count in
+      record {
+        count = rw (q, put) (omega (arith, writer-count K e h, old));
+        past = rw (q, put) (newPast-entered s b F r w S hr hw
+            ∙ sym (writer-past K e h (past-laws K h)));
+      }
+
+  -- and the others are as they were.
+  writer-same : (v : ℕ) → v < s .counts .writers → v ≢ w
+      → WriterFollows (s .counts .keys) (entry r w S b ∷ b .history) (savedStore s r w S) v
+  unfolding savedStore withLast withWriter withMaster entry
+  writer-same v l q =
+      let K = s .counts .keys in
+      let e = entry r w S b in
+      let h = b .history in
+      let put = putAt-other (s .writer) w (issuedWriter s r w S) v q in
+      let old = F .writer v l in
+      let ne : w ≢ v = λ z. q (sym z) in
+      record {
+        count = rw put (old .count ∙ sym (other-count K e h v ne));
+        past = rw put (old .past ∙ sym (other-past K e h (past-laws K h) v ne));
+      }
+
+  issued-follows : Follows (savedStore s r w S) (issuedBook r w S b)
+  unfolding savedStore issuedBook withLast withWriter withMaster entry
+  issued-follows =
+      let K = s .counts .keys in
+      let e = entry r w S b in
+      let h = b .history in
+      record {
+        counts = F .counts;
+        last = omega (arith, F .last);
+        sound = issued-sound;
+        master = rw (← F .counts) (issuedMaster-counted s b F r w S hr hw);
+        every = rw (← F .counts) (issued-every K e h (b .master) (F .every));
+        writes = rw (← F .counts) (issued-writes K e h (b .master) (F .writes));
+        cache = λ o l. place-grow K e h (F .closed o l) (F .cache o l);
+        closed = λ o l. closed-grow (F .closed o l) e;
+        writer = λ v l.
+            elim (ℕ-discrete v w) [ yes q ↦ writer-next v q | no q ↦ writer-same v l q ];
+        run = λ q l. run-grow K e h (F .run q l);
+      }
+
+  issued-inv : (f : ℕ → List ReadSet) → Inv s b f
+      → Inv (withRun (savedStore s r w S) r freeRun) (withBookRun (issuedBook r w S b) r noRun)
+      (putAt f r [])
+  unfolding savedStore issuedBook withLast withWriter withMaster withRun withBookRun
+  issued-inv f v =
+      let t = savedStore s r w S in
+      let c = issuedBook r w S b in
+      let K = s .counts .keys in
+      inv-next (withRun t r freeRun) (withBookRun c r noRun) (putAt f r []) r freeRun noRun v
+      (follows-run issued-follows r freeRun noRun (free-follows K (c .history)))
+      refl refl refl hr (putAt-other f r []) (nothing-read K freeRun noRun f r)
+
+-- ---- the call
+
+-- Of no keys: only the run is freed.
+done-moves : (s : Store) (b : Book) (f : ℕ → List ReadSet) (r w S : ℕ) → Inv s b f
+    → r < s .counts .runs → w < s .counts .writers → S < 2 ^ s .counts .keys
+    → Moves (issue r w S) s b f (issueDone s r w S)
+unfolding issueDone issuedStore bookRule bookIssued finish finishBy roleOf
+done-moves s b f r w S v hr hw hS =
+    test (eqb S 0)
+    (λ y. rw y (inv-anew v r freeRun noRun (free-follows (s .counts .keys) (b .history)) hr))
+    (λ n. rw (n, book-issued r w S b) (issued-inv s b (v .follows) r w S hr hw hS n f v))
+
+pub issue-laws : (r w S : ℕ) (s : Store) → Fine s → Laws (issue r w S) s (issueRule r w S s)
+unfolding issueRule issueCause runCause issueDone issuedStore savedStore withRun withMaster
+    withWriter withLast roleOf
+issue-laws r w S s _ =
+    laws-unless (issue r w S) s (issueCause s r w S) (issueDone s r w S) (λ e.
+    let x = no-cause _ 3 _ (omega arith) e in
+    let y = no-cause _ 3 _ (omega arith) (x .1) in
+    let z = no-cause _ 3 _ (omega arith) (y .1) in
+    record {
+      moves = λ b f v.
+          done-moves s b f r w S v (leb-gt _ _ (z .0)) (leb-gt _ _ (x .0)) (leb-gt _ _ (y .0));
+      turns = record {
+        run = freeRun;
+        how = refl;
+        put = test (eqb S 0) (λ t. rw t refl) (λ t. rw t refl);
+      };
+    })

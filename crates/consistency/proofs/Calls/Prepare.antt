@@ -1,0 +1,151 @@
+-- The laws of prepare.
+-- copyCaches, copySnapshot, copyRun: the book's; book-prepare: they are.
+-- ..-related: the store's stand for them. ..-closed, caches-cuts: they are cuts.
+-- Assumes nothing.
+use mathlib.Core.Path.{_≡_, refl, sym, _∙_}
+use mathlib.Core.Bool.{false}
+use mathlib.Core.List.{List}
+use Prim.Native.Nat.{ℕ, _<_}
+use Rattle.words.proofs.Bools.{clash}
+use Rattle.model.specs.Algebra.{Place}
+use Rattle.model.specs.Store.{Run, Site, Store, planned, siteWith, withCaches, withSites, withRun, withSnapshot}
+use Rattle.model.specs.Prepare.{preparedCaches, usesSite, sitesMerged, siteCaches, prepareCause, prepareCaches, prepareSnapshot, prepareDone, prepareRule}
+use Rattle.model.specs.Calls.{prepare}
+use Rattle.model.proofs.Plans.{valid-out}
+use Rattle.layout.proofs.Rules.Prepare.{Accepted, accepted, was, unread}
+use Rattle.layout.proofs.Follow.{Fine}
+use Rattle.history.specs.Copies.{Copy, copies}
+use Rattle.history.specs.Book.{Book, BookRun, bookPrepare, bookRule, withBookRun, withBookCaches}
+use Rattle.history.proofs.Notions.{ClosedIn}
+use Rattle.consistency.specs.Roles.{roleOf}
+use Rattle.consistency.specs.Trace.{ReadSet, finishBy, finish}
+use Rattle.consistency.proofs.Simulation.{Related}
+use Rattle.consistency.proofs.SimulationPrepare.{SitesBelow, RelatedSites, preparedCaches-rel, sitesMerged-rel}
+use Rattle.consistency.proofs.ClosingPrepare.{CutsWithin, sitesMerged-closed, preparedCaches-cuts}
+use Rattle.consistency.proofs.Counting.{CountedAs}
+use Rattle.consistency.proofs.Invariant.{RunFollows, Follows, Inv, Moves}
+use Rattle.consistency.proofs.Laws.{works, Laws, laws-unless}
+use Rattle.consistency.proofs.Following.{now-simulates, master-closed, master-related, cache-related, cache-part}
+use Rattle.consistency.proofs.Changing.{HasRead, inv-caches, inv-run}
+
+-- ---- the book's caches and run r after prepare, with the store's counts and jobs
+
+module _ (s : Store) (b : Book) (r : ℕ) where
+  unfoldable copyCaches : ℕ → Place Copy
+  copyCaches =
+      let K = s .counts .keys in
+      let a = s .run r in
+      preparedCaches (copies K (b .history)) K (b .master) (a .job) (a .jobs) (b .cache)
+
+  unfoldable copySnapshot : Place Copy
+  copySnapshot =
+      let a = s .run r in
+      sitesMerged (copies (s .counts .keys) (b .history)) (s .counts .sites)
+      (usesSite (a .jobs) (a .job)) (planned (a .jobs) (a .job)) copyCaches
+
+  unfoldable copyRun : BookRun
+  copyRun = record {
+    jobs = s .run r .jobs;
+    job = s .run r .job;
+    branch = record { read = b .run r .branch .read; snapshot = copySnapshot };
+  }
+
+  book-prepare : Follows s b → r < s .counts .runs
+      → bookPrepare r b ≡ withBookRun (withBookCaches b copyCaches) r copyRun
+  unfolding bookPrepare copyRun copySnapshot copyCaches
+  book-prepare F l = rw (← F .counts, ← F .run r l .jobs, ← F .run r l .job)
+
+-- ---- a prepare that is not refused
+
+module _ {s : Store} {b : Book} {r : ℕ} (fine : Fine s) (F : Follows s b) (A : Accepted s r) where
+  at-sites : SitesBelow (s .counts .sites) (s .run r .jobs) (s .run r .job)
+  at-sites j l =
+      let jobs = was s r fine A .jobs in
+      valid-out (s .counts) j (s .run r .job j) (jobs .valid j l) .site
+
+  caches-related : RelatedSites (s .counts .sites) (s .counts .keys)
+      (CountedAs (s .counts .keys) (b .history)) (prepareCaches s r) (copyCaches s b r)
+  unfolding prepareCaches siteCaches copyCaches
+  caches-related =
+      let a = s .run r in
+      preparedCaches-rel (now-simulates F) (s .counts .sites) (s .master) (b .master) (a .job)
+      (a .job) (master-related F) (a .jobs) (siteCaches s) (b .cache) (λ _ _. refl) at-sites
+      (cache-related F)
+
+  caches-cuts : CutsWithin (s .counts .keys) (b .history) (s .counts .sites) (b .master)
+      (copyCaches s b r)
+  unfolding copyCaches
+  caches-cuts =
+      preparedCaches-cuts (s .counts .keys) (b .history) (s .counts .sites) (b .master)
+      (master-closed F) (s .run r .job) (s .run r .jobs) (b .cache)
+      (λ o l. (F .closed o l, cache-part F o l))
+
+  snapshot-related : Related (s .counts .keys) (CountedAs (s .counts .keys) (b .history))
+      (prepareSnapshot s r) (copySnapshot s b r)
+  unfolding prepareSnapshot copySnapshot
+  snapshot-related =
+      let a = s .run r in
+      let sites = usesSite (a .jobs) (a .job) in
+      let plan = planned (a .jobs) (a .job) in
+      sitesMerged-rel (now-simulates F) (s .counts .sites) sites sites plan plan
+      (prepareCaches s r) (copyCaches s b r) (λ _ _. refl) (λ _ _. refl) caches-related
+
+  snapshot-closed : ClosedIn (s .counts .keys) (b .history)
+      (planned (s .run r .jobs) (s .run r .job)) (copySnapshot s b r)
+  unfolding copySnapshot
+  snapshot-closed =
+      let a = s .run r in
+      sitesMerged-closed (s .counts .keys) (b .history) (usesSite (a .jobs) (a .job))
+      (planned (a .jobs) (a .job)) (copyCaches s b r) (s .counts .sites)
+      (λ o l. caches-cuts o l .0)
+
+  run-follows : RunFollows (s .counts .keys) (b .history)
+      (withSnapshot (s .run r) (prepareSnapshot s r)) (copyRun s b r)
+  unfolding withSnapshot copyRun
+  run-follows = record {
+    jobs = refl;
+    job = refl;
+    branch = record {
+      read = F .run r (A .run) .branch .read;
+      low = F .run r (A .run) .branch .low;
+      snapshot = λ k l. snapshot-related k l .0;
+      closed = snapshot-closed;
+    };
+  }
+
+-- No job is done, so nothing is read.
+none-read : {s : Store} {b : Book} {f : ℕ → List ReadSet} {r : ℕ} → Fine s → Inv s b f
+    → Accepted s r → (a : Run) → HasRead (s .counts .keys) a (copyRun s b r) (f r)
+unfolding copyRun
+none-read {s} {b} {f} {r} fine v A a x i =
+    let was-read = v .reads r (A .run) x i .keys in
+    let nothing : (k : ℕ) → k < s .counts .keys → b .run r .branch .read k ≡ false =
+    λ k l. sym (v .follows .run r (A .run) .branch .read k l) ∙ unread s r fine A k in
+    record {
+      keys = was-read;
+      version = λ k l p. clash (was-read k l p) (nothing k l);
+      copy = λ k l p. clash (was-read k l p) (nothing k l);
+    }
+
+done-moves : {s : Store} {b : Book} {f : ℕ → List ReadSet} {r : ℕ} → Fine s → Inv s b f
+    → Accepted s r → Moves (prepare r) s b f (prepareDone s r)
+unfolding prepareDone bookRule finish finishBy roleOf withCaches withSites withBookCaches
+done-moves {s} {b} {f} {r} fine v A =
+    let F = v .follows in
+    let after = withSnapshot (s .run r) (prepareSnapshot s r) in
+    let sites : ℕ → Site = λ o. siteWith (s .site o) (prepareCaches s r o) in
+    let w = inv-caches v sites (copyCaches s b r)
+    (λ o l. (λ k h. caches-related fine F A o l k h .0, caches-cuts fine F A o l .0)) in
+    rw (book-prepare s b r F (A .run))
+    (inv-run w f r after (copyRun s b r) (run-follows fine F A) (A .run) (λ _ _. refl)
+    (none-read fine v A after))
+
+pub prepare-laws : (r : ℕ) (s : Store) → Fine s → Laws (prepare r) s (prepareRule r s)
+unfolding prepareRule prepareDone withRun withCaches withSites withSnapshot roleOf
+prepare-laws r s fine =
+    laws-unless (prepare r) s (prepareCause s r) (prepareDone s r) (λ e.
+    let A = accepted s r e in
+    record {
+      moves = λ b f v. done-moves fine v A;
+      turns = works r _ _ (A .state) (A .state) refl refl;
+    })

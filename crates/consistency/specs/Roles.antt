@@ -1,0 +1,43 @@
+-- What a call is to a run: "A run lasts from its open until it is freed."
+-- Role, roleOf. isOn, opens, frees: a call of that role is on run r, opens it, frees it.
+-- Assumes nothing.
+use mathlib.Core.Bool.{Bool, false}
+use mathlib.Core.Option.{Option, none, some}
+use Prim.Native.Nat.{ℕ}
+use lib.Dec.{eqb}
+use Rattle.model.specs.Calls.{StoreCall, openRun, fetch, evict, prepare, step, issue, dropRun, ask}
+
+-- An accepted call opens a run, works on it, frees it, or is on no run.
+pub data Role : Type 0 where
+  opening : ℕ → Role
+  working : ℕ → Option ℕ → Role  -- and the job of it that is finished, if any
+  freeing : ℕ → Role
+  elsewhere : Role
+
+unfoldable pub roleOf : StoreCall → Role
+roleOf (openRun r l) = opening r
+roleOf (fetch o k) = elsewhere
+roleOf (evict o k) = elsewhere
+roleOf (prepare r) = working r none
+roleOf (step r j) = working r (some j)
+roleOf (issue r w S) = freeing r
+roleOf (dropRun r) = freeing r
+roleOf (ask q) = elsewhere
+
+unfoldable pub isOn : ℕ → Role → Bool
+isOn r (opening x) = eqb r x
+isOn r (working x j) = eqb r x
+isOn r (freeing x) = eqb r x
+isOn r elsewhere = false
+
+unfoldable pub opens : ℕ → Role → Bool
+opens r (opening x) = eqb r x
+opens r (working x j) = false
+opens r (freeing x) = false
+opens r elsewhere = false
+
+unfoldable pub frees : ℕ → Role → Bool
+frees r (opening x) = false
+frees r (working x j) = false
+frees r (freeing x) = eqb r x
+frees r elsewhere = false

@@ -1,0 +1,158 @@
+-- Step keeps a store fine.
+-- was, valid, site: the run before it, and its job. cache-.., snapshot-.., stepped-..: the cache,
+-- the snapshot and the run after it.
+-- Assumes nothing.
+use mathlib.Core.Path.{refl, ap, _∙_}
+use mathlib.Core.Bool.{So}
+use mathlib.Core.Logic.{inl, inr}
+use Prim.Native.Nat.{ℕ, _<_}
+use native.Mathlib.Omega.{arith}
+use lib.Bits.{bitOr}
+use Rattle.words.specs.Tests.{anyBelow}
+use Rattle.words.proofs.Bools.{test, _∙˙_, or-cases}
+use Rattle.masks.specs.Mask.{testBit}
+use Rattle.masks.proofs.Bits.{test-or, with-lt}
+use Rattle.model.specs.Algebra.{Place}
+use Rattle.model.specs.Version.{Version, held, merge, versions}
+use Rattle.model.specs.Sets.{pullSet, pulled}
+use Rattle.model.specs.Store.{Store, withSites, withCache, withRun, withState, withJobDone}
+use Rattle.model.specs.Form.{runFormed}
+use Rattle.model.specs.Outcome.{brokenState}
+use Rattle.model.specs.Step.{stepBranch, stepSite, stepReads, stepStart, stepCache, stepPlan, stepSnapshot, stepMoved, stepCause, stepBroken, stepDone, stepRule}
+use Rattle.model.proofs.Draws.{pulled-cases}
+use Rattle.model.proofs.Steps.{Accepted, accepted, accepted-used, stepSnapshot-keeps, stepSnapshot-held, stepSnapshot-planned, steppedRun}
+use Rattle.model.proofs.DoneReads.{doneReads-mask}
+use Rattle.layout.proofs.Parts.{FitPlace, FitRun}
+use Rattle.layout.proofs.Fit.{fit-choice, fit-merged, fit-cache, fit-run}
+use Rattle.model.proofs.Formed.{VersionFormed, version-merge, PlaceFormed, Formed, well-out, formed-cache, formed-run}
+use Rattle.model.proofs.Plans.{Valid, valid-out, Plan, plan-out, plan-in}
+use Rattle.layout.proofs.Follow.{Fine}
+use Rattle.layout.proofs.Kept.{Kept, kept-done, kept-broken, kept-unless, fetched-fits, fetched-formed}
+
+module _ (s : Store) (r j : ℕ) (F : Fine s) (A : Accepted s r j) where
+  formed : Formed s
+  formed = well-out s (F .formed)
+
+  pub was : Plan (s .counts) (s .run r)
+  was = plan-out (s .counts) (s .run r) (accepted-used A) (formed .run r (A .run-in))
+
+  pub valid : Valid (s .counts) j (s .run r .job j)
+  valid = valid-out (s .counts) j (s .run r .job j) (was .jobs .valid j (A .job-in))
+
+  pub site : stepSite s r j < s .counts .sites
+  unfolding stepSite
+  site = valid .site
+
+  fitting : FitRun (s .counts) (s .run r)
+  fitting = F .fits .run .each r (A .run-in)
+
+  -- ---- the cache
+
+  pub cache-fits : FitPlace (s .counts) (stepCache s r j)
+  unfolding stepCache
+  cache-fits =
+      fetched-fits (s .counts) (s .master) (s .site (stepSite s r j) .cache) (stepStart s r j)
+      (F .fits .master) (F .fits .site .each (stepSite s r j) site .cache)
+
+  pub cache-formed : PlaceFormed (s .counts) (stepCache s r j)
+  unfolding stepCache
+  cache-formed =
+      fetched-formed (s .counts) (s .master) (s .site (stepSite s r j) .cache) (stepStart s r j)
+      (formed .master) (formed .cache (stepSite s r j) site)
+
+  -- ---- the snapshot
+
+  pub snapshot-fits : FitPlace (s .counts) (stepSnapshot s r j)
+  unfolding stepSnapshot pulled
+  snapshot-fits =
+      let z = s .counts in
+      let old = stepBranch s r j .snapshot in
+      let both : Place Version = λ k. merge (old k) (stepCache s r j k) in
+      let C = pullSet (versions (z .writers)) (z .keys) (stepPlan s r j) old (stepCache s r j)
+      (stepReads s r j) in
+      fit-choice z C both old (fit-merged z old (stepCache s r j) (fitting .snapshot) cache-fits)
+      (fitting .snapshot)
+
+  pub snapshot-formed : PlaceFormed (s .counts) (stepSnapshot s r j)
+  unfolding stepSnapshot
+  snapshot-formed k h =
+      let z = s .counts in
+      let old = stepBranch s r j .snapshot in
+      let place = was .snapshot .place in
+      pulled-cases (versions (z .writers)) (z .keys) (stepPlan s r j) old (stepCache s r j)
+      (stepReads s r j) (VersionFormed z k) k
+      (λ _. version-merge z k (old k) (stepCache s r j k) (place k h) (cache-formed k h))
+      (λ _. place k h)
+
+  -- ---- the run and the store
+
+  stepped-fits : FitRun (s .counts) (steppedRun s r j)
+  unfolding withJobDone
+  stepped-fits = record { job = fitting .job; snapshot = snapshot-fits }
+
+  read-held : (k : ℕ) → k < s .counts .keys
+      → So (testBit (bitOr (stepBranch s r j .read) (s .run r .job j .reads)) k)
+      → So (held (stepSnapshot s r j k))
+  unfolding stepReads
+  read-held k l p =
+      let a = s .run r in
+      elim (or-cases (testBit (stepBranch s r j .read) k) (testBit (a .job j .reads) k)
+      (test-or (stepBranch s r j .read) (a .job j .reads) k ∙˙ p)) [
+        | inl h ↦ stepSnapshot-keeps s r j k (was .snapshot .has k l h)
+        | inr h ↦ stepSnapshot-held s r j A k l h
+      ]
+
+  stepped-formed : So (runFormed (s .counts) (steppedRun s r j))
+  unfolding withJobDone stepPlan
+  stepped-formed =
+      let z = s .counts in
+      let a = s .run r in
+      plan-in z (steppedRun s r j) (accepted-used A) (record {
+        state = was .state;
+        jobs = was .jobs;
+        masks = record {
+          low = with-lt (a .done) j (a .jobs) (was .masks .low) (A .job-in);
+          reads = ap (λ (m : ℕ). bitOr m (a .job j .reads)) (was .masks .reads)
+              ∙ doneReads-mask (z .keys) (a .jobs) (a .job) (a .done) j (A .job-in) (valid .reads);
+        };
+        snapshot = record {
+          place = snapshot-formed;
+          carried = stepSnapshot-planned s r j A (was .snapshot .carried);
+          has = read-held;
+        };
+      })
+
+  done-kept : Kept s (stepDone s r j)
+  unfolding stepDone withCache withSites withRun
+  done-kept =
+      let o = stepSite s r j in
+      let p = stepCache s r j in
+      let b = steppedRun s r j in
+      let s₁ = withCache s o p in
+      let f₁ = fit-cache s (F .fits) o p site cache-fits in
+      let g₁ = formed-cache s formed o p cache-formed in
+      kept-done s (withRun s₁ r b) _ F (fit-run s₁ f₁ r b (A .run-in) stepped-fits)
+      (formed-run s₁ g₁ r b stepped-formed) refl
+
+  broken-kept : Kept s (stepBroken s r j)
+  unfolding stepBroken withState withRun
+  broken-kept =
+      let z = s .counts in
+      let a = s .run r in
+      let b = withState a brokenState in
+      let fits : FitRun z b = record { job = fitting .job; snapshot = fitting .snapshot } in
+      kept-broken s (withRun s r b) _ F (fit-run s (F .fits) r b (A .run-in) fits)
+      (formed-run s formed r b (plan-in z b (omega arith) (record {
+        state = omega arith;
+        jobs = was .jobs;
+        masks = was .masks;
+        snapshot = was .snapshot;
+      }))) refl
+
+pub step-kept : (r j : ℕ) (s : Store) → Fine s → Kept s (stepRule r j s)
+unfolding stepRule
+step-kept r j s F =
+    kept-unless s (stepCause s r j) _ F (λ e.
+    let A = accepted s r j e in
+    test (anyBelow (s .counts .keys) (stepMoved s r j))
+    (λ t. rw t (broken-kept s r j F A)) (λ t. rw t (done-kept s r j F A)))
