@@ -1,11 +1,12 @@
--- Look: the issue number and own row of a version.
+-- Look: the issue number and own row of a version, and how it stands against the master's.
 -- Assumes nothing.
 use mathlib.Core.Bool.{cond, not}
-use mathlib.Core.List.{List, [], _∷_}
+use mathlib.Core.List.{List, [], _∷_, _++_}
 use Prim.Native.Nat.{ℕ}
 use lib.Dec.{eqb, leb}
 use Rattle.words.specs.Lists.{blocks}
-use Rattle.clock.specs.Clock.{Clock}
+use Rattle.clock.specs.declared.Standing.{Standing}
+use Rattle.clock.specs.Clock.{Clock, standing, standingNumber}
 use Rattle.sizes.specs.declared.Counts.{Counts}
 use Rattle.model.specs.Algebra.{Place}
 use Rattle.model.specs.Version.{Version, held}
@@ -33,11 +34,17 @@ lookCause s p i k =
 unfoldable pub rowNumbers : ℕ → Clock → List ℕ
 rowNumbers W c = blocks W (λ w. c w ∷ [])
 
--- "answers issue number and own row. Changes nothing."
+-- "the standing of the place's version against the master's": of their own rows.
+unfoldable pub lookStanding : Store → ℕ → ℕ → ℕ → Standing
+lookStanding s p i k =
+    standing (s .counts .writers) (lookPlace s p i k .past k) (s .master k .past k)
+
+-- "answers issue number and own row. Changes nothing." The standing is "printed last".
 unfoldable pub lookNumbers : Store → ℕ → ℕ → ℕ → List ℕ
 lookNumbers s p i k =
     let v = lookPlace s p i k in
-    v .issue ∷ rowNumbers (s .counts .writers) (v .past k)
+    v .issue ∷ (rowNumbers (s .counts .writers) (v .past k)
+    ++ standingNumber (lookStanding s p i k) ∷ [])
 
 unfoldable pub lookReply : ℕ → ℕ → ℕ → Store → Reply
 lookReply p i k s =
