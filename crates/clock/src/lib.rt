@@ -4,7 +4,7 @@ ghost use mathlib.Core.Path.{_≡_};
 ghost use Prim.Native.Nat.{_+_, _≤_};
 ghost use lib.ListN.{length};
 ghost use Rattle.words.specs.Words.{put, Apart};
-ghost use Rattle.clock.specs.Clock.{standing, standingOf, standingNumber, present, join, clockAt};
+ghost use Rattle.clock.specs.Clock.{standing, standingOf, standingNumber, covering, present, join, clockAt};
 
 // How two clocks stand.
 pub enum Standing {
@@ -23,6 +23,18 @@ pub fn standing_number(s: Standing) -> u32
         Standing::Older => 1,
         Standing::Newer => 2,
         Standing::Rival => 3,
+    }
+}
+
+// Whether a clock of this standing covers the other: it is equal or newer.
+pub fn covering(s: Standing) -> bool
+    ensures { λ r. ⌜ r ≡ covering s ⌝ }
+{
+    match s {
+        Standing::Equal => true,
+        Standing::Older => false,
+        Standing::Newer => true,
+        Standing::Rival => false,
     }
 }
 

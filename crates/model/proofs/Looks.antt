@@ -21,8 +21,8 @@ unfolding lookNumbers lookStanding lookPlace
 look-master s i k = rw (standing-self (s .counts .writers) (s .master k .past k))
 
 -- Looks at lent stores whose master has key 0 at (1,1) and lacks key 1: a rival, a version that
--- the master lacks, and the master itself; then an equal own row with another need, a smaller issue
--- number that is newer, and a larger one that is older.
+-- the master lacks, and the master itself; then an equal own row with another need, a smaller
+-- issue number that is newer, and a larger one that is older.
 abbrev lent : List Version → Store
 lent shelf =
     let s = withLast (fresh (countsOf 2 2 1 1)) 9 in

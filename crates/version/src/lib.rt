@@ -1,8 +1,8 @@
 // Versions in the words of a buffer: read, copied, cleared, merged.
 use clock::compare;
+use clock::covering;
 use clock::merge_into;
 use clock::present;
-use clock::Standing;
 use masks::has;
 use masks::with_if;
 use numbers::IssueNumber;
@@ -70,12 +70,7 @@ pub fn meets(words: &[u32], z: Counts, target: usize, d: usize, source: usize, t
     }
     let own = row_of(z, target, d, d);
     let need = row_of(z, source, t, d);
-    match compare(words, own, words, need, z.writers) {
-        Standing::Equal => true,
-        Standing::Older => false,
-        Standing::Newer => true,
-        Standing::Rival => false,
-    }
+    covering(compare(words, own, words, need, z.writers))
 }
 
 // The mask of the keys that the place holds.
