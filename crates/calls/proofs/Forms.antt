@@ -26,7 +26,7 @@ use Rattle.layout.proofs.Rules.{new-fine, new-done, new-leaves, new-refused}
 use Rattle.step.specs.declared.Stepped.{Stepped}
 use Rattle.step.specs.Answers.{steppedWords}
 use Rattle.look.specs.declared.Looked.{Looked}
-use Rattle.look.specs.Answer.{shown, RowIn}
+use Rattle.look.specs.Answer.{seen, shown, RowIn}
 use Rattle.command.specs.declared.Command.{Command}
 use Rattle.command.specs.declared.Command.the-variants.{Unread, New, Open, Fetch, Evict, Prepare, Step, Issue, Drop, Ask}
 use Rattle.command.specs.Commands.{queryOf, spelled}
@@ -72,8 +72,10 @@ few-stepped (Stepped.Broken m) = omega arith
 few-stepped (Stepped.Refused n) = omega arith
 
 pub few-shown : (l : List ℕ) (r : Looked) → RowIn l r → length (shown l r) ≤ maxAnswer
-unfolding shown RowIn
-few-shown l (Looked.Done i at n) h = omega (arith, length-window l at n, h .1)
+unfolding seen shown RowIn
+few-shown l (Looked.Done i at n s) h =
+    let last : List ℕ = standingNumber s ∷ [] in
+    omega (arith, length-append (window l at n) last, length-window l at n, h .1)
 few-shown l (Looked.Refused n) h = omega arith
 
 -- ---- what a command asks for

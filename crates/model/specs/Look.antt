@@ -13,6 +13,10 @@ use Rattle.model.specs.Version.{Version, held}
 use Rattle.model.specs.Store.{Store}
 use Rattle.model.specs.Outcome.{Reply, refuse}
 
+-- How many kinds of places there are.
+abbrev pub placeKinds : ℕ
+placeKinds = 3
+
 -- "place (0 master, 1 shelf, 2 card), its number (0 for the master)"
 unfoldable pub lookPlace : Store → ℕ → ℕ → Place Version
 lookPlace s p i =
@@ -24,7 +28,7 @@ lookLimit z p = cond (eqb p 0) 1 (cond (eqb p 1) (z .sites) (z .runs))
 
 unfoldable pub lookCause : Store → ℕ → ℕ → ℕ → ℕ
 lookCause s p i k =
-    refuse (leb 3 p) 3
+    refuse (leb placeKinds p) 3
     (refuse (leb (lookLimit (s .counts) p) i) 3
     (refuse (leb (s .counts .keys) k) 3
     (refuse (not (held (lookPlace s p i k))) 8
