@@ -4,15 +4,17 @@
 -- Assumes nothing.
 use mathlib.Core.Path.{_≡_, refl, sym, ap, subst, _∙_}
 use mathlib.Core.Bool.{true, false, So, not, _&&_, _||_}
-use mathlib.Core.List.{List, [], _∷_}
+use mathlib.Core.List.{List, [], _∷_, _++_}
 use mathlib.Core.Option.{Option, none, some}
 use Prim.Native.Nat.{ℕ, suc, _≤_}
 use native.Mathlib.Omega.{arith}
 use lib.Dec.{eqb, ltb}
-use lib.ListN.{length, getD, take}
+use lib.ListN.{length, getD, take, length-append}
 use borrow.Author.Tests.{lt-ltb}
+use Rattle.words.specs.Lists.{window}
 use Rattle.words.proofs.Bools.{clash, test, or-true-right, or-false-right, eqb-eq, eqb-ne}
 use Rattle.words.proofs.Lists.{length-window}
+use Rattle.clock.specs.Clock.{standingNumber}
 use Rattle.sizes.specs.Bounds.{countsOf}
 use Rattle.answers.specs.declared.Answered.{Answered}
 use Rattle.answers.specs.Answers.{maxAnswer, over, Lays, answeredWords}

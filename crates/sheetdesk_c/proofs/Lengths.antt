@@ -3,7 +3,7 @@
 -- compared-.., covers-..: clocks that aren't alike, and others. merged-..: the same for a merge.
 -- Assumes nothing.
 use mathlib.Core.Path.{_≡_, refl}
-use mathlib.Core.Bool.{false, So}
+use mathlib.Core.Bool.{Bool, false, So}
 use mathlib.Core.List.{List}
 use Prim.Native.Nat.{ℕ, _+_}
 use native.Mathlib.Omega.{arith}
@@ -41,10 +41,10 @@ pub covers-no : (p q : List ℕ) → alike p q ≡ false → 2 ≡ covers p q
 unfolding covers
 covers-no p q n = rw n
 
-pub covers-test : (p q : List ℕ) (s : Standing) → So (alike p q)
-    → s ≡ standing (length p) (clockAt p 0) (clockAt q 0) → when (covering s) 1 ≡ covers p q
+pub covers-test : (p q : List ℕ) (b : Bool) (s : Standing) → So (alike p q) → b ≡ covering s
+    → s ≡ standing (length p) (clockAt p 0) (clockAt q 0) → when b 1 ≡ covers p q
 unfolding covers dominates
-covers-test p q s y d = rw (y, ← d)
+covers-test p q b s y e d = rw (y, ← d, e)
 
 pub merged-no : (t s : List ℕ) → alike t s ≡ false → (0 ≡ together t s) × (t ≡ merged t s)
 unfolding together merged when
