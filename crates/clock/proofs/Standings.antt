@@ -85,14 +85,25 @@ module _ (W : ℕ) (p q : Clock) where
             exceeds-no W q p (λ w l. omega (arith, h w l)),
           )
 
-  -- A clock that is covered is equal or older.
-  pub standing-below : Dominates W q p → (standing W p q ≡ Equal) ⊎ (standing W p q ≡ Older)
+  behind : Dominates W q p → (standing W p q ≡ Equal) ⊎ (standing W p q ≡ Older)
   unfolding standing
-  standing-below c = rw (exceeds-no W p q c) (cases (exceeds W q p))
+  behind c = rw (exceeds-no W p q c) (cases (exceeds W q p))
     where
       cases : (b : Bool) → (standingOf false b ≡ Equal) ⊎ (standingOf false b ≡ Older)
       cases false = inl refl
       cases true = inr refl
+
+  -- A clock that is covered is equal or older, and the other way round.
+  pub standing-below : Dominates W q p ↔ ((standing W p q ≡ Equal) ⊎ (standing W p q ≡ Older))
+  standing-below = (behind, back)
+    where
+      back : (standing W p q ≡ Equal) ⊎ (standing W p q ≡ Older) → Dominates W q p
+      back (inl e) =
+          let v : View W p q Equal = rw e at standing-view in
+          v .1
+      back (inr e) =
+          let v : View W p q Older = rw e at standing-view in
+          v .0
 
 pub standing-self : (W : ℕ) (p : Clock) → standing W p p ≡ Equal
 standing-self W p = standing-equal W p p .1 (λ w l. refl)

@@ -21,6 +21,7 @@ use Rattle.consistency.proofs.MovesRuns.{open-moves, drop-moves, ask-mo
 use Rattle.consistency.proofs.MovesPrepare.{prepare-moves}
 use Rattle.consistency.proofs.MovesStep.{step-moves}
 use Rattle.consistency.proofs.MovesIssue.{issue-moves}
+use Rattle.consistency.proofs.Covering.{caches-behind, snapshots-behind}
 use Rattle.consistency.proofs.Cutting.{cuts, overlaps, breaks}
 use Rattle.consistency.proofs.Finished.{read-counted, shared}
 use Rattle.consistency.proofs.Points.{CallsMove, At, start-at, follow-at}
@@ -52,6 +53,8 @@ inv-holds s b f F I =
       shared = shared s b f I F;
       overlaps = overlaps G;
       every-save = λ k i. G .every k i;
+      behind-caches = caches-behind G;
+      behind-snapshots = snapshots-behind G;
     }
 
 pub point-holds : (t : Trace) → At t → HoldsAt t

@@ -43,4 +43,11 @@ returns-3 c =
 
 pub sheetdesk-covers-spec : {M : Type 1} → statement M
 sheetdesk-covers-spec =
-    tie.close (tie.spec are-alike-requires returns compare-requires covering-requires returns-2 returns-3)
+    tie.close
+    (tie.spec
+    are-alike-requires
+    returns
+    compare-requires
+    covering-requires
+    returns-2
+    returns-3)
