@@ -1,4 +1,4 @@
-//! Covers and merge on two lent clocks of any lengths.
+//! Compare, covers and merge on two lent clocks of any lengths.
 
 use crate::desk::version::{covers, take_larger};
 use crate::library;
@@ -29,7 +29,25 @@ pub fn compare(random: &mut Random, met: &mut Met) -> Result<(), String> {
         if given != due {
             return Err(format!("# covers {p:?} {q:?}: library {given}, reference {due}"));
         }
+        stand(&p, &q, met)?;
         merge(&p, &q)?;
+    }
+    Ok(())
+}
+
+/// The standing, by which of the two clocks covers the other.
+fn stand(p: &[u32], q: &[u32], met: &mut Met) -> Result<(), String> {
+    let due = match (p.len() == q.len() && p.len() <= MOST, covers(p, q), covers(q, p)) {
+        (false, _, _) => 4,
+        (true, true, true) => 0,
+        (true, false, true) => 1,
+        (true, true, false) => 2,
+        (true, false, false) => 3,
+    };
+    let given = library::compare(p, q);
+    met.standings[due as usize] += 1;
+    if given != due {
+        return Err(format!("# compare {p:?} {q:?}: library {given}, reference {due}"));
     }
     Ok(())
 }

@@ -27,6 +27,8 @@ pub struct Met {
     pub in_form: [u64; 6],
     /// Answers of covers: 0, 1 and 2.
     pub covers: [u64; 3],
+    /// Answers of compare: 0 to 4.
+    pub standings: [u64; 5],
     /// Calls answered ok, by source.
     by_source: [u64; 6],
     /// Answered ok, by call.
@@ -96,6 +98,9 @@ impl Met {
         }
         for (answer, count) in self.covers.iter().enumerate() {
             table.push((format!("covers {answer}"), *count, 500));
+        }
+        for (answer, count) in self.standings.iter().enumerate() {
+            table.push((format!("compare {answer}"), *count, 200));
         }
         table
     }

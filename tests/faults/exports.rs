@@ -61,6 +61,25 @@ pub unsafe extern "C" fn sheetdesk_open(
 }
 
 #[no_mangle]
+pub unsafe extern "C" fn sheetdesk_compare(
+    p: *mut u32,
+    p_len: usize,
+    q: *mut u32,
+    q_len: usize,
+) -> u32 {
+    if p_len != q_len || p_len > 16 {
+        return 4;
+    }
+    let (p, q) = (lent(p, p_len), lent(q, q_len));
+    match (desk::version::covers(p, q), desk::version::covers(q, p)) {
+        (true, true) => 0,
+        (false, true) => 1,
+        (true, false) => 2,
+        (false, false) => 3,
+    }
+}
+
+#[no_mangle]
 pub unsafe extern "C" fn sheetdesk_covers(
     p: *mut u32,
     p_len: usize,

@@ -4,15 +4,17 @@
 -- Assumes nothing.
 use mathlib.Core.Path.{_≡_, refl, sym, ap, subst, _∙_}
 use mathlib.Core.Bool.{true, false, So, not, _&&_, _||_}
-use mathlib.Core.List.{List, [], _∷_}
+use mathlib.Core.List.{List, [], _∷_, _++_}
 use mathlib.Core.Option.{Option, none, some}
 use Prim.Native.Nat.{ℕ, suc, _≤_}
 use native.Mathlib.Omega.{arith}
 use lib.Dec.{eqb, ltb}
-use lib.ListN.{length, getD, take}
+use lib.ListN.{length, getD, take, length-append}
 use borrow.Author.Tests.{lt-ltb}
+use Rattle.words.specs.Lists.{window}
 use Rattle.words.proofs.Bools.{clash, test, or-true-right, or-false-right, eqb-eq, eqb-ne}
 use Rattle.words.proofs.Lists.{length-window}
+use Rattle.clock.specs.Clock.{standingNumber}
 use Rattle.sizes.specs.Bounds.{countsOf}
 use Rattle.answers.specs.declared.Answered.{Answered}
 use Rattle.answers.specs.Answers.{maxAnswer, over, Lays, answeredWords}
@@ -26,7 +28,7 @@ use Rattle.layout.proofs.Rules.{new-fine, new-done, new-leaves, new-refused}
 use Rattle.step.specs.declared.Stepped.{Stepped}
 use Rattle.step.specs.Answers.{steppedWords}
 use Rattle.look.specs.declared.Looked.{Looked}
-use Rattle.look.specs.Answer.{shown, RowIn}
+use Rattle.look.specs.Answer.{seen, shown, RowIn}
 use Rattle.command.specs.declared.Command.{Command}
 use Rattle.command.specs.declared.Command.the-variants.{Unread, New, Open, Fetch, Evict, Prepare, Step, Issue, Drop, Ask}
 use Rattle.command.specs.Commands.{queryOf, spelled}
@@ -72,8 +74,10 @@ few-stepped (Stepped.Broken m) = omega arith
 few-stepped (Stepped.Refused n) = omega arith
 
 pub few-shown : (l : List ℕ) (r : Looked) → RowIn l r → length (shown l r) ≤ maxAnswer
-unfolding shown RowIn
-few-shown l (Looked.Done i at n) h = omega (arith, length-window l at n, h .1)
+unfolding seen shown RowIn
+few-shown l (Looked.Done i at n s) h =
+    let last : List ℕ = standingNumber s ∷ [] in
+    omega (arith, length-append (window l at n) last, length-window l at n, h .1)
 few-shown l (Looked.Refused n) h = omega arith
 
 -- ---- what a command asks for

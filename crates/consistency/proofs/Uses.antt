@@ -6,8 +6,9 @@ use mathlib.Core.Path.{_≡_, refl, sym, ap, _∙_}
 use mathlib.Core.Bool.{false, So}
 use mathlib.Core.Logic.{_⊎_, inr, _≢_}
 use mathlib.Core.List.{List, [], _∷_, _++_, append-nil}
-use Prim.Native.Nat.{ℕ, _<_}
+use Prim.Native.Nat.{ℕ, _≤_, _<_}
 use Rattle.words.proofs.Bools.{eq-eqb, ne-eqb, and-intro, and-left, and-right}
+use Rattle.clock.proofs.Standings.{standing-below}
 use Rattle.sizes.specs.declared.Counts.{Counts}
 use Rattle.model.specs.Version.{held, dependency, supersedes, versions}
 use Rattle.model.specs.Store.{Run, Store, freeRun, planned}
@@ -91,6 +92,15 @@ module _ (t : Trace) (H : HoldsAt t) where
 
   pub master-has : (k i : ℕ) → k < K → So (saved h k i) → So (t .book .master k i)
   master-has = H .holds .every-save
+
+  -- "which copy is ahead": no count on a shelf or card is larger than the master's
+  pub cache-not-ahead : (o : ℕ) → o < s .counts .sites → (k : ℕ) → k < K → (w : ℕ) → w < W
+      → s .site o .cache k .past k w ≤ s .master k .past k w
+  cache-not-ahead o l k h = standing-below W _ _ .1 (H .holds .behind-caches o l k h)
+
+  pub snapshot-not-ahead : (r : ℕ) → r < s .counts .runs → (k : ℕ) → k < K → (w : ℕ) → w < W
+      → s .run r .branch .snapshot k .past k w ≤ s .master k .past k w
+  snapshot-not-ahead r l k h = standing-below W _ _ .1 (H .holds .behind-snapshots r l k h)
 
   -- "Save s stands behind save t": in the past of t's issue, and nothing else is but t itself
   pub behind-past : (d j e i : ℕ) → So (saved h e i) → HappensBefore h d j e i
