@@ -68,6 +68,7 @@ pub mod exports {
             desk: *const u32, desk_len: usize, place: u32, number: u32, sheet: u32,
             answer: *mut u32, answer_len: usize,
         ) -> u32;
+        pub fn sheetdesk_compare(p: *const u32, p_len: usize, q: *const u32, q_len: usize) -> u32;
         pub fn sheetdesk_covers(p: *const u32, p_len: usize, q: *const u32, q_len: usize) -> u32;
         pub fn sheetdesk_merge(
             target: *mut u32, target_len: usize, source: *const u32, source_len: usize,
