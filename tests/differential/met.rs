@@ -28,7 +28,9 @@ pub struct Met {
     /// Answers of covers: 0, 1 and 2.
     pub covers: [u64; 3],
     /// Answers of compare: 0 to 4.
-    pub standings: [u64; 5],
+    pub compared: [u64; 5],
+    /// Looks by the standing that they answer.
+    standings: [u64; 4],
     /// Calls answered ok, by source.
     by_source: [u64; 6],
     /// Answered ok, by call.
@@ -68,6 +70,7 @@ impl Met {
                 match call {
                     Call::Fetch(..) => self.fetches_of_more += several,
                     Call::Evict(..) => self.evicts_of_more += several,
+                    Call::Look(..) => self.standings[numbers[numbers.len() - 1] as usize] += 1,
                     _ => {}
                 }
             }
@@ -99,8 +102,11 @@ impl Met {
         for (answer, count) in self.covers.iter().enumerate() {
             table.push((format!("covers {answer}"), *count, 500));
         }
-        for (answer, count) in self.standings.iter().enumerate() {
-            table.push((format!("compare {answer}"), *count, 200));
+        for (answer, count) in self.compared.iter().enumerate() {
+            table.push((format!("compare {answer}"), *count, 500));
+        }
+        for (standing, count) in self.standings.iter().enumerate() {
+            table.push((format!("looks of standing {standing}"), *count, 100));
         }
         table
     }

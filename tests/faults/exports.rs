@@ -70,13 +70,8 @@ pub unsafe extern "C" fn sheetdesk_compare(
     if p_len != q_len || p_len > 16 {
         return 4;
     }
-    let (p, q) = (lent(p, p_len), lent(q, q_len));
-    match (desk::version::covers(p, q), desk::version::covers(q, p)) {
-        (true, true) => 0,
-        (false, true) => 1,
-        (true, false) => 2,
-        (false, false) => 3,
-    }
+    let standing = desk::version::compare(lent(p, p_len), lent(q, q_len));
+    desk::version::standing_number(standing)
 }
 
 #[no_mangle]
