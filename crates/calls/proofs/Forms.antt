@@ -3,23 +3,24 @@
 -- words. call-form, made-form: in form stays in form, and an accepted call leaves it in form.
 -- Assumes nothing.
 use mathlib.Core.Path.{_≡_, refl, sym, ap, subst, _∙_}
-use mathlib.Core.Bool.{true, false, So, not, _&&_, _||_}
+use mathlib.Core.Bool.{Bool, false, So, _&&_, _||_}
+use mathlib.Core.Logic.{⊎-elim}
 use mathlib.Core.List.{List, [], _∷_, _++_}
 use mathlib.Core.Option.{Option, none, some}
-use Prim.Native.Nat.{ℕ, suc, _≤_}
+use Prim.Native.Nat.{ℕ, suc, _≤_, _<_}
 use native.Mathlib.Omega.{arith}
-use lib.Dec.{eqb, ltb}
+use lib.Dec.{eqb, leb, ltb}
 use lib.ListN.{length, getD, take, length-append}
-use borrow.Author.Tests.{lt-ltb}
+use borrow.Author.Tests.{lt-ltb, le-leb}
 use Rattle.words.specs.Lists.{window}
-use Rattle.words.proofs.Bools.{clash, test, or-true-right, or-false-right, eqb-eq, eqb-ne}
+use Rattle.words.proofs.Bools.{clash, test, and-left, and-right, and-cases, or-true-right, or-false-right, leb-le, eqb-eq, eqb-ne}
 use Rattle.words.proofs.Lists.{length-window}
 use Rattle.clock.specs.Clock.{standingNumber}
 use Rattle.sizes.specs.Bounds.{countsOf}
 use Rattle.answers.specs.declared.Answered.{Answered}
-use Rattle.answers.specs.Answers.{maxAnswer, over, Lays, answeredWords}
+use Rattle.answers.specs.Answers.{maxAnswer, answerRoom, over, Lays, answeredWords}
 use Rattle.model.specs.Outcome.{Outcome, refused, broken, done, told, answer}
-use Rattle.model.specs.Calls.{StoreCall, openRun, fetch, evict, prepare, step, issue, dropRun, ask}
+use Rattle.model.specs.Calls.{StoreCall, openRun}
 use Rattle.layout.specs.Buffer.{inForm}
 use Rattle.layout.specs.Calls.{Call, new, on, newCause, callOn, leaves, isOk}
 use Rattle.layout.proofs.Follow.{fine-form}
@@ -29,15 +30,12 @@ use Rattle.step.specs.declared.Stepped.{Stepped}
 use Rattle.step.specs.Answers.{steppedWords}
 use Rattle.look.specs.declared.Looked.{Looked}
 use Rattle.look.specs.Answer.{seen, shown, RowIn}
-use Rattle.command.specs.declared.Command.{Command}
-use Rattle.command.specs.declared.Command.the-variants.{Unread, New, Open, Fetch, Evict, Prepare, Step, Issue, Drop, Ask}
-use Rattle.command.specs.Commands.{queryOf, spelled}
-use Rattle.calls.specs.Performs.{needsForm, admits, Does, Made}
+use Rattle.calls.specs.Performs.{Does, Exported, TurnedDown, Made}
 
 -- ---- one call
 
 -- w: the words of the call's answer.
-pub does-it : (c : Call) (l m a b w : List ℕ) (n : ℕ) → w ≡ answer (callOn c l)
+does-it : (c : Call) (l m a b w : List ℕ) (n : ℕ) → w ≡ answer (callOn c l)
     → m ≡ leaves (callOn c l) l → Lays w a b n → length w ≤ maxAnswer → Does c l m a b n
 does-it c l m a b w n p q r f = record {
   answers = subst (λ (v : List ℕ). Lays v a b n) p r;
@@ -46,7 +44,7 @@ does-it c l m a b w n p q r f = record {
 }
 
 -- On a buffer that isn't in form.
-pub does-not : (c : StoreCall) (l a b : List ℕ) (n : ℕ) → inForm l ≡ false
+does-not : (c : StoreCall) (l a b : List ℕ) (n : ℕ) → inForm l ≡ false
     → Lays (2 ∷ 1 ∷ []) a b n → Does (on c) l l a b n
 unfolding answer leaves
 does-not c l a b n f r =
@@ -56,11 +54,48 @@ does-not c l a b n f r =
       few = omega (arith, r .count);
     }
 
+-- An answer slice that is too short.
+pub export-short : (c : Call) (l a : List ℕ) → length a < answerRoom → Exported c l l a a 0
+export-short c l a h = record {
+  does = λ f. absurd (omega (arith, f, h));
+  short = λ _. (refl, refl, refl);
+}
+
+pub export-done : (c : Call) (l m a b w : List ℕ) (n : ℕ) → answerRoom ≤ length a
+    → w ≡ answer (callOn c l) → m ≡ leaves (callOn c l) l → Lays w a b n → length w ≤ maxAnswer
+    → Exported c l m a b n
+export-done c l m a b w n h p q r f = record {
+  does = λ _. does-it c l m a b w n p q r f;
+  short = λ s. absurd (omega (arith, s, h));
+}
+
+-- f: whether the buffer is in form. g: whether the call is admitted.
+module _ (l a : List ℕ) (f g : Bool) (e : f ≡ inForm l)
+    (d : g ≡ f && leb answerRoom (length a)) where
+  pub admitted-form : So g → So (inForm l)
+  admitted-form y = sym e ∙ and-left f (leb answerRoom (length a)) (sym d ∙ y)
+
+  pub admitted-room : So g → answerRoom ≤ length a
+  admitted-room y =
+      leb-le answerRoom (length a) (and-right f (leb answerRoom (length a)) (sym d ∙ y))
+
+  pub export-not : (c : StoreCall) (b : List ℕ) (n : ℕ) → g ≡ false → TurnedDown a b n
+      → Exported (on c) l l a b n
+  export-not c b n z t = record {
+    does = λ h.
+        ⊎-elim (λ y. does-not c l a b n (sym e ∙ y) (t .laid h))
+        (λ y. clash (le-leb answerRoom (length a) h) y)
+        (and-cases f (leb answerRoom (length a)) (sym d ∙ z));
+    short = λ h. let s = t .short h in (s .0, refl, s .1);
+  }
+
 -- Open's job words are told by another number that is the same.
 pub does-open : (r k j : ℕ) (ws l m a b : List ℕ) (n : ℕ) → k ≡ j
     → Does (on (openRun r (take k ws))) l m a b n → Does (on (openRun r (take j ws))) l m a b n
 does-open r k j ws l m a b n e d =
     subst (λ (i : ℕ). Does (on (openRun r (take i ws))) l m a b n) e d
+
+-- ---- how many words an answer has
 
 pub few-answered : (r : Answered) → length (answeredWords r) ≤ maxAnswer
 unfolding answeredWords
@@ -79,30 +114,6 @@ few-shown l (Looked.Done i at n s) h =
     let last : List ℕ = standingNumber s ∷ [] in
     omega (arith, length-append (window l at n) last, length-window l at n, h .1)
 few-shown l (Looked.Refused n) h = omega arith
-
--- ---- what a command asks for
-
--- A call that a buffer doesn't admit.
-pub not-made : (k : Command) (ns l a b : List ℕ) (n : ℕ) → admits k (inForm l) ≡ false
-    → Lays (2 ∷ 1 ∷ []) a b n → Made (spelled k ns) l l a b n
-unfolding Made
-not-made Unread ns l a b n f r = clash (or-true-right (inForm l)) f
-not-made (New k w s p) ns l a b n f r = clash (or-true-right (inForm l)) f
-not-made (Open r i m) ns l a b n f q = does-not _ l a b n (sym (or-false-right (inForm l)) ∙ f) q
-not-made (Fetch o k) ns l a b n f r = does-not _ l a b n (sym (or-false-right (inForm l)) ∙ f) r
-not-made (Evict o k) ns l a b n f r = does-not _ l a b n (sym (or-false-right (inForm l)) ∙ f) r
-not-made (Prepare r) ns l a b n f q = does-not _ l a b n (sym (or-false-right (inForm l)) ∙ f) q
-not-made (Step r j) ns l a b n f q = does-not _ l a b n (sym (or-false-right (inForm l)) ∙ f) q
-not-made (Issue r w m) ns l a b n f q = does-not _ l a b n (sym (or-false-right (inForm l)) ∙ f) q
-not-made (Drop r) ns l a b n f q = does-not _ l a b n (sym (or-false-right (inForm l)) ∙ f) q
-not-made (Ask q) ns l a b n f r = does-not _ l a b n (sym (or-false-right (inForm l)) ∙ f) r
-
--- A buffer that admits a call on a store is in form.
-pub admitted-form : (k j : Command) (l : List ℕ) → k ≡ j → So (needsForm j)
-    → So (admits k (inForm l)) → So (inForm l)
-admitted-form k j l e y p =
-    let q : inForm l || not (needsForm j) ≡ true = rw e at p in
-    let r : inForm l || false ≡ true = rw y at q in sym (or-false-right (inForm l)) ∙ r
 
 -- ---- the form of the buffer after a call
 

@@ -1,21 +1,27 @@
-// The one way to make a call: a command on a buffer, the words of its answer laid over a lent
-// slice.
+// The one way to make a call: each call on any buffer, with the words of its answer laid over a
+// lent slice. The exports make them one by one, the program by a command.
+//
+// `ready` tells whether the buffer is in form: the exports test it, the program knows it from the
+// call before.
+use answers::Answered;
+use answers::Room;
 use answers::put_answered;
 use answers::put_two;
 use command::Command;
-use command::Question;
 use look::put_looked;
 use step::put_stepped;
+use words::wide;
 ghost use mathlib.Core.Path.{_≡_};
-ghost use mathlib.Core.Bool.{So};
-ghost use Prim.Native.Nat.{_≤_};
+ghost use mathlib.Core.Bool.{_&&_};
+ghost use Prim.Native.Nat.{_≤_, _<_};
+ghost use lib.Dec.{leb};
 ghost use lib.ListN.{length};
-ghost use Rattle.answers.specs.Answers.{answerRoom};
-ghost use Rattle.model.specs.Calls.{ask};
+ghost use Rattle.answers.specs.Answers.{answerRoom, Lays, answeredWords};
+ghost use Rattle.model.specs.Calls.{look, openRun, fetch, evict, prepare, step, issue, dropRun, ask};
 ghost use Rattle.layout.specs.Buffer.{inForm};
-ghost use Rattle.layout.specs.Calls.{on};
-ghost use Rattle.command.specs.Commands.{queryOf, spelled, numbersEnd};
-ghost use Rattle.calls.specs.Performs.{needsForm, admits, Does, Made, Performs};
+ghost use Rattle.layout.specs.Calls.{new, on};
+ghost use Rattle.command.specs.Commands.{spelled, numbersEnd};
+ghost use Rattle.calls.specs.Performs.{Exported, TurnedDown, Made, Performs};
 
 // Whether the buffer is in form after a call, and how many words its answer has.
 pub struct Performed {
@@ -23,132 +29,188 @@ pub struct Performed {
     pub count: usize,
 }
 
-// A call that only answers, on a buffer in form.
-fn tell(store: &[u32], question: Question, answer: &mut [u32]) -> usize
-    requires { ⌜ So (inForm (now store)) ⌝ }
-    requires { ⌜ answerRoom ≤ length (now answer) ⌝ }
-    ensures { λ n. ⌜ Does (on (ask (queryOf question))) (now (store .entry))
-        (now (store .entry)) (now (answer .entry)) (now (answer .exit)) n ⌝ }
+// A count of words.
+fn narrow(n: usize) -> u32
+    requires { ⌜ n < 4294967296 ⌝ }
+    ensures { λ r. ⌜ r ≡ n ⌝ }
 {
-    let r = look::look(store, question.0, question.1, question.2);
-    put_looked(answer, store, r)
+    n as u32
 }
 
-// Makes the call of a command that the buffer admits.
-fn make(store: &mut [u32], command: Command, numbers: &[u32], answer: &mut [u32]) -> usize
-    requires { ⌜ So (admits command (inForm (now store))) ⌝ }
+// Whether a call is made: the buffer is in form, and the answer slice has room.
+fn admitted(ready: bool, out: &[u32]) -> bool
+    ensures { λ r. ⌜ r ≡ ready && leb answerRoom (length (now (out .entry))) ⌝ }
+{
+    ready & (Room::ANSWER <= out.len())
+}
+
+// Refused with 1, if the answer slice has room for it.
+fn turn_down(out: &mut [u32]) -> u32
+    ensures { λ n. ⌜ TurnedDown (now (out .entry)) (now (out .exit)) n ⌝ }
+{
+    if out.len() < Room::ANSWER {
+        return 0;
+    }
+    put_two(out, 2, 1);
+    2
+}
+
+// The words of an answer with one number.
+fn lay(out: &mut [u32], r: Answered) -> u32
+    requires { ⌜ answerRoom ≤ length (now out) ⌝ }
+    ensures { λ n. ⌜ Lays (answeredWords r) (now (out .entry)) (now (out .exit)) n ⌝ }
+{
+    let n = put_answered(out, r);
+    narrow(n)
+}
+
+// ---- the calls
+
+pub fn new(
+    store: &mut [u32],
+    keys: u32,
+    writers: u32,
+    sites: u32,
+    runs: u32,
+    out: &mut [u32],
+) -> u32
+    ensures { λ n. ⌜ Exported (new keys writers sites runs)
+        (now (store .entry)) (now (store .exit)) (now (out .entry)) (now (out .exit)) n ⌝ }
+{
+    if out.len() < Room::ANSWER {
+        return 0;
+    }
+    let r = create::new(store, keys, writers, sites, runs);
+    lay(out, r)
+}
+
+pub fn open(store: &mut [u32], ready: bool, run: u32, jobs: &[u32], out: &mut [u32]) -> u32
+    requires { ⌜ ready ≡ inForm (now store) ⌝ }
+    ensures { λ n. ⌜ Exported (on (openRun run (now (jobs .entry))))
+        (now (store .entry)) (now (store .exit)) (now (out .entry)) (now (out .exit)) n ⌝ }
+{
+    if !admitted(ready, out) {
+        return turn_down(out);
+    }
+    let r = runs::open(store, run, jobs);
+    lay(out, r)
+}
+
+pub fn fetch(store: &mut [u32], ready: bool, site: u32, key: u32, out: &mut [u32]) -> u32
+    requires { ⌜ ready ≡ inForm (now store) ⌝ }
+    ensures { λ n. ⌜ Exported (on (fetch site key))
+        (now (store .entry)) (now (store .exit)) (now (out .entry)) (now (out .exit)) n ⌝ }
+{
+    if !admitted(ready, out) {
+        return turn_down(out);
+    }
+    let r = caches::fetch(store, site, key);
+    lay(out, r)
+}
+
+pub fn evict(store: &mut [u32], ready: bool, site: u32, key: u32, out: &mut [u32]) -> u32
+    requires { ⌜ ready ≡ inForm (now store) ⌝ }
+    ensures { λ n. ⌜ Exported (on (evict site key))
+        (now (store .entry)) (now (store .exit)) (now (out .entry)) (now (out .exit)) n ⌝ }
+{
+    if !admitted(ready, out) {
+        return turn_down(out);
+    }
+    let r = caches::evict(store, site, key);
+    lay(out, r)
+}
+
+pub fn prepare(store: &mut [u32], ready: bool, run: u32, out: &mut [u32]) -> u32
+    requires { ⌜ ready ≡ inForm (now store) ⌝ }
+    ensures { λ n. ⌜ Exported (on (prepare run))
+        (now (store .entry)) (now (store .exit)) (now (out .entry)) (now (out .exit)) n ⌝ }
+{
+    if !admitted(ready, out) {
+        return turn_down(out);
+    }
+    let r = prepare::prepare(store, run);
+    lay(out, r)
+}
+
+pub fn step(store: &mut [u32], ready: bool, run: u32, job: u32, out: &mut [u32]) -> u32
+    requires { ⌜ ready ≡ inForm (now store) ⌝ }
+    ensures { λ n. ⌜ Exported (on (step run job))
+        (now (store .entry)) (now (store .exit)) (now (out .entry)) (now (out .exit)) n ⌝ }
+{
+    if !admitted(ready, out) {
+        return turn_down(out);
+    }
+    let r = step::step(store, run, job);
+    let n = put_stepped(out, r);
+    narrow(n)
+}
+
+pub fn issue(
+    store: &mut [u32],
+    ready: bool,
+    run: u32,
+    writer: u32,
+    mask: u32,
+    out: &mut [u32],
+) -> u32
+    requires { ⌜ ready ≡ inForm (now store) ⌝ }
+    ensures { λ n. ⌜ Exported (on (issue run writer mask))
+        (now (store .entry)) (now (store .exit)) (now (out .entry)) (now (out .exit)) n ⌝ }
+{
+    if !admitted(ready, out) {
+        return turn_down(out);
+    }
+    let r = issue::issue(store, run, writer, mask);
+    lay(out, r)
+}
+
+pub fn drop(store: &mut [u32], ready: bool, run: u32, out: &mut [u32]) -> u32
+    requires { ⌜ ready ≡ inForm (now store) ⌝ }
+    ensures { λ n. ⌜ Exported (on (dropRun run))
+        (now (store .entry)) (now (store .exit)) (now (out .entry)) (now (out .exit)) n ⌝ }
+{
+    if !admitted(ready, out) {
+        return turn_down(out);
+    }
+    let r = runs::drop(store, run);
+    lay(out, r)
+}
+
+pub fn look(store: &[u32], ready: bool, place: u32, number: u32, key: u32, out: &mut [u32]) -> u32
+    requires { ⌜ ready ≡ inForm (now store) ⌝ }
+    ensures { λ n. ⌜ Exported (on (ask (look place number key)))
+        (now (store .entry)) (now (store .entry)) (now (out .entry)) (now (out .exit)) n ⌝ }
+{
+    if !admitted(ready, out) {
+        return turn_down(out);
+    }
+    let r = look::look(store, place, number, key);
+    let n = put_looked(out, store, r);
+    narrow(n)
+}
+
+// ---- by a command
+
+// Makes the call of a command.
+fn make(store: &mut [u32], ready: bool, command: Command, numbers: &[u32], out: &mut [u32]) -> u32
+    requires { ⌜ ready ≡ inForm (now store) ⌝ }
     requires { ⌜ numbersEnd command ≤ length (now numbers) ⌝ }
-    requires { ⌜ answerRoom ≤ length (now answer) ⌝ }
+    requires { ⌜ answerRoom ≤ length (now out) ⌝ }
     ensures { λ n. ⌜ Made (spelled command (now (numbers .entry))) (now (store .entry))
-        (now (store .exit)) (now (answer .entry)) (now (answer .exit)) n ⌝ }
+        (now (store .exit)) (now (out .entry)) (now (out .exit)) n ⌝ }
 {
     match command {
         Command::Unread => 0,
-        Command::New(k, w, n, p) => {
-            let r = create::new(store, k, w, n, p);
-            put_answered(answer, r)
-        }
-        Command::Open(r, i, n) => {
-            let r = runs::open(store, r, &numbers[i..i + n]);
-            put_answered(answer, r)
-        }
-        Command::Fetch(o, k) => {
-            let r = caches::fetch(store, o, k);
-            put_answered(answer, r)
-        }
-        Command::Evict(o, k) => {
-            let r = caches::evict(store, o, k);
-            put_answered(answer, r)
-        }
-        Command::Prepare(r) => {
-            let r = prepare::prepare(store, r);
-            put_answered(answer, r)
-        }
-        Command::Step(r, j) => {
-            let r = step::step(store, r, j);
-            put_stepped(answer, r)
-        }
-        Command::Issue(r, w, m) => {
-            let r = issue::issue(store, r, w, m);
-            put_answered(answer, r)
-        }
-        Command::Drop(r) => {
-            let r = runs::drop(store, r);
-            put_answered(answer, r)
-        }
-        Command::Ask(q) => tell(store, q, answer),
+        Command::New(k, w, n, p) => new(store, k, w, n, p, out),
+        Command::Open(r, i, n) => open(store, ready, r, &numbers[i..i + n], out),
+        Command::Fetch(o, k) => fetch(store, ready, o, k, out),
+        Command::Evict(o, k) => evict(store, ready, o, k, out),
+        Command::Prepare(r) => prepare(store, ready, r, out),
+        Command::Step(r, j) => step(store, ready, r, j, out),
+        Command::Issue(r, w, m) => issue(store, ready, r, w, m, out),
+        Command::Drop(r) => drop(store, ready, r, out),
+        Command::Look(p, i, k) => look(store, ready, p, i, k, out),
     }
-}
-
-// Whether a command is a call on a store, for which the buffer must be in form.
-fn needs_form(command: Command) -> bool
-    ensures { λ r. ⌜ r ≡ needsForm command ⌝ }
-{
-    match command {
-        Command::Unread => false,
-        Command::New(_, _, _, _) => false,
-        Command::Open(_, _, _) => true,
-        Command::Fetch(_, _) => true,
-        Command::Evict(_, _) => true,
-        Command::Prepare(_) => true,
-        Command::Step(_, _) => true,
-        Command::Issue(_, _, _) => true,
-        Command::Drop(_) => true,
-        Command::Ask(_) => true,
-    }
-}
-
-// Makes a command that the buffer admits, and refuses any other with 1.
-fn make_if(
-    store: &mut [u32],
-    admitted: bool,
-    command: Command,
-    numbers: &[u32],
-    answer: &mut [u32],
-) -> usize
-    requires { ⌜ admitted ≡ admits command (inForm (now store)) ⌝ }
-    requires { ⌜ numbersEnd command ≤ length (now numbers) ⌝ }
-    requires { ⌜ answerRoom ≤ length (now answer) ⌝ }
-    ensures { λ n. ⌜ Made (spelled command (now (numbers .entry))) (now (store .entry))
-        (now (store .exit)) (now (answer .entry)) (now (answer .exit)) n ⌝ }
-{
-    if !admitted {
-        return put_two(answer, 2, 1);
-    }
-    make(store, command, numbers, answer)
-}
-
-// The test of form, made where a command needs it.
-fn is_admitted(store: &[u32], command: Command) -> bool
-    ensures { λ r. ⌜ r ≡ admits command (inForm (now (store .entry))) ⌝ }
-{
-    if !needs_form(command) {
-        return true;
-    }
-    form::in_form(store)
-}
-
-// Makes the call of a command on any buffer.
-pub fn call(store: &mut [u32], command: Command, numbers: &[u32], answer: &mut [u32]) -> usize
-    requires { ⌜ numbersEnd command ≤ length (now numbers) ⌝ }
-    requires { ⌜ answerRoom ≤ length (now answer) ⌝ }
-    ensures { λ n. ⌜ Made (spelled command (now (numbers .entry))) (now (store .entry))
-        (now (store .exit)) (now (answer .entry)) (now (answer .exit)) n ⌝ }
-{
-    let admitted = is_admitted(store, command);
-    make_if(store, admitted, command, numbers, answer)
-}
-
-// Makes a call that only answers, on any buffer.
-pub fn ask(store: &[u32], question: Question, answer: &mut [u32]) -> usize
-    requires { ⌜ answerRoom ≤ length (now answer) ⌝ }
-    ensures { λ n. ⌜ Does (on (ask (queryOf question))) (now (store .entry))
-        (now (store .entry)) (now (answer .entry)) (now (answer .exit)) n ⌝ }
-{
-    if !form::in_form(store) {
-        return put_two(answer, 2, 1);
-    }
-    tell(store, question, answer)
 }
 
 // Makes the call of a command on a buffer of which it is known whether it is in form: this is the
@@ -166,8 +228,7 @@ pub fn perform(
     ensures { λ p. ⌜ Performs (spelled command (now (numbers .entry))) (now (store .entry))
         (now (store .exit)) (now (answer .entry)) (now (answer .exit)) p ⌝ }
 {
-    let admitted = ready | !needs_form(command);
-    let count = make_if(store, admitted, command, numbers, answer);
+    let count = wide(make(store, ready, command, numbers, answer));
     let accepted = (0 < count) & (answer[0] == 0);
     Performed {
         ready: ready | accepted,

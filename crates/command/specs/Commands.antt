@@ -1,18 +1,14 @@
 -- The call that a command asks for, with the numbers that are lent beside it.
--- queryOf, spelled: the call, none for `unread`. numbersEnd: where the numbers end that it uses.
+-- spelled: the call, none for `unread`. numbersEnd: where the numbers end that it uses.
 -- Assumes nothing.
 use mathlib.Core.List.{List}
 use mathlib.Core.Option.{Option, none, some}
 use Prim.Native.Nat.{ℕ, _+_}
 use lib.ListN.{take, drop}
-use Rattle.model.specs.Calls.{Query, look, openRun, fetch, evict, prepare, step, issue, dropRun, ask}
+use Rattle.model.specs.Calls.{look, openRun, fetch, evict, prepare, step, issue, dropRun, ask}
 use Rattle.layout.specs.Calls.{Call, new, on}
-use Rattle.command.specs.declared.Question.{Question}
 use Rattle.command.specs.declared.Command.{Command}
-use Rattle.command.specs.declared.Command.the-variants.{Unread, New, Open, Fetch, Evict, Prepare, Step, Issue, Drop, Ask}
-
-abbrev pub queryOf : Question → Query
-queryOf q = look (q .0) (q .1) (q .2)
+use Rattle.command.specs.declared.Command.the-variants.{Unread, New, Open, Fetch, Evict, Prepare, Step, Issue, Drop, Look}
 
 -- Open's job words are the n from index i on.
 abbrev pub spelled : Command → List ℕ → Option Call
@@ -25,7 +21,7 @@ spelled (Prepare r) l = some (on (prepare r))
 spelled (Step r j) l = some (on (step r j))
 spelled (Issue r w m) l = some (on (issue r w m))
 spelled (Drop r) l = some (on (dropRun r))
-spelled (Ask q) l = some (on (ask (queryOf q)))
+spelled (Look p i k) l = some (on (ask (look p i k)))
 
 -- Open alone uses any.
 abbrev pub numbersEnd : Command → ℕ
@@ -38,4 +34,4 @@ numbersEnd (Prepare r) = 0
 numbersEnd (Step r j) = 0
 numbersEnd (Issue r w m) = 0
 numbersEnd (Drop r) = 0
-numbersEnd (Ask q) = 0
+numbersEnd (Look p i k) = 0

@@ -1,130 +1,96 @@
 -- The code's table of commands and the forms of the grammar.
--- rows: the code's table. found, passed, ended: a word sought in it.
+-- row-agrees: a row of a table that agrees. found, passed, ended: a word sought in it.
 -- counted, uncounted: the counts of numbers; in-table, some-number: what a right one tells.
 -- Assumes nothing.
 use mathlib.Core.Path.{_≡_, refl, sym, _∙_}
-use mathlib.Core.Bool.{true, false, So, _&&_}
+use mathlib.Core.Bool.{Bool, true, false, So, _&&_}
 use mathlib.Core.List.{List, [], _∷_}
+use mathlib.Core.Option.{Option, none, some}
 use Prim.Native.Nat.{ℕ, zero, suc, _+_, _-_, _<_, _≤_}
-use Prim.Native.String.{String}
 use native.Mathlib.Numerals.{add-one}
 use native.Mathlib.Omega.{arith}
 use native.Mathlib.Decide.{decLt}
-use lib.Dec.{leb}
+use lib.Dec.{eqb, leb}
 use lib.ListN.{length, getD, take, drop}
 use lib.Seq.{take-nil}
-use Rattle.words.proofs.Bools.{clash, and-left, leb-le}
-use Rattle.text.specs.Bytes.{bytesOf, sameBytes}
-use Rattle.text.specs.Fields.{inFirst, fieldsOf, firstOf}
+use Rattle.words.proofs.Bools.{clash, and-left, and-right, leb-le, eqb-eq}
+use Rattle.words.proofs.Tests.{all-at}
+use Rattle.text.specs.Bytes.{sameBytes}
+use Rattle.text.specs.Fields.{firstOf}
 use Rattle.lines.specs.declared.Row.{Row}
 use Rattle.lines.specs.Grammar.{Form, forms, maxLine, formOf, formAt, takes}
+use Rattle.lines.specs.Rows.{isRow, noRow, agree}
 
-abbrev row : String → ℕ → ℕ → Row
-row w m n = record { word = bytesOf w; least = m; most = n }
+-- ---- a row
 
-abbrev pub rows : List Row
-rows =
-    row "new     " 4 4 ∷
-    row "open    " 1 maxLine ∷
-    row "fetch   " 2 2 ∷
-    row "evict   " 2 2 ∷
-    row "prepare " 1 1 ∷
-    row "step    " 2 2 ∷
-    row "issue   " 3 3 ∷
-    row "drop    " 1 1 ∷
-    row "look    " 3 3 ∷ []
+same-bytes : (xs ys : List ℕ) → So (sameBytes xs ys) → xs ≡ ys
+unfolding sameBytes
+same-bytes [] [] e = refl
+same-bytes [] (y ∷ ys) e = clash e refl
+same-bytes (x ∷ xs) [] e = clash e refl
+same-bytes (x ∷ xs) (y ∷ ys) e =
+    let h = eqb-eq x y (and-left (eqb x y) (sameBytes xs ys) e) in
+    let t = same-bytes xs ys (and-right (eqb x y) (sameBytes xs ys) e) in rw (h, t)
 
--- A row that stands for none.
-abbrev pub noRow : Row
-noRow = record { word = []; least = 0; most = 0 }
+record RowOf (f : Form) (r : Row) : Type 0 where
+  word : firstOf (r .word) ≡ f .word
+  least : r .least ≡ f .least
+  most : r .most ≡ f .most
 
--- Row by row, the word before the first space and the counts are the form's.
-Agree : List Row → List Form → Type 0
-Agree [] [] = Unit
-Agree [] (f ∷ fs) = ⊥
-Agree (r ∷ rs) [] = ⊥
-Agree (r ∷ rs) (f ∷ fs) =
-    (firstOf (r .word) ≡ f .word) × (r .least ≡ f .least) × (r .most ≡ f .most) × Agree rs fs
+row-of : (f : Form) (r : Row) → So (isRow (some f) r) → RowOf f r
+unfolding isRow
+row-of f r a =
+    let w = sameBytes (firstOf (r .word)) (f .word) in
+    let m = eqb (r .least) (f .least) in
+    let n = eqb (r .most) (f .most) in
+    let b = and-right w (m && n) a in record {
+      word = same-bytes _ _ (and-left w (m && n) a);
+      least = eqb-eq _ _ (and-left m n b);
+      most = eqb-eq _ _ (and-right m n b);
+    }
 
-agree : Agree rows forms
-unfolding Agree firstOf fieldsOf inFirst
-agree = (
-  refl,
-  refl,
-  refl,
-  (
-    refl,
-    refl,
-    refl,
-    (
-      refl,
-      refl,
-      refl,
-      (
-        refl,
-        refl,
-        refl,
-        (
-          refl,
-          refl,
-          refl,
-          (refl, refl, refl, (refl, refl, refl, (refl, refl, refl, (refl, refl, refl, tt)))),
-        ),
-      ),
-    ),
-  ),
-)
+pub row-agrees : (rs : List Row) (i : ℕ) → So (agree rs) → i < length forms
+    → So (isRow (formAt forms i) (getD rs i noRow))
+unfolding agree
+row-agrees rs i a h =
+    all-at (length forms) (λ j. isRow (formAt forms j) (getD rs j noRow)) a i h
 
 -- ---- a word
 
-module _ (w : List ℕ) where
-  found-in : (rs : List Row) (fs : List Form) → Agree rs fs → (i : ℕ) → i < length rs
-      → sameBytes w (firstOf (getD rs i noRow .word)) ≡ true
-      → formAt fs i ≡ formOf (drop i fs) w
-  unfolding Agree formAt formOf
-  found-in [] [] a i h e = absurd (omega arith)
-  found-in [] (f ∷ fs) a i h e = absurd a
-  found-in (r ∷ rs) [] a i h e = absurd a
-  found-in (r ∷ rs) (f ∷ fs) a zero h e = let g = rw (a .0) at e in rw g
-  found-in (r ∷ rs) (f ∷ fs) a (suc i) h e = found-in rs fs (a .3) i (omega arith) e
+module _ (w : List ℕ) (r : Row) where
+  found-in : (fs : List Form) (i : ℕ) → So (isRow (formAt fs i) r)
+      → So (sameBytes w (firstOf (r .word))) → formAt fs i ≡ formOf (drop i fs) w
+  unfolding isRow formAt formOf
+  found-in [] i a e = clash a refl
+  found-in (f ∷ fs) zero a e = let g = rw (row-of f r a .word) at e in rw g
+  found-in (f ∷ fs) (suc i) a e = found-in fs i a e
 
-  passed-in : (rs : List Row) (fs : List Form) → Agree rs fs → (i : ℕ) → i < length rs
-      → sameBytes w (firstOf (getD rs i noRow .word)) ≡ false
-      → formOf (drop (suc i) fs) w ≡ formOf (drop i fs) w
-  unfolding Agree formOf
-  passed-in [] [] a i h e = absurd (omega arith)
-  passed-in [] (f ∷ fs) a i h e = absurd a
-  passed-in (r ∷ rs) [] a i h e = absurd a
-  passed-in (r ∷ rs) (f ∷ fs) a zero h e = let g = rw (a .0) at e in rw g
-  passed-in (r ∷ rs) (f ∷ fs) a (suc i) h e = passed-in rs fs (a .3) i (omega arith) e
+  passed-in : (fs : List Form) (i : ℕ) → So (isRow (formAt fs i) r)
+      → sameBytes w (firstOf (r .word)) ≡ false → formOf (drop (suc i) fs) w ≡ formOf (drop i fs) w
+  unfolding isRow formAt formOf
+  passed-in [] i a e = clash a refl
+  passed-in (f ∷ fs) zero a e = let g = rw (row-of f r a .word) at e in rw g
+  passed-in (f ∷ fs) (suc i) a e = passed-in fs i a e
 
-  pub found : (i : ℕ) → i < length rows → sameBytes w (firstOf (getD rows i noRow .word)) ≡ true
-      → formAt forms i ≡ formOf (drop i forms) w
-  found i h e = found-in rows forms agree i h e
+  module _ (i : ℕ) (a : So (isRow (formAt forms i) r)) where
+    pub found : So (sameBytes w (firstOf (r .word))) → formAt forms i ≡ formOf (drop i forms) w
+    found e = found-in forms i a e
 
-  pub passed : (i : ℕ) → i < length rows → sameBytes w (firstOf (getD rows i noRow .word)) ≡ false
-      → formOf (drop (i + 1) forms) w ≡ formOf (drop i forms) w
-  passed i h e = rw add-one (passed-in rows forms agree i h e)
+    pub passed : sameBytes w (firstOf (r .word)) ≡ false
+        → formOf (drop (i + 1) forms) w ≡ formOf (drop i forms) w
+    passed e = rw add-one (passed-in forms i a e)
 
-  pub ended : (i : ℕ) → i ≡ length rows → formAt forms i ≡ formOf (drop i forms) w
-  unfolding formAt formOf
-  ended i e = rw e
+pub ended : (w : List ℕ) (i : ℕ) → i ≡ length forms → formAt forms i ≡ formOf (drop i forms) w
+unfolding formAt formOf
+ended w i e = rw e
 
 -- ---- counts of numbers
 
-counted-in : (rs : List Row) (fs : List Form) → Agree rs fs → (i n : ℕ) → i < length rs
-    → leb (getD rs i noRow .least) n && leb n (getD rs i noRow .most) ≡ takes (formAt fs i) n
-unfolding Agree formAt takes
-counted-in [] [] a i n h = absurd (omega arith)
-counted-in [] (f ∷ fs) a i n h = absurd a
-counted-in (r ∷ rs) [] a i n h = absurd a
-counted-in (r ∷ rs) (f ∷ fs) a zero n h = rw (a .1, a .2)
-counted-in (r ∷ rs) (f ∷ fs) a (suc i) n h = counted-in rs fs (a .3) i n (omega arith)
-
-pub counted : (i n : ℕ) → i < length rows
-    → leb (getD rows i noRow .least) n && leb n (getD rows i noRow .most)
-    ≡ takes (formAt forms i) n
-counted i n h = counted-in rows forms agree i n h
+pub counted : (o : Option Form) (r : Row) (n : ℕ) → So (isRow o r)
+    → leb (r .least) n && leb n (r .most) ≡ takes o n
+unfolding isRow takes
+counted none r n a = clash a refl
+counted (some f) r n a = let e = row-of f r a in rw (e .least, e .most)
 
 none-at : (fs : List Form) (i n : ℕ) → length fs ≤ i → false ≡ takes (formAt fs i) n
 unfolding formAt takes
@@ -132,13 +98,13 @@ none-at [] i n h = refl
 none-at (f ∷ fs) zero n h = absurd (omega arith)
 none-at (f ∷ fs) (suc i) n h = none-at fs i n (omega arith)
 
-pub uncounted : (i n : ℕ) → length rows ≤ i → false ≡ takes (formAt forms i) n
+pub uncounted : (i n : ℕ) → length forms ≤ i → false ≡ takes (formAt forms i) n
 uncounted i n h = none-at forms i n h
 
 -- ---- what a count that is right tells
 
-pub in-table : (i n : ℕ) → So (takes (formAt forms i) n) → i < length rows
-in-table i n y = elim (decLt i (length rows)) [
+pub in-table : (i n : ℕ) → So (takes (formAt forms i) n) → i < length forms
+in-table i n y = elim (decLt i (length forms)) [
   | yes h ↦ h
   | no h ↦ clash y (sym (uncounted i n (omega arith)))
 ]

@@ -1,6 +1,5 @@
 // The program's lines: a call read from one.
 use command::Command;
-use command::Question;
 use text::Count;
 ghost use mathlib.Core.Path.{_≡_};
 ghost use Prim.Native.Nat.{_≤_, _<_};
@@ -9,6 +8,7 @@ ghost use mathlib.Core.Bool.{So};
 ghost use mathlib.Core.Option.{some};
 ghost use Rattle.command.specs.Commands.{spelled, numbersEnd};
 ghost use Rattle.lines.specs.Grammar.{maxLine, forms, formOf, formAt, takes, calling, asked, lineCall};
+ghost use Rattle.lines.specs.Rows.{isRow, agree};
 
 // How long a line may be.
 pub struct Longest {}
@@ -30,8 +30,11 @@ struct Row {
     most: usize,
 }
 
+// How many commands there are.
+const COMMANDS: usize = 9;
+
 // The commands: a command's number is its row's. Document 01's nine, then the later ones.
-const ROWS: [Row; 9] = [
+const ROWS: [Row; COMMANDS] = [
     Row {
         word: *b"new     ",
         least: 4,
@@ -79,13 +82,29 @@ const ROWS: [Row; 9] = [
     },
 ];
 
+// The table: each command's row is that of its form.
+fn rows() -> [Row; COMMANDS]
+    ensures { λ r. ⌜ So (agree r) ⌝ }
+{
+    ROWS
+}
+
+// A command's row.
+fn row_at(number: usize) -> Row
+    requires { ⌜ number < length forms ⌝ }
+    ensures { λ r. ⌜ So (isRow (formAt forms number) r) ⌝ }
+{
+    let rows = rows();
+    rows[number]
+}
+
 // The number of a command's word; of any other word, how many commands there are.
 fn command_number(word: &[u8]) -> usize
     ensures { λ r. ⌜ formAt forms r ≡ formOf forms (now (word .entry)) ⌝ }
 {
     let mut i = 0;
-    while i < ROWS.len() {
-        let row = ROWS[i];
+    while i < COMMANDS {
+        let row = row_at(i);
         if text::is_first(word, &row.word) {
             return i;
         }
@@ -98,10 +117,10 @@ fn command_number(word: &[u8]) -> usize
 fn has_count(number: usize, n: usize) -> bool
     ensures { λ r. ⌜ r ≡ takes (formAt forms number) n ⌝ }
 {
-    if ROWS.len() <= number {
+    if COMMANDS <= number {
         return false;
     }
-    let row = ROWS[number];
+    let row = row_at(number);
     (row.least <= n) & (n <= row.most)
 }
 
@@ -113,7 +132,19 @@ fn number_at(numbers: &[u32], n: usize, i: usize) -> u32
     if i < n { numbers[i] } else { 0 }
 }
 
-// A command of document 01, with the first n of the numbers.
+// A command after document 01's nine, with the first n of the numbers: there is none yet.
+fn later_command(number: usize, numbers: &[u32], n: usize) -> Command
+    requires { ⌜ 9 ≤ number ⌝ }
+    requires { ⌜ So (takes (formAt forms number) n) ⌝ }
+    requires { ⌜ n ≤ length (now numbers) ⌝ }
+    ensures { λ r. ⌜ spelled r (now (numbers .entry))
+        ≡ calling (formAt forms number) (take n (now (numbers .entry))) ⌝ }
+    ensures { λ r. ⌜ numbersEnd r ≤ length (now (numbers .entry)) ⌝ }
+{
+    Command::Unread
+}
+
+// A command with the first n of the numbers, of which it takes so many.
 fn command_of(number: usize, numbers: &[u32], n: usize) -> Command
     requires { ⌜ So (takes (formAt forms number) n) ⌝ }
     requires { ⌜ n ≤ length (now numbers) ⌝ }
@@ -134,8 +165,8 @@ fn command_of(number: usize, numbers: &[u32], n: usize) -> Command
         5 => Command::Step(a, b),
         6 => Command::Issue(a, b, c),
         7 => Command::Drop(a),
-        8 => Command::Ask(Question(a, b, c)),
-        _ => Command::Unread,
+        8 => Command::Look(a, b, c),
+        _ => later_command(number, numbers, n),
     }
 }
 

@@ -3,50 +3,12 @@
 // words gives 0, and nothing is changed.
 pub mod clocks;
 
-use answers::Room;
-use command::Command;
-use command::Question;
+use form::in_form;
 ghost use mathlib.Core.Path.{_≡_};
-ghost use Prim.Native.Nat.{_≤_, _<_};
-ghost use lib.ListN.{length};
 ghost use Rattle.model.specs.Calls.{look, openRun, fetch, evict, prepare, step, issue, dropRun, ask};
 ghost use Rattle.layout.specs.Calls.{new, on};
-ghost use Rattle.command.specs.Commands.{queryOf, spelled, numbersEnd};
-ghost use Rattle.sheetdesk_c.specs.Exported.{Exported, ExportedAs};
+ghost use Rattle.calls.specs.Performs.{Exported};
 ghost use Rattle.sheetdesk_c.specs.Versions.{interfaceVersion, layoutVersion};
-
-// A count of words.
-fn narrow(n: usize) -> u32
-    requires { ⌜ n < 4294967296 ⌝ }
-    ensures { λ r. ⌜ r ≡ n ⌝ }
-{
-    n as u32
-}
-
-// Makes the call of a command, if there is room for its answer.
-fn made(store: &mut [u32], command: Command, numbers: &[u32], out: &mut [u32]) -> u32
-    requires { ⌜ numbersEnd command ≤ length (now numbers) ⌝ }
-    ensures { λ n. ⌜ ExportedAs (spelled command (now (numbers .entry)))
-        (now (store .entry)) (now (store .exit)) (now (out .entry)) (now (out .exit)) n ⌝ }
-{
-    if out.len() < Room::ANSWER {
-        return 0;
-    }
-    let n = calls::call(store, command, numbers, out);
-    narrow(n)
-}
-
-// Answers a question, if there is room for the answer.
-fn asked(store: &[u32], question: Question, answer: &mut [u32]) -> u32
-    ensures { λ n. ⌜ Exported (on (ask (queryOf question)))
-        (now (store .entry)) (now (store .entry)) (now (answer .entry)) (now (answer .exit)) n ⌝ }
-{
-    if answer.len() < Room::ANSWER {
-        return 0;
-    }
-    let n = calls::ask(store, question, answer);
-    narrow(n)
-}
 
 #[no_mangle]
 pub extern "C" fn sheetdesk_new(
@@ -60,7 +22,7 @@ pub extern "C" fn sheetdesk_new(
     ensures { λ n. ⌜ Exported (new keys writers sites runs)
         (now (store .entry)) (now (store .exit)) (now (out .entry)) (now (out .exit)) n ⌝ }
 {
-    made(store, Command::New(keys, writers, sites, runs), &[], out)
+    calls::new(store, keys, writers, sites, runs, out)
 }
 
 #[no_mangle]
@@ -68,7 +30,7 @@ pub extern "C" fn sheetdesk_open(store: &mut [u32], run: u32, jobs: &[u32], out:
     ensures { λ n. ⌜ Exported (on (openRun run (now (jobs .entry))))
         (now (store .entry)) (now (store .exit)) (now (out .entry)) (now (out .exit)) n ⌝ }
 {
-    made(store, Command::Open(run, 0, jobs.len()), jobs, out)
+    calls::open(store, in_form(store), run, jobs, out)
 }
 
 #[no_mangle]
@@ -76,7 +38,7 @@ pub extern "C" fn sheetdesk_fetch(store: &mut [u32], site: u32, key: u32, out: &
     ensures { λ n. ⌜ Exported (on (fetch site key))
         (now (store .entry)) (now (store .exit)) (now (out .entry)) (now (out .exit)) n ⌝ }
 {
-    made(store, Command::Fetch(site, key), &[], out)
+    calls::fetch(store, in_form(store), site, key, out)
 }
 
 #[no_mangle]
@@ -84,7 +46,7 @@ pub extern "C" fn sheetdesk_evict(store: &mut [u32], site: u32, key: u32, out: &
     ensures { λ n. ⌜ Exported (on (evict site key))
         (now (store .entry)) (now (store .exit)) (now (out .entry)) (now (out .exit)) n ⌝ }
 {
-    made(store, Command::Evict(site, key), &[], out)
+    calls::evict(store, in_form(store), site, key, out)
 }
 
 #[no_mangle]
@@ -92,7 +54,7 @@ pub extern "C" fn sheetdesk_prepare(store: &mut [u32], run: u32, out: &mut [u32]
     ensures { λ n. ⌜ Exported (on (prepare run))
         (now (store .entry)) (now (store .exit)) (now (out .entry)) (now (out .exit)) n ⌝ }
 {
-    made(store, Command::Prepare(run), &[], out)
+    calls::prepare(store, in_form(store), run, out)
 }
 
 #[no_mangle]
@@ -100,7 +62,7 @@ pub extern "C" fn sheetdesk_step(store: &mut [u32], run: u32, job: u32, out: &mu
     ensures { λ n. ⌜ Exported (on (step run job))
         (now (store .entry)) (now (store .exit)) (now (out .entry)) (now (out .exit)) n ⌝ }
 {
-    made(store, Command::Step(run, job), &[], out)
+    calls::step(store, in_form(store), run, job, out)
 }
 
 #[no_mangle]
@@ -114,7 +76,7 @@ pub extern "C" fn sheetdesk_issue(
     ensures { λ n. ⌜ Exported (on (issue run writer mask))
         (now (store .entry)) (now (store .exit)) (now (out .entry)) (now (out .exit)) n ⌝ }
 {
-    made(store, Command::Issue(run, writer, mask), &[], out)
+    calls::issue(store, in_form(store), run, writer, mask, out)
 }
 
 #[no_mangle]
@@ -122,7 +84,7 @@ pub extern "C" fn sheetdesk_drop(store: &mut [u32], run: u32, out: &mut [u32]) -
     ensures { λ n. ⌜ Exported (on (dropRun run))
         (now (store .entry)) (now (store .exit)) (now (out .entry)) (now (out .exit)) n ⌝ }
 {
-    made(store, Command::Drop(run), &[], out)
+    calls::drop(store, in_form(store), run, out)
 }
 
 #[no_mangle]
@@ -136,7 +98,7 @@ pub extern "C" fn sheetdesk_look(
     ensures { λ n. ⌜ Exported (on (ask (look place number key)))
         (now (store .entry)) (now (store .entry)) (now (out .entry)) (now (out .exit)) n ⌝ }
 {
-    asked(store, Question(place, number, key), out)
+    calls::look(store, in_form(store), place, number, key, out)
 }
 
 // The version of this interface: it rises when a call, its arguments or its answer change.

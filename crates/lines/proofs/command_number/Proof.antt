@@ -6,25 +6,22 @@ use mathlib.Core.Path.{_≡_, refl, sym, _∙_}
 use Prim.Native.Nat.{_≤_, _-_}
 use lib.ListN.{length, drop}
 use Rattle.lines.specs.Grammar.{forms, formOf}
-use Rattle.lines.proofs.Tables.{rows, found, passed, ended}
+use Rattle.lines.proofs.Tables.{found, passed, ended}
 use Rattle.lines.proofs.command_number.Statement.{statement}
 use Rattle.lines.proofs.command_number.Tie as tie
 
 abbrev Inv-loop : tie.InvT-loop
 Inv-loop word i₀ i =
-    (i ≤ length rows) × (formOf (drop i forms) word ≡ formOf forms word)
+    (i ≤ length forms) × (formOf (drop i forms) word ≡ formOf forms word)
 
 abbrev μ-loop : tie.MeasureT-loop
-μ-loop word i₀ i = length rows - i
+μ-loop word i₀ i = length forms - i
 
 loop-holds : tie.Need-loop-holds Inv-loop μ-loop
 loop-holds c = (omega arith, refl)
 
-mul-row : tie.Need-mul-row Inv-loop μ-loop
-mul-row c = omega arith
-
-array-copy-out-row : tie.Need-array-copy-out-row Inv-loop μ-loop
-array-copy-out-row c = omega arith
+row-at-requires : tie.Need-row-at-requires Inv-loop μ-loop
+row-at-requires c κs = omega arith
 
 is-first-requires : tie.Need-is-first-requires Inv-loop μ-loop
 is-first-requires c κs = search needs
@@ -32,8 +29,8 @@ is-first-requires c κs = search needs
 returns : tie.Need-returns Inv-loop μ-loop
 returns c =
     let l = c .before .before .before .before .before .before .before in
-    let e = sym (c .before .is-first .ensures) ∙ c .if1 .taken in
-    found _ (l .loop .i) (omega arith) e ∙ l .loop .inv .1
+    let r = c .before .before .before .before .before .row-at .ensures in
+    found _ _ (l .loop .i) r (sym (c .before .is-first .ensures) ∙ c .if1 .taken) ∙ l .loop .inv .1
 
 add-i : tie.Need-add-i Inv-loop μ-loop
 add-i c = omega arith
@@ -44,8 +41,9 @@ loop-less c = omega arith
 loop-again : tie.Need-loop-again Inv-loop μ-loop
 loop-again c =
     let l = c .before .before .before .before .before .before .before in
+    let r = c .before .before .before .before .before .row-at .ensures in
     let e = sym (c .before .is-first .ensures) ∙ c .if1 .left in
-    (omega arith, passed _ (l .loop .i) (omega arith) e ∙ l .loop .inv .1)
+    (omega arith, passed _ _ (l .loop .i) r e ∙ l .loop .inv .1)
 
 returns-2 : tie.Need-returns-2 Inv-loop μ-loop
 returns-2 c =
@@ -59,8 +57,7 @@ command-number-spec =
     Inv-loop
     μ-loop
     loop-holds
-    mul-row
-    array-copy-out-row
+    row-at-requires
     is-first-requires
     returns
     add-i

@@ -4,7 +4,7 @@ use native.Mathlib.Omega.{arith}
 use borrow.Author.Needs.{needs}
 use mathlib.Core.Path.{refl}
 use Rattle.lines.specs.Grammar.{formAt, calling}
-use Rattle.lines.proofs.Tables.{in-table, next, not-past, some-number, rest-first}
+use Rattle.lines.proofs.Tables.{next, some-number, rest-first}
 use Rattle.lines.proofs.command_of.Statement.{statement}
 use Rattle.lines.proofs.command_of.Tie as tie
 
@@ -92,10 +92,10 @@ returns-9 c =
     let d = c .before .before .number-at3 .ensures in
     (rw (c .match .keys9, a, b, d), omega arith)
 
-returns-10 : tie.Need-returns-10
-returns-10 c =
+-- The later commands begin behind the nine.
+later-command-requires : tie.Need-later-command-requires
+later-command-requires c κs =
     let s = c .before .before .before .before .before .before in
-    let h = in-table (s .args .number) (s .args .n) (s .pre .0) in
     let r8 = c .match .rest in
     let r7 = r8 .0 in
     let r6 = r7 .0 in
@@ -106,7 +106,10 @@ returns-10 c =
     let r1 = r2 .0 in
     let past = next (next (next (next (next (next (next (next (next (omega arith) (r1 .0 .1))
     (r1 .1)) (r2 .1)) (r3 .1)) (r4 .1)) (r5 .1)) (r6 .1)) (r7 .1)) (r8 .1) in
-    absurd (not-past h past)
+    (past, s .pre)
+
+returns-10 : tie.Need-returns-10
+returns-10 c = c .later-command .ensures
 
 pub command-of-spec : {M : Type 1} → statement M
 command-of-spec =
@@ -117,6 +120,7 @@ command-of-spec =
     number-at-requires-3
     number-at-requires-4
     sub-t9
+    later-command-requires
     returns
     returns-2
     returns-3
