@@ -1,7 +1,8 @@
 #!/usr/bin/env bash
 # A writer's count taken for an issue number, or the reverse, must not compile: the compiler refuses it before the prover
-# sees it, so it can't be a must-fail edit. Swaps the two in a copy, at each place where one is read, stored or handed on,
-# and wants the compiler's refusal. Each swap: crate, file, text, other text.
+# sees it, so it can't be a must-fail edit. Swaps the two in a copy, at each place where one is read, tested, stored or
+# handed on, and wants the compiler's refusal. So for an Input or Output of the program that no read or write gave.
+# Each swap: crate, file, text, other text.
 set -u
 cd "$(dirname "$0")/.." || exit 2
 copy=$(mktemp -d) || exit 2
@@ -54,5 +55,8 @@ swap issue lib.rt 'at, mask, tally.issue);' 'at, mask, tally.count);'
 # answered, or taken out of its type
 swap look row.rt 'issue: IssueNumber,' 'issue: numbers::WriterCount,'
 swap issue lib.rt 'set_last_issue(words, tally.issue);' 'words[4] = tally.count.0;'
+# made up
+swap sheetdesk main.rt 'let input = Input::none();' 'let input = Input { all: 0, got: 0, room: 0, ended: true };'
+swap sheetdesk main.rt 'let output = Output::none();' 'let output = Output { all: 0, count: 0, room: 0, failed: true };'
 echo "swapped: $refused swaps refused by the compiler"
 exit $failed

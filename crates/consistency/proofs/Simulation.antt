@@ -24,7 +24,7 @@ pub record Simulates {A B : Type 0} (X : Algebra A) (Y : Algebra B) (K : ℕ)
   pub meets : (k d : ℕ) (a : A) (b : B) (a′ : A) (b′ : B) → k < K → d < K
       → Rel d a b → Rel k a′ b′ → So (Y .needs k b′ d) → X .meets d a a′ ≡ Y .meets d b b′
   pub merge : (k : ℕ) (a a′ : A) (b b′ : B) → k < K → Rel k a b → Rel k a′ b′
-      → Rel k (X .merge a a′) (Y .merge b b′)
+      → Rel k (X .merge k a a′) (Y .merge k b b′)
 
 abbrev pub Agree : ℕ → Items → Items → Type 0
 Agree n S S′ = (i : ℕ) → i < n → S i ≡ S′ i
@@ -111,7 +111,7 @@ module _ {A B : Type 0} {X : Algebra A} {Y : Algebra B} {K : ℕ} {Rel : ℕ →
     unfolding pulled
     pulled-rel k l =
         cond-rel (Rel k) (pullSet X K S p c s k) (pullSet Y K S′ p′ c′ s′ k)
-        (X .merge (p k) (c k)) (p k) (Y .merge (p′ k) (c′ k)) (p′ k) (pullSet-same k l)
+        (X .merge k (p k) (c k)) (p k) (Y .merge k (p′ k) (c′ k)) (p′ k) (pullSet-same k l)
         (L .merge k (p k) (c k) (p′ k) (c′ k) l (rp k l) (rc k l)) (rp k l)
 
   -- ---- cuts

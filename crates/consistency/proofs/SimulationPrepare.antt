@@ -48,10 +48,10 @@ module _ {A B : Type 0} {X : Algebra A} {Y : Algebra B} {K : ℕ} {Rel : ℕ →
       → Related K Rel (sitesMerged X N T S f) (sitesMerged Y N T′ S′ g)
   unfolding sitesMerged
   sitesMerged-rel N T T′ S S′ f g t e r k l =
-      fold-rel (Rel k) N (λ o a. cond (T o && S k) (X .merge a (f o k)) a)
-      (λ o b. cond (T′ o && S′ k) (Y .merge b (g o k)) b) (X .nothing) (Y .nothing)
-      (λ o a b lo h. cond-rel (Rel k) (T o && S k) (T′ o && S′ k) (X .merge a (f o k)) a
-      (Y .merge b (g o k)) b (rw (t o lo, e k l))
+      fold-rel (Rel k) N (λ o a. cond (T o && S k) (X .merge k a (f o k)) a)
+      (λ o b. cond (T′ o && S′ k) (Y .merge k b (g o k)) b) (X .nothing) (Y .nothing)
+      (λ o a b lo h. cond-rel (Rel k) (T o && S k) (T′ o && S′ k) (X .merge k a (f o k)) a
+      (Y .merge k b (g o k)) b (rw (t o lo, e k l))
       (L .merge k a (f o k) b (g o k) l h (r o lo k l)) h)
       (L .nothing k)
 

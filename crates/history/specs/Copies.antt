@@ -42,7 +42,7 @@ module _ (K : ℕ) (h : History) where
     held = heldCopy;
     needs = needsCopy;
     meets = meetsCopy;
-    merge = union;
+    merge = λ k. union;
   }
 
   -- ---- "A version on the desk is its copy counted"

@@ -183,7 +183,7 @@ module _ {A : Type 0} (alg : Algebra A) (K : ℕ) where
         (λ d l p. f d l (lacking-iff snapshot reads d .0 p .0))
 
     pub pulled-in : (k : ℕ) → So (pullSet alg K plan snapshot cache reads k)
-        → pulled alg K plan snapshot cache reads k ≡ alg .merge (snapshot k) (cache k)
+        → pulled alg K plan snapshot cache reads k ≡ alg .merge k (snapshot k) (cache k)
     unfolding pulled
     pulled-in k p = rw p
 
@@ -193,7 +193,8 @@ module _ {A : Type 0} (alg : Algebra A) (K : ℕ) where
     pulled-out k n = rw n
 
     pub pulled-cases {ℓ} : (P : A → Type ℓ) (k : ℕ)
-        → (So (pullSet alg K plan snapshot cache reads k) → P (alg .merge (snapshot k) (cache k)))
+        → (So (pullSet alg K plan snapshot cache reads k)
+        → P (alg .merge k (snapshot k) (cache k)))
         → (pullSet alg K plan snapshot cache reads k ≡ false → P (snapshot k))
         → P (pulled alg K plan snapshot cache reads k)
     pulled-cases P k f g =

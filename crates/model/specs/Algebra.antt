@@ -14,7 +14,8 @@ pub record Algebra (A : Type 0) : Type 0 where
   pub needs : ℕ → A → Items
   -- meets d b a: b, a version of key d, meets the need of d that a has
   pub meets : ℕ → A → A → Bool
-  pub merge : A → A → A
+  -- merge k a b: of two versions of key k
+  pub merge : ℕ → A → A → A
 
 -- The version of each key on the master, a cache ("shelf") or a snapshot ("card").
 abbrev pub Place : Type 0 → Type 0

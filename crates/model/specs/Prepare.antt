@@ -42,7 +42,7 @@ usesSite n job o = anyBelow n (λ j. eqb (job j .site) o)
 -- to the plan's sheets"
 unfoldable pub sitesMerged : {A : Type 0} → Algebra A → ℕ → Items → Items → (ℕ → Place A) → Place A
 sitesMerged alg N sites plan cache k =
-    foldBelow N (λ o a. cond (sites o && plan k) (alg .merge a (cache o k)) a) (alg .nothing)
+    foldBelow N (λ o a. cond (sites o && plan k) (alg .merge k a (cache o k)) a) (alg .nothing)
 
 unfoldable pub siteCaches : Store → ℕ → Place Version
 siteCaches s o = s .site o .cache

@@ -51,4 +51,4 @@ module _ {A : Type 0} (alg : Algebra A) (K : ℕ) where
   -- "each c in C becomes on the card the merge of the card's and the shelf's version"
   unfoldable pub pulled : Items → Place A → Place A → Items → Place A
   pulled plan snapshot cache reads k =
-      cond (pullSet plan snapshot cache reads k) (alg .merge (snapshot k) (cache k)) (snapshot k)
+      cond (pullSet plan snapshot cache reads k) (alg .merge k (snapshot k) (cache k)) (snapshot k)

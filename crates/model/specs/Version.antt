@@ -51,5 +51,5 @@ versions W = record {
   held = held;
   needs = dependency W;
   meets = λ d b a. supersedes W d b (a .past d);
-  merge = merge;
+  merge = λ k. merge;
 }

@@ -1,6 +1,6 @@
 -- How much the program's buffers hold, in bytes and words.
--- overLine, readRoom, outRoom, maxInput. Lent: buffers that suffice. A line's bytes, an answer's
--- words and its line have their limits in crates lines, answers and print.
+-- storeRoom, overLine, readRoom, outRoom, maxInput. Lent: buffers that suffice. A line's bytes, an
+-- answer's words and its line have their limits in crates lines, answers and print.
 -- Assumes nothing.
 use mathlib.Core.List.{List}
 use Prim.Native.Nat.{ℕ, _+_, _*_, _≤_}
@@ -8,6 +8,10 @@ use lib.ListN.{length}
 use Rattle.answers.specs.Answers.{answerRoom}
 use Rattle.lines.specs.Grammar.{maxLine}
 use Rattle.print.specs.Print.{lineRoom}
+
+-- "The program lends 16,384 words."
+abbrev pub storeRoom : ℕ
+storeRoom = 16384
 
 -- The length that stands for a line that is too long. A line has fewer numbers than that.
 abbrev pub overLine : ℕ

@@ -1,9 +1,9 @@
 -- What the program has done at a point of its run, and the tie of its calls with demand 3.
 -- Begun: calls on a buffer that isn't in form, as the program's own is at first. Served: some
--- bytes are read and answered. Finished: all of an input is. Ran: how the program ends.
+-- bytes are read and answered. Finished: all of an input is.
 -- Assumes nothing.
 use mathlib.Core.Path.{_≡_}
-use mathlib.Core.Bool.{Bool, true, false, So}
+use mathlib.Core.Bool.{So}
 use mathlib.Core.List.{List, [], _∷_, _++_}
 use Prim.Native.Nat.{ℕ}
 use lib.ListN.{length}
@@ -42,8 +42,3 @@ pub record Finished (l m : List ℕ) (read handed : ℕ) : Type 0 where
   pub all-handed : length (program l input) ≡ handed
   pub leaves : m ≡ bufferAfter l (linesOf input)
   pub claim : Begun l (callsIn (linesOf input)) m
-
--- How it ends: stopped by a write that failed, or with the input.
-abbrev pub Ran : Bool → List ℕ → List ℕ → List ℕ → ℕ → ℕ → ℕ → Type 0
-Ran true l m line n read handed = Served l m line n read handed
-Ran false l m line n read handed = Finished l m read handed

@@ -11,7 +11,7 @@ ghost use Rattle.layout.specs.Buffer.{inForm};
 ghost use Rattle.answers.specs.Answers.{answerRoom};
 ghost use Rattle.lines.specs.Grammar.{maxLine};
 ghost use Rattle.print.specs.Print.{lineRoom};
-ghost use Rattle.script.specs.Limits.{overLine, readRoom, outRoom, maxInput, Lent};
+ghost use Rattle.script.specs.Limits.{storeRoom, overLine, readRoom, outRoom, maxInput, Lent};
 ghost use Rattle.script.specs.Script.{linesOf, bufferAfter, program, callsIn};
 ghost use Rattle.script.specs.Fold.{progress, byteStep, fed, finished};
 ghost use Rattle.script.specs.Tie.{Begun};
@@ -24,11 +24,13 @@ pub struct State {
     pub end: usize,
 }
 
-// How much the buffers hold that are lent beside the words of the store: line, for the line under
-// way; numbers and answer, for one call; out, OUT_LINE for each byte read.
+// How much the buffers hold that the program lends: the words of the store; line, for the line
+// under way; numbers and answer, for one call; out, OUT_LINE for each byte read.
 pub struct Buffers {}
 
 impl Buffers {
+    pub const STORE: usize = 16384;
+
     pub const LINE: usize = lines::Longest::LINE;
 
     // The length that stands for a line that is too long.
@@ -50,6 +52,7 @@ impl Buffers {
 
     // They are those of the definitions.
     pub fn limits()
+        ensures store { λ _. do ⌜ (← ⟦Buffers::STORE⟧ .entry) ≡ storeRoom ⌝ }
         ensures line { λ _. do ⌜ (← ⟦Buffers::LINE⟧ .entry) ≡ maxLine ⌝ }
         ensures over { λ _. do ⌜ (← ⟦Buffers::OVER⟧ .entry) ≡ overLine ⌝ }
         ensures numbers { λ _. do ⌜ (← ⟦Buffers::NUMBERS⟧ .entry) ≡ overLine ⌝ }

@@ -1,5 +1,6 @@
 -- `sheetdesk::main` meets its contract: the buffer is blank at first. Assumes what `libc` says of
 -- reading and writing.
+use Rattle.script.specs.Limits.{storeRoom}
 use Rattle.script.proofs.Ties.{blank-form}
 use borrow.Author.Needs.{needs}
 use Rattle.sheetdesk.proofs.main.Statement.{statement}
@@ -7,7 +8,7 @@ use Rattle.sheetdesk.proofs.main.Tie as tie
 
 run-requires : tie.Need-run-requires
 run-requires c κs = (
-  blank-form 16384,
+  blank-form storeRoom,
   (
     record {
       line-room = search needs;

@@ -10,34 +10,60 @@ use Rattle.sheetdesk.proofs.turn.Tie as tie
 
 feed-requires : tie.Need-feed-requires
 feed-requires c κs =
-    let b = c .before .before .before .before .before .before .before .before .before in
-    let p = b .before .before .before .before .before .before .before .before .pre in
-    let r = b .read-chunk in
-    let e = front (r .result) (r .last .0) (r .ensures) in
-    (p .0, (p .1 .0, omega (arith, e, r .ensures, r .kept, p)))
+    let g = c .before .before .before .before .before .before .before in
+    let r = g .before .before .before in
+    let p = r .before .before .before .before .before .before .before .before .pre in
+    let i = r .read-chunk in
+    let n = g .got .ensures in
+    let e = front (i .result .got) (i .last .1 .0) (i .ensures .front) in
+    (p .0, (p .1 .0, rw n (omega (arith, e, i .ensures .front, i .kept, p))))
+
+hand-over-requires : tie.Need-hand-over-requires
+hand-over-requires c κs =
+    let f′ = c .before .before .before .before .before in
+    let f = f′ .before .before .before .before .before .before in
+    let g = f .before .before .before .before .before .before .before .before in
+    let r = g .before .before .before in
+    let p = r .before .before .before .before .before .before .before .before .pre in
+    let i = r .read-chunk in
+    let n = g .got .ensures in
+    let e = front (i .result .got) (i .last .1 .0) (i .ensures .front) in
+    let s = rw n at (f .feed .ensures) in (
+      (
+        omega (arith, e, s, f .feed .kept, i .ensures .front, i .kept, p),
+        omega (arith, e, s, i .ensures .front, i .kept, p),
+      ),
+      omega (arith, p),
+    )
+
+same-chunk : tie.Need-same-length-6
+same-chunk c =
+    let f′ = c .before .before .before .before .before .before in
+    let f = f′ .before .before .before .before .before .before .before in
+    let g = f .before .before .before .before .before .before .before .before in
+    omega (arith, g .before .before .before .read-chunk .kept)
 
 returns : tie.Need-returns
 returns c =
-    let s′ = c .before .before .before .before .before .before in
-    let s = s′ .before .before .before .before .before .before .before in
-    let b = s .before .before .before .before .before .before .before .before .before .before in
-    let p = b .before .before .before .before .before .before .before .before .pre in
-    let f = s .feed in
-    let r = b .read-chunk in
-    let e = front (r .result) (r .last .0) (r .ensures) in
-    let z : r .result - 0 ≡ r .result = omega arith in
-    let out = f .last .1 .1 .1 .1 .1 .1 .0 in
-    let fits : f .result .end ≤ length out =
-    omega (arith, e, f .ensures, f .kept, r .ensures, r .kept, p) in
-    let w : c .hand-over .result .count ≡ f .result .end =
-    c .hand-over .ensures ∙ front (f .result .end) out fits in (
-      f .ensures .0,
+    let h = c .before in
+    let f′ = h .before .before .before .before .before .before in
+    let f = f′ .before .before .before .before .before .before in
+    let g = f .before .before .before .before .before .before .before .before in
+    let r = g .before .before .before in
+    let i = r .read-chunk in
+    let o = h .hand-over .ensures in
+    let k = c .kept-of .ensures in
+    let x = k .1 .0 .0 in
+    let y = k .1 .0 .1 in
+    let n = g .got .ensures in
+    let e = front (i .result .got) (i .last .1 .0) (i .ensures .front) in
+    let z : g .got .result - 0 ≡ i .result .got = omega (arith, n) in (
+      k .0 .0 ∙ f .feed .ensures .0,
       (
-        rw w (rw z at (f .ensures .1 .0)),
+        rw (x, y, k .0 .1, o .1) (rw z at (f .feed .ensures .1 .0)),
         (
-          r .ensures,
-          omega (arith, w, fits),
-          omega (arith, w, e, f .ensures),
+          (rw x (i .ensures), rw y (o .0)),
+          (rw (x, y, o .1) (omega (arith, e, z, f .feed .ensures)), rw (x, y) (k .1 .1)),
         ),
       ),
     )
@@ -47,18 +73,17 @@ turn-spec =
     tie.close
     (tie.spec
     (λ c κs. search needs)
+    (λ c κs. search needs)
     (λ c. search needs)
     (λ c. search needs)
     (λ c. search needs)
     feed-requires
-    (λ c. search needs)
-    (λ c. search needs)
-    (λ c. search needs)
+    hand-over-requires
     (λ c κs. search needs)
     (λ c. search needs)
     (λ c. search needs)
     (λ c. search needs)
     (λ c. search needs)
     (λ c. search needs)
-    (λ c. search needs)
+    same-chunk
     returns)
