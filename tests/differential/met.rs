@@ -37,6 +37,8 @@ pub struct Met {
     breaks: u64,
     evicts_of_more: u64,
     fetches_of_more: u64,
+    /// Looks by their last number, the standing.
+    looks: [u64; 4],
     no_room: u64,
 }
 
@@ -68,9 +70,17 @@ impl Met {
                 match call {
                     Call::Fetch(..) => self.fetches_of_more += several,
                     Call::Evict(..) => self.evicts_of_more += several,
+                    Call::Look(..) => self.stand(numbers),
                     _ => {}
                 }
             }
+        }
+    }
+
+    fn stand(&mut self, numbers: &[u32]) {
+        let standing = numbers.last().and_then(|last| self.looks.get_mut(*last as usize));
+        if let Some(count) = standing {
+            *count += 1;
         }
     }
 
@@ -98,6 +108,9 @@ impl Met {
         }
         for (answer, count) in self.covers.iter().enumerate() {
             table.push((format!("covers {answer}"), *count, 500));
+        }
+        for (standing, count) in self.looks.iter().enumerate() {
+            table.push((format!("looks that stand {standing}"), *count, 20));
         }
         for (answer, count) in self.standings.iter().enumerate() {
             table.push((format!("compare {answer}"), *count, 200));
