@@ -43,7 +43,8 @@ static void case_a(void)
         SHEETDESK_WRONG_TURN);
     DUE("step 0 0", sheetdesk_step(DESK, 0, 0, ANSWER), SHEETDESK_OK, 0, 1, 0);
     DUE("step 0 1", sheetdesk_step(DESK, 0, 1, ANSWER), SHEETDESK_OK, 2, 0, 0);
-    DUE("look 2 0 1", sheetdesk_look(DESK, 2, 0, 1, ANSWER), SHEETDESK_OK, 1, 1, 0);
+    DUE("look 2 0 1", sheetdesk_look(DESK, 2, 0, 1, ANSWER), SHEETDESK_OK, 1, 1, 0,
+        SHEETDESK_OLDER);
     DUE("fetch 1 1", sheetdesk_fetch(DESK, 1, 1, ANSWER), SHEETDESK_OK, 3);
     DUE("evict 0 1", sheetdesk_evict(DESK, 0, 1, ANSWER), SHEETDESK_OK, 3);
 }
@@ -58,11 +59,16 @@ static void besides(void)
         SHEETDESK_WRONG_TURN);
     wrong |= sheetdesk_drop(DESK, 0, answer, 1) != 0;
     DUE("drop 0", sheetdesk_drop(DESK, 0, ANSWER), SHEETDESK_OK, 0);
+    wrong |= sheetdesk_compare(target, 2, source, 2) != SHEETDESK_RIVAL;
+    wrong |= sheetdesk_compare(target, 2, source, 1) != SHEETDESK_NOT_COMPARED;
     wrong |= sheetdesk_covers(target, 2, source, 2) != 0;
     wrong |= sheetdesk_covers(target, 2, source, 1) != 2;
     wrong |= sheetdesk_merge(target, 2, source, 1) != 0;
     wrong |= sheetdesk_merge(target, 2, source, 2) != 1;
     wrong |= target[0] != 2 || target[1] != 3;
+    wrong |= sheetdesk_compare(target, 2, source, 2) != SHEETDESK_NEWER;
+    wrong |= sheetdesk_compare(source, 2, target, 2) != SHEETDESK_OLDER;
+    wrong |= sheetdesk_compare(target, 2, target, 2) != SHEETDESK_EQUAL;
     wrong |= sheetdesk_covers(target, 2, source, 2) != 1;
 }
 

@@ -2,7 +2,7 @@
 import sys
 
 import sheetdesk
-from sheetdesk import Desk, Job, Refusal, card, covers, merge, shelf, words, MASTER
+from sheetdesk import Desk, Job, Refusal, Standing, card, compare, covers, merge, shelf, words, MASTER
 
 
 def case_a(desk):
@@ -20,13 +20,13 @@ def case_a(desk):
         (desk.step(0, 1), "refused 6"),
         (desk.step(0, 0), "ok 0 1 0"),
         (desk.step(0, 1), "ok 2 0 0"),
-        (desk.look(card(0), 1), "ok 1 1 0"),
+        (desk.look(card(0), 1), "ok 1 1 0 1"),
         (desk.fetch(1, 1), "ok 3"),
         (desk.evict(0, 1), "ok 3"),
         # Besides case A: the calls that it lacks.
         (desk.prepare(0), "refused 6"),
         (desk.drop(0), "ok 0"),
-        (desk.look(MASTER, 1), "ok 2 1 1"),
+        (desk.look(MASTER, 1), "ok 2 1 1 0"),
         (desk.look(shelf(0), 1), "refused 8"),
     ]
 
@@ -48,11 +48,14 @@ def main():
             print("wrong: %s for %s" % (answer, due))
             good = False
     # Words that are saved and lent again are the same desk.
-    good &= str(Desk(desk.words()).look(MASTER, 1)) == "ok 2 1 1"
+    good &= str(Desk(desk.words()).look(MASTER, 1)) == "ok 2 1 1 0"
     good &= refuses(OverflowError, desk.fetch, 2**32, 0) and refuses(OverflowError, desk.fetch, 0, -1)
     good &= refuses(OverflowError, desk.open, 0, [Job(0, 2**32, 0)]) and refuses(OverflowError, Desk, [2**32])
     good &= refuses(TypeError, desk.fetch, 0.5, 0) and refuses(TypeError, desk.fetch, True, 0)
-    # Rows (2,0) and (1,3): neither covers the other, and their merge is (2,3).
+    good &= desk.look(MASTER, 1).standing is Standing.EQUAL and desk.look(shelf(0), 1).standing is None
+    # Rows (2,0) and (1,3) are rivals, and their merge is (2,3), which is newer than (1,3).
+    good &= compare([2, 0], [1, 3]) is Standing.RIVAL and compare([2, 0], [1]) is None
+    good &= compare([2, 3], [1, 3]) is Standing.NEWER and compare([1, 3], [2, 3]) is Standing.OLDER
     good &= covers([2, 0], [1, 3]) is False and covers([2, 0], [1]) is None and covers([2, 3], [1, 3]) is True
     good &= merge([2, 0], [1, 3]) == [2, 3] and merge([2, 0], [1]) is None
     good &= words(32, 16, 8, 8) == sheetdesk.MOST_WORDS and words(33, 1, 1, 1) == 0

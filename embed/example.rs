@@ -3,7 +3,7 @@
 
 mod sheetdesk;
 
-use sheetdesk::{covers, merge, words, Answer, Desk, Job, Place, Refusal};
+use sheetdesk::{compare, covers, merge, words, Answer, Desk, Job, Place, Refusal, Standing};
 
 fn job(office: u32, reads: u32, upstream: u32) -> Job {
     Job { office, reads, upstream }
@@ -24,25 +24,28 @@ fn case_a(desk: &mut Desk) -> Vec<(Answer, &'static str)> {
         (desk.step(0, 1), "refused 6"),
         (desk.step(0, 0), "ok 0 1 0"),
         (desk.step(0, 1), "ok 2 0 0"),
-        (desk.look(Place::Card(0), 1), "ok 1 1 0"),
+        (desk.look(Place::Card(0), 1), "ok 1 1 0 1"),
         (desk.fetch(1, 1), "ok 3"),
         (desk.evict(0, 1), "ok 3"),
         // Besides case A: the calls that it lacks.
         (desk.prepare(0), "refused 6"),
         (desk.drop(0), "ok 0"),
-        (desk.look(Place::Master, 1), "ok 2 1 1"),
+        (desk.look(Place::Master, 1), "ok 2 1 1 0"),
         (desk.look(Place::Shelf(0), 1), "refused 8"),
     ]
 }
 
-/// Rows (2,0) and (1,3): neither covers the other, and their merge is (2,3).
+/// Rows (2,0) and (1,3) are rivals, and their merge is (2,3), which is newer than (1,3).
 fn clocks() -> bool {
     let mut target = [2, 0];
-    covers(&target, &[1, 3]) == Some(false)
+    compare(&target, &[1, 3]) == Some(Standing::Rival)
+        && compare(&target, &[1]).is_none()
+        && covers(&target, &[1, 3]) == Some(false)
         && covers(&target, &[1]).is_none()
         && !merge(&mut target, &[1])
         && merge(&mut target, &[1, 3])
         && target == [2, 3]
+        && compare(&target, &[1, 3]) == Some(Standing::Newer)
         && covers(&target, &[1, 3]) == Some(true)
 }
 
@@ -58,6 +61,7 @@ fn main() {
             good = false;
         }
     }
+    good &= desk.look(Place::Master, 1).standing() == Some(Standing::Equal);
     println!("example.rs: {}", if good { "case A answered as written" } else { "wrong answers" });
     std::process::exit(if good { 0 } else { 1 });
 }

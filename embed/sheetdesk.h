@@ -1,4 +1,4 @@
-/* The sheet desk for C: its nine calls over one lent buffer of 32-bit words, and two calls on
+/* The sheet desk for C: its nine calls over one lent buffer of 32-bit words, and three calls on
  * clocks. Link with -lsheetdesk_c, the static library or the shared one (x86-64 Linux); README.md
  * shows the lines.
  *
@@ -36,7 +36,7 @@ extern "C" {
 #endif
 
 /* The version of the calls: rises when one is added or changes what it takes, does or answers. */
-#define SHEETDESK_VERSION 1
+#define SHEETDESK_VERSION 2
 /* The version of the desk's words: rises when a desk of the same counts has other words. */
 #define SHEETDESK_LAYOUT 1
 /* The same two of the library that is linked: compare them with these. */
@@ -80,6 +80,16 @@ enum sheetdesk_refusal {
     SHEETDESK_WRITER_SPENT = 10  /* the writer's count is 4294967295 */
 };
 
+/* How one clock stands against another: all counts are equal; some are smaller and none larger;
+ * some are larger and none smaller; some are larger and some smaller. */
+enum sheetdesk_standing {
+    SHEETDESK_EQUAL = 0,
+    SHEETDESK_OLDER = 1,
+    SHEETDESK_NEWER = 2,
+    SHEETDESK_RIVAL = 3,
+    SHEETDESK_NOT_COMPARED = 4 /* sheetdesk_compare alone: the lengths differ or exceed 16 */
+};
+
 /* Writes a fresh desk of k sheets (1..32), w writers (1..16), n offices (1..8), p runs (1..8).
  * Ok: the desk's total in words. Returns 2 words. */
 uint32_t sheetdesk_new(uint32_t *desk, size_t desk_len, uint32_t k, uint32_t w, uint32_t n,
@@ -121,13 +131,18 @@ uint32_t sheetdesk_drop(uint32_t *desk, size_t desk_len, uint32_t run, uint32_t 
                         size_t answer_len);
 
 /* Looks at a version: place 0 is the master (number 0), 1 an office's shelf, 2 a run's card.
- * Ok: the issue number and the version's own clock, one count per writer. Returns 2 + w words,
- * or 2 if refused. Changes nothing. */
+ * Ok: the issue number, the version's own clock, one count per writer, and how that clock stands
+ * against the own clock of the master's version (enum sheetdesk_standing; 2 if the master lacks
+ * the sheet). Returns 3 + w words, or 2 if refused. Changes nothing. */
 uint32_t sheetdesk_look(const uint32_t *desk, size_t desk_len, uint32_t place, uint32_t number,
                         uint32_t sheet, uint32_t *answer, size_t answer_len);
 
+/* How clock p stands against clock q. Returns an enum sheetdesk_standing; two empty clocks (both
+ * lengths 0) are equal. */
+uint32_t sheetdesk_compare(const uint32_t *p, size_t p_len, const uint32_t *q, size_t q_len);
+
 /* Whether clock p covers clock q: every count of p is at least that of q. Returns 1 or 0, and
- * 2 if the lengths differ or exceed 16. */
+ * 2 if the lengths differ or exceed 16; 1 for two empty clocks. */
 uint32_t sheetdesk_covers(const uint32_t *p, size_t p_len, const uint32_t *q, size_t q_len);
 
 /* Each count of the target becomes the larger of the two. Returns 1, or 0 with nothing changed

@@ -16,7 +16,7 @@ import enum
 import os
 from typing import NamedTuple
 
-VERSION = 1
+VERSION = 2
 LAYOUT = 1
 ANSWER_WORDS = 40
 MOST_WORDS = 287514
@@ -37,6 +37,15 @@ class Refusal(enum.IntEnum):
     WRITER_SPENT = 10
 
 
+class Standing(enum.IntEnum):
+    """How one clock stands against another."""
+
+    EQUAL = 0
+    OLDER = 1
+    NEWER = 2
+    RIVAL = 3
+
+
 class Answer(NamedTuple):
     """What a call gives back: outcome "ok", "broken" or "refused", and its numbers."""
 
@@ -50,6 +59,11 @@ class Answer(NamedTuple):
             return None
         number = self.numbers[0]
         return Refusal(number) if number in set(Refusal) else number
+
+    @property
+    def standing(self):
+        """Of a look: how the version stands against the master's; None if the call wasn't ok."""
+        return Standing(self.numbers[-1]) if self.outcome == "ok" else None
 
     def __str__(self):
         return " ".join([self.outcome, *map(str, self.numbers)])
@@ -103,7 +117,7 @@ def _library():
     places = [os.path.join(here, "..", "..", "lib", name), os.path.join(here, "..", "target", "shared", name)]
     path = os.environ.get("SHEETDESK_LIBRARY") or next(filter(os.path.exists, places), name)
     library = ctypes.CDLL(path)
-    for call in "new open fetch evict prepare step issue drop look covers merge version layout".split():
+    for call in "new open fetch evict prepare step issue drop look compare covers merge version layout".split():
         getattr(library, "sheetdesk_" + call).restype = ctypes.c_uint32
     if (library.sheetdesk_version(), library.sheetdesk_layout()) != (VERSION, LAYOUT):
         raise ImportError("%s has other calls or another layout than this module" % path)
@@ -155,9 +169,15 @@ class Desk:
         return self._call("drop", run)
 
     def look(self, place, sheet):
-        """At MASTER, shelf(office) or card(run)."""
+        """At MASTER, shelf(office) or card(run): the issue number, the own clock, the standing against the master's."""
         kind, number = place
         return self._call("look", kind, number, sheet)
+
+
+def compare(p, q):
+    """How clock p stands against clock q; None if the lengths differ or exceed 16."""
+    number = _calls.sheetdesk_compare(*_array(p), *_array(q))
+    return Standing(number) if number in set(Standing) else None
 
 
 def covers(p, q):

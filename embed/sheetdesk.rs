@@ -9,7 +9,7 @@
 use std::fmt;
 
 /// The version of the calls: `SHEETDESK_VERSION` of the header.
-pub const VERSION: u32 = 1;
+pub const VERSION: u32 = 2;
 
 /// The version of the desk's words: `SHEETDESK_LAYOUT` of the header. Save it with the words.
 pub const LAYOUT: u32 = 1;
@@ -68,6 +68,7 @@ pub mod exports {
             desk: *const u32, desk_len: usize, place: u32, number: u32, sheet: u32,
             answer: *mut u32, answer_len: usize,
         ) -> u32;
+        pub fn sheetdesk_compare(p: *const u32, p_len: usize, q: *const u32, q_len: usize) -> u32;
         pub fn sheetdesk_covers(p: *const u32, p_len: usize, q: *const u32, q_len: usize) -> u32;
         pub fn sheetdesk_merge(
             target: *mut u32, target_len: usize, source: *const u32, source_len: usize,
@@ -161,6 +162,11 @@ impl Refusal {
 }
 
 impl Answer {
+    /// Of a look: how the version stands against the master's.
+    pub fn standing(&self) -> Option<Standing> {
+        self.ok()?.last().copied().and_then(Standing::of)
+    }
+
     /// The numbers of an answer that is ok.
     pub fn ok(&self) -> Option<&[u32]> {
         match self {
@@ -199,6 +205,32 @@ pub enum Place {
     Master,
     Shelf(u32),
     Card(u32),
+}
+
+/// How one clock stands against another.
+#[derive(Clone, Copy, PartialEq, Eq, Debug)]
+pub enum Standing {
+    /// 0: all counts are equal.
+    Equal,
+    /// 1: some counts are smaller, and none is larger.
+    Older,
+    /// 2: some counts are larger, and none is smaller.
+    Newer,
+    /// 3: some counts are larger, and some are smaller.
+    Rival,
+}
+
+impl Standing {
+    /// The standing of a number, the last one of a look.
+    pub fn of(number: u32) -> Option<Standing> {
+        match number {
+            0 => Some(Standing::Equal),
+            1 => Some(Standing::Older),
+            2 => Some(Standing::Newer),
+            3 => Some(Standing::Rival),
+            _ => None,
+        }
+    }
 }
 
 /// A desk over lent words.
@@ -277,6 +309,7 @@ impl<'a> Desk<'a> {
         answer(|a, n| unsafe { sheetdesk_drop(desk, len, run, a, n) })
     }
 
+    /// The issue number, the own clock, and the standing against the master's.
     pub fn look(&self, place: Place, sheet: u32) -> Answer {
         let (desk, len) = (self.words.as_ptr(), self.words.len());
         let (place, number) = match place {
@@ -291,6 +324,11 @@ impl<'a> Desk<'a> {
 /// Whether the library that is linked has this file's calls and layout.
 pub fn is_linked_right() -> bool {
     unsafe { sheetdesk_version() == VERSION && sheetdesk_layout() == LAYOUT }
+}
+
+/// How clock p stands against clock q; nothing if the lengths differ or exceed 16.
+pub fn compare(p: &[u32], q: &[u32]) -> Option<Standing> {
+    Standing::of(unsafe { sheetdesk_compare(p.as_ptr(), p.len(), q.as_ptr(), q.len()) })
 }
 
 /// Whether clock p covers clock q; nothing if the lengths differ or exceed 16.

@@ -219,6 +219,7 @@ impl Book {
         let version = self.ledger.counted(copy, self.k, self.w);
         let mut answer = vec![version[0]];
         answer.extend_from_slice(&version[1 + k * self.w..1 + (k + 1) * self.w]);
+        answer.push(copy.standing(&self.master[k]));
         answer
     }
 }

@@ -1,5 +1,6 @@
 //! Checks on lent buffers: the paper's numbers, the ten marked readings, the form, refusals
-//! 9 and 10, what stands behind a save, and random buffers. Panics at the first check that fails.
+//! 9 and 10, how clocks stand, what stands behind a save, and random buffers. Panics at the first
+//! check that fails.
 #![allow(dead_code)]
 
 #[path = "selftest/behind.rs"]
@@ -12,6 +13,8 @@ mod forms;
 mod marked;
 #[path = "selftest/random.rs"]
 mod random;
+#[path = "selftest/standing.rs"]
+mod standing;
 mod text;
 
 fn main() {
@@ -26,6 +29,9 @@ fn main() {
     forms::free_words();
     forms::bad_words();
     forms::spent_counts();
+    standing::compared();
+    standing::looked();
+    standing::looked_at_card();
     let seed: u64 = std::env::args().nth(1).and_then(|word| word.parse().ok()).unwrap_or(1);
     for history in 0..200 {
         behind::compare(seed + history);

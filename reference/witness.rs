@@ -1,4 +1,5 @@
-//! Runs a script through the desk and the book, and tests demand 3 after each call.
+//! Runs a script through the desk and the book, and tests demand 3 after each call, and that no
+//! copy is ahead of the master.
 //! Ends with 1, and prints the script up to there, if a claim fails.
 #![allow(dead_code)]
 
@@ -33,7 +34,7 @@ fn main() {
         };
         if let Err(claim) = one_call(&mut words, &mut book, &call, &mut seen) {
             let _ = io::stdout().write_all(&script[..read]);
-            eprintln!("demand 3 fails after the script's last line: {claim}");
+            eprintln!("a claim fails after the script's last line: {claim}");
             std::process::exit(1);
         }
     }
@@ -71,6 +72,7 @@ fn one_call(
     let s = desk::in_form(words).ok_or("the desk is not in form")?;
     book.check_cuts(words, s)?;
     book.check_versions(words, s)?;
+    book.check_none_ahead(words, s)?;
     book.check_snapshots()?;
     let pairs = |run: &book::Run| run.finished.len() * run.finished.len().saturating_sub(1) / 2;
     seen.snapshots += book.runs.iter().map(pairs).sum::<usize>();

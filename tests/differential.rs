@@ -2,8 +2,8 @@
 //!
 //! `differential [SEED [STORIES]]`: stories of steered calls, and after each one single calls
 //! on copies of its desk: as it stands, damaged, lent too short; then built desks and random
-//! words, and covers and merge on two clocks. Answers and every word are compared, and words
-//! past the lent ones. Prints what was met; exits 1 if the two differ, with the case as a
+//! words, and compare, covers and merge on two clocks. Answers and every word are compared, and
+//! words past the lent ones. Prints what was met; exits 1 if the two differ, with the case as a
 //! script, or if too little was met. `differential --script FILE` works such a script again.
 #![allow(dead_code)]
 

@@ -1,5 +1,6 @@
 // Every refusal that new, open, drop, look, fetch and evict can give, tried on lent buffers through the exported library:
-// answer as expected, every word as it was, guard words untouched. Besides them: the largest store.
+// answer as expected, every word as it was, guard words untouched. Besides them: the largest store, looks at desks that no
+// list of calls from new leaves, and clocks compared.
 // Usage: refusals. Prints what went wrong and exits 1, or how many trials there were.
 
 extern "C" {
@@ -9,6 +10,8 @@ extern "C" {
     fn sheetdesk_fetch(d: *mut u32, dn: usize, o: u32, k: u32, a: *mut u32, an: usize) -> u32;
     fn sheetdesk_evict(d: *mut u32, dn: usize, o: u32, k: u32, a: *mut u32, an: usize) -> u32;
     fn sheetdesk_look(d: *const u32, dn: usize, p: u32, i: u32, k: u32, a: *mut u32, an: usize) -> u32;
+    fn sheetdesk_compare(p: *const u32, pn: usize, q: *const u32, qn: usize) -> u32;
+    fn sheetdesk_covers(p: *const u32, pn: usize, q: *const u32, qn: usize) -> u32;
 }
 
 const GUARD: usize = 16;
@@ -177,7 +180,7 @@ fn of_caches(t: &mut Trials) {
     chain(&mut d, 2, 2);
     t.ok("fetch 1 takes 0", &mut d, Call::Fetch(1, 1), &[3]);
     t.ok("fetch 0 again", &mut d, Call::Fetch(1, 0), &[1]);
-    t.ok("look", &mut d, Call::Look(1, 1, 1), &[1, 1, 0]);
+    t.ok("look", &mut d, Call::Look(1, 1, 1), &[1, 1, 0, 0]);
     t.ok("evict 0 takes 1", &mut d, Call::Evict(1, 0), &[3]);
     t.refused("evict 8 again", &mut d, Call::Evict(1, 0), 8);
 }
@@ -191,10 +194,59 @@ fn of_the_largest(t: &mut Trials) {
     chain(&mut d, 32, 16);
     t.ok("largest, fetch", &mut d, Call::Fetch(7, 31), &[u32::MAX]);
     t.ok("largest, fetch 15", &mut d, Call::Fetch(0, 15), &[0xFFFF]);
-    let row: Vec<u32> = [1, 1].into_iter().chain([0; 15]).collect();
+    // The issue number, 16 counts and the standing.
+    let row: Vec<u32> = [1, 1].into_iter().chain([0; 16]).collect();
     t.ok("largest, look", &mut d, Call::Look(1, 7, 31), &row);
     t.ok("largest, evict", &mut d, Call::Evict(7, 16), &[0xFFFF_0000]);
     t.ok("largest, drop", &mut d, Call::Drop(7), &[0]);
+}
+
+// A desk 2 2 1 1 whose master has sheet 0 at (1,1), in issue 3, and lacks sheet 1; the shelf's versions are given.
+fn lent(shelf: [[u32; 5]; 2]) -> Desk {
+    let mut d = Desk::of(80, 7);
+    d.call(&Call::New(2, 2, 1, 1));
+    d.words[4] = 9;
+    d.words[10..15].copy_from_slice(&[3, 1, 1, 0, 0]);
+    d.words[20..30].copy_from_slice(&shelf.concat());
+    d
+}
+
+// The standing against the master's version, by the own rows alone.
+fn of_looks(t: &mut Trials) {
+    let none = [0; 5];
+    let mut d = lent([[7, 2, 0, 0, 5], [1, 0, 0, 0, 1]]);
+    t.ok("look, a rival", &mut d, Call::Look(1, 0, 0), &[7, 2, 0, 3]);
+    t.ok("look, the master lacks it", &mut d, Call::Look(1, 0, 1), &[1, 0, 1, 2]);
+    t.ok("look, the master", &mut d, Call::Look(0, 0, 0), &[3, 1, 1, 0]);
+    let equal = [7, 1, 1, 4, 5];
+    t.ok("look, an equal row", &mut lent([equal, none]), Call::Look(1, 0, 0), &[7, 1, 1, 0]);
+    let newer = [1, 2, 1, 0, 0];
+    t.ok("look, newer by a smaller number", &mut lent([newer, none]), Call::Look(1, 0, 0), &[1, 2, 1, 2]);
+    let older = [9, 0, 1, 0, 0];
+    t.ok("look, older by a larger number", &mut lent([older, none]), Call::Look(1, 0, 0), &[9, 0, 1, 1]);
+}
+
+// Compare and covers on clocks of these lengths: equal ones, and with one count larger or smaller, first and last.
+fn of_clocks(t: &mut Trials) {
+    let compare = |p: &[u32], q: &[u32]| unsafe { sheetdesk_compare(p.as_ptr(), p.len(), q.as_ptr(), q.len()) };
+    let covers = |p: &[u32], q: &[u32]| unsafe { sheetdesk_covers(p.as_ptr(), p.len(), q.as_ptr(), q.len()) };
+    for len in [0, 1, 2, 15, 16] {
+        let p = vec![5; len];
+        t.check("compare 0", compare(&p, &p) == 0 && covers(&p, &p) == 1);
+        for at in [0, len.wrapping_sub(1)].into_iter().filter(|at| *at < len) {
+            let mut q = p.clone();
+            q[at] = u32::MAX;
+            t.check("compare 1", compare(&p, &q) == 1 && covers(&p, &q) == 0);
+            t.check("compare 2", compare(&q, &p) == 2 && covers(&q, &p) == 1);
+            q[len - 1 - at] = 4;
+            let rival = if len == 1 { (2, 1) } else { (3, 0) };
+            t.check("compare 3", (compare(&p, &q), covers(&p, &q)) == rival);
+        }
+    }
+    for (m, n) in [(17, 17), (16, 17), (17, 16), (2, 1), (0, 1), (40, 40)] {
+        let (p, q) = (vec![5; m], vec![5; n]);
+        t.check("compare 4", compare(&p, &q) == 4 && covers(&p, &q) == 2);
+    }
 }
 
 fn main() {
@@ -204,6 +256,8 @@ fn main() {
     of_runs(&mut t);
     of_caches(&mut t);
     of_the_largest(&mut t);
+    of_looks(&mut t);
+    of_clocks(&mut t);
     println!("refusals: {} trials, {} wrong", t.tried, t.wrong);
     std::process::exit(if t.wrong == 0 { 0 } else { 1 });
 }

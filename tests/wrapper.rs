@@ -1,10 +1,10 @@
-//! The Rust wrapper's promises: the size of a desk before it is lent, names of refusals, and answers printed as the
+//! The Rust wrapper's promises: the size of a desk before it is lent, names of refusals and standings, and answers printed as the
 //! program prints them, over the golden scripts. Prints what went wrong and exits 1, or what was tried.
 
 #[path = "../embed/sheetdesk.rs"]
 mod sheetdesk;
 
-use sheetdesk::{is_linked_right, words, Answer, Desk, Job, Place, Refusal, MOST_WORDS};
+use sheetdesk::{compare, is_linked_right, words, Answer, Desk, Job, Place, Refusal, Standing, MOST_WORDS};
 use std::{fs, process::exit};
 
 /// New takes just as many words as `words` says, and not one less, for all counts from 0 to one above the largest.
@@ -26,6 +26,15 @@ fn sizes() -> bool {
 fn refusals() -> bool {
     let named = |number| !matches!(Refusal::of(number), Refusal::Other(_));
     (0..40).all(|number| Refusal::of(number).number() == number && named(number) == (1..=10).contains(&number))
+}
+
+/// A name for each number of a standing, and the standing of two clocks.
+fn standings() -> bool {
+    let stands = |p: u32, q: u32| compare(&[p, 1], &[q, 1]);
+    (0..40).all(|number| Standing::of(number).is_some() == (number < 4))
+        && [stands(1, 1), stands(1, 2), stands(2, 1)] == [Standing::Equal, Standing::Older, Standing::Newer].map(Some)
+        && compare(&[1, 2], &[2, 1]) == Some(Standing::Rival)
+        && compare(&[1; 17], &[1; 17]).is_none()
 }
 
 /// Makes the call of a line; nothing for a line that the wrapper has no form for.
@@ -78,7 +87,7 @@ fn golden() -> Option<usize> {
 
 fn main() {
     let lines = golden().unwrap_or(0);
-    if lines < 500 || !is_linked_right() || !sizes() || !refusals() {
+    if lines < 500 || !is_linked_right() || !sizes() || !refusals() || !standings() {
         println!("wrapper: a promise of sheetdesk.rs isn't kept ({lines} golden lines answered)");
         exit(1);
     }

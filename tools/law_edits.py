@@ -11,7 +11,7 @@ import subprocess
 import sys
 import tempfile
 
-EXAMPLES = {"model": ["Scripts", "Readings", "Computed"], "layout": ["Scripted"], "history": ["Scripted"]}
+EXAMPLES = {"model": ["Scripts", "Readings", "Looks", "Computed"], "layout": ["Scripted"], "history": ["Scripted"]}
 
 
 def read_edit(path):

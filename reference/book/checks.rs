@@ -1,8 +1,9 @@
-//! The claims of demand 3, tested on a desk's words and the book after each call.
+//! The claims of demand 3, and that no copy is ahead of the master, tested on a desk's words
+//! and the book after each call.
 
 use super::saves::Saves;
 use super::{has, Book, Finished, Run};
-use crate::desk::version::{held, meets, needs, row};
+use crate::desk::version::{compare, held, meets, needs, row, Standing};
 use crate::desk::Sizes;
 
 /// Plans with more sheets than this aren't gone through choice by choice.
@@ -53,6 +54,38 @@ impl Book {
             return Ok(());
         }
         Err(format!("3b: at word {at} the desk has {words:?}, the book {counted:?}"))
+    }
+
+    /// No copy is ahead: each held version on a shelf or card stands equal or older against the
+    /// master's, and the master's copy has all its saves.
+    pub fn check_none_ahead(&self, desk: &[u32], s: Sizes) -> Result<(), String> {
+        for k in 0..s.k {
+            for office in 0..s.n {
+                self.check_behind(desk, s, s.shelf_at(office, k), k, &self.shelves[office][k])?;
+            }
+            for run in 0..s.p {
+                self.check_behind(desk, s, s.card_at(run, k), k, &self.runs[run].card[k])?;
+            }
+        }
+        Ok(())
+    }
+
+    /// The version of sheet k at a place of the desk, and its copy, aren't ahead of the master's.
+    fn check_behind(
+        &self,
+        desk: &[u32],
+        s: Sizes,
+        at: usize,
+        k: usize,
+        copy: &Saves,
+    ) -> Result<(), String> {
+        let (version, master) = (s.words(desk, at), s.words(desk, s.master_at(k)));
+        let standing = compare(row(version, s.w, k), row(master, s.w, k));
+        let behind = matches!(standing, Standing::Equal | Standing::Older);
+        if held(version) && !behind || !self.master[k].includes(copy) {
+            return Err(format!("at word {at} sheet {k} is ahead of the master: {standing:?}"));
+        }
+        Ok(())
     }
 
     /// 3c for each pair of finished jobs of each run. A job is paired with itself too, which

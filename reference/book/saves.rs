@@ -37,6 +37,17 @@ impl Saves {
             self.add(save);
         }
     }
+
+    /// How this copy stands against another one of its sheet: 0 if both have the same saves, 1
+    /// if the other has more, 2 if this one has, 3 if each has a save that the other lacks.
+    pub fn standing(&self, other: &Saves) -> u32 {
+        match (self.includes(other), other.includes(self)) {
+            (true, true) => 0,
+            (false, true) => 1,
+            (true, false) => 2,
+            (false, false) => 3,
+        }
+    }
 }
 
 /// "A save is a sheet in an issue."

@@ -2,7 +2,7 @@
 
 use super::form::{in_form, valid_job};
 use super::layout::*;
-use super::version::{held, merge, row, take_larger};
+use super::version::{compare, held, merge, row, standing_number, take_larger};
 use super::*;
 
 /// "New tests 2 before 1." Words past the total are never touched.
@@ -137,7 +137,8 @@ pub fn drop_run(desk: &mut [u32], run: u32) -> Answer {
     Answer::Ok(vec![0])
 }
 
-/// Look: "answers issue number and own row. Changes nothing."
+/// Look: "answers issue number and own row", then "the standing of the place's version against
+/// the master's". "Changes nothing."
 pub fn look(desk: &mut [u32], place: u32, number: u32, sheet: u32) -> Answer {
     let Some(s) = in_form(desk) else {
         return Answer::Refused(NOT_IN_FORM);
@@ -161,7 +162,10 @@ pub fn look(desk: &mut [u32], place: u32, number: u32, sheet: u32) -> Answer {
     if !held(version) {
         return Answer::Refused(NOT_HELD);
     }
+    let own = row(version, s.w, k);
+    let masters = row(s.words(desk, s.master_at(k)), s.w, k);
     let mut answer = vec![version[0]];
-    answer.extend_from_slice(row(version, s.w, k));
+    answer.extend_from_slice(own);
+    answer.push(standing_number(compare(own, masters)));
     Answer::Ok(answer)
 }

@@ -1,13 +1,44 @@
 //! "Clocks, versions, cuts": clocks and versions as slices of words.
 
-/// "Clock p covers q if every count of p is at least that of q."
+/// How one clock stands against another.
+#[derive(Clone, Copy, PartialEq, Eq, Debug)]
+pub enum Standing {
+    Equal,
+    Older,
+    Newer,
+    Rival,
+}
+
+/// "Comparing two clocks shall answer equal, older, newer or rival": p against q.
+pub fn compare(p: &[u32], q: &[u32]) -> Standing {
+    let larger = p.iter().zip(q).any(|(a, b)| a > b);
+    let smaller = p.iter().zip(q).any(|(a, b)| a < b);
+    match (larger, smaller) {
+        (false, false) => Standing::Equal,
+        (false, true) => Standing::Older,
+        (true, false) => Standing::Newer,
+        (true, true) => Standing::Rival,
+    }
+}
+
+/// "0 equal, 1 older, 2 newer, 3 rival."
+pub fn standing_number(standing: Standing) -> u32 {
+    match standing {
+        Standing::Equal => 0,
+        Standing::Older => 1,
+        Standing::Newer => 2,
+        Standing::Rival => 3,
+    }
+}
+
+/// "Clock p covers q if every count of p is at least that of q": it is equal or newer.
 pub fn covers(p: &[u32], q: &[u32]) -> bool {
-    p.iter().zip(q).all(|(a, b)| a >= b)
+    matches!(compare(p, q), Standing::Equal | Standing::Newer)
 }
 
 /// "Two clocks are rivals if neither covers the other."
 pub fn rivals(p: &[u32], q: &[u32]) -> bool {
-    !covers(p, q) && !covers(q, p)
+    compare(p, q) == Standing::Rival
 }
 
 /// "An issue number (0 = not held)".

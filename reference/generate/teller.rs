@@ -1,7 +1,7 @@
 //! The script so far, the desk that it leads to, and the counts.
 
 use crate::desk::layout::{has, DONE, JOBS, JOB_LIST, READ, STATE};
-use crate::desk::version::{covers, held, row};
+use crate::desk::version::{compare, covers, held, row, Standing};
 use crate::desk::{in_form, Answer, Sizes};
 use crate::random::Random;
 use crate::text::{self, Call};
@@ -17,6 +17,8 @@ pub struct Counts {
     pub steps: u64,
     pub breaks: u64,
     pub issues: u64,
+    pub looks: u64,
+    pub looks_older: u64,
     pub refused: [u64; 11],
 }
 
@@ -25,7 +27,7 @@ impl Counts {
     pub fn print(&self) -> String {
         let mut line = format!(
             "lines {} unread {} rivals {} fetches-of-more {} evicts-of-more {} prepares {} \
-             steps {} breaks {} issues {}",
+             steps {} breaks {} issues {} looks {} looks-older {}",
             self.lines,
             self.unread,
             self.rivals,
@@ -34,7 +36,9 @@ impl Counts {
             self.prepares,
             self.steps,
             self.breaks,
-            self.issues
+            self.issues,
+            self.looks,
+            self.looks_older
         );
         for number in 1..=8 {
             line.push_str(&format!(" refused-{number} {}", self.refused[number]));
@@ -98,6 +102,9 @@ impl Teller {
         if matches!(answer, Some(Answer::Ok(_))) && self.chance(30) {
             self.glance(name, numbers);
         }
+        if name == "issue" && self.chance(30) {
+            self.look_behind();
+        }
         answer
     }
 
@@ -126,6 +133,27 @@ impl Teller {
         self.say(format!("look {place} {number} {sheet}").as_bytes());
     }
 
+    /// A look at a copy that an issue has left behind, if there is one.
+    fn look_behind(&mut self) {
+        let s = self.sizes();
+        let mut behind = Vec::new();
+        for k in 0..s.k {
+            let shelves = (0..s.n).map(|office| (1, office, s.shelf_at(office, k)));
+            let cards = (0..s.p).map(|run| (2, run, s.card_at(run, k)));
+            let master = row(s.words(&self.words, s.master_at(k)), s.w, k);
+            for (place, number, at) in shelves.chain(cards) {
+                let version = s.words(&self.words, at);
+                if held(version) && compare(row(version, s.w, k), master) != Standing::Equal {
+                    behind.push((place, number, k));
+                }
+            }
+        }
+        if !behind.is_empty() {
+            let (place, number, k) = behind[self.below(behind.len())];
+            self.say(format!("look {place} {number} {k}").as_bytes());
+        }
+    }
+
     fn count(&mut self, before: &[u32], call: &Call, answer: &Answer) {
         let counts = &mut self.counts;
         match (call, answer) {
@@ -142,6 +170,10 @@ impl Teller {
             (Call::Issue(_, writer, mask), Answer::Ok(_)) => {
                 counts.issues += u64::from(*mask != 0);
                 counts.rivals += rivals_met(before, &self.words, *writer as usize, *mask);
+            }
+            (Call::Look(..), Answer::Ok(numbers)) => {
+                counts.looks += 1;
+                counts.looks_older += u64::from(numbers.last() == Some(&1));
             }
             _ => {}
         }

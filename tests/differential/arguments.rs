@@ -31,7 +31,7 @@ pub fn any_call(random: &mut Random, words: &[u32]) -> Call {
     let run = random.near(s.p);
     let office = random.near(s.n);
     let sheet = random.near(s.k);
-    match random.below(18) {
+    match random.below(20) {
         0 => Call::New(new_counts(random, words.len())),
         1 | 2 => Call::Open(run, jobs(random, s)),
         3..=5 => Call::Fetch(office, sheet),

@@ -29,6 +29,11 @@ pub fn call(desk: &mut [u32], call: &Call, answer: &mut [u32]) -> u32 {
     }
 }
 
+/// How clock p stands against clock q.
+pub fn compare(p: &[u32], q: &[u32]) -> u32 {
+    unsafe { sheetdesk_compare(p.as_ptr(), p.len(), q.as_ptr(), q.len()) }
+}
+
 /// Whether clock p covers clock q.
 pub fn covers(p: &[u32], q: &[u32]) -> u32 {
     unsafe { sheetdesk_covers(p.as_ptr(), p.len(), q.as_ptr(), q.len()) }

@@ -27,6 +27,10 @@ pub struct Met {
     pub in_form: [u64; 6],
     /// Answers of covers: 0, 1 and 2.
     pub covers: [u64; 3],
+    /// Answers of compare: 0 to 4.
+    pub compared: [u64; 5],
+    /// Looks by the standing that they answer.
+    standings: [u64; 4],
     /// Calls answered ok, by source.
     by_source: [u64; 6],
     /// Answered ok, by call.
@@ -66,6 +70,7 @@ impl Met {
                 match call {
                     Call::Fetch(..) => self.fetches_of_more += several,
                     Call::Evict(..) => self.evicts_of_more += several,
+                    Call::Look(..) => self.standings[numbers[numbers.len() - 1] as usize] += 1,
                     _ => {}
                 }
             }
@@ -96,6 +101,12 @@ impl Met {
         }
         for (answer, count) in self.covers.iter().enumerate() {
             table.push((format!("covers {answer}"), *count, 500));
+        }
+        for (answer, count) in self.compared.iter().enumerate() {
+            table.push((format!("compare {answer}"), *count, 500));
+        }
+        for (standing, count) in self.standings.iter().enumerate() {
+            table.push((format!("looks of standing {standing}"), *count, 100));
         }
         table
     }

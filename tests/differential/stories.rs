@@ -42,7 +42,7 @@ pub fn all_of_one(random: &mut Random, story: u64, met: &mut Met) -> Result<(), 
     single_calls(random, &mut built, Source::Built, met)?;
     let words = built::noise(random, counts);
     single_calls(random, &mut Pair::of(&words), Source::Noise, met)?;
-    clocks::compare(random, met)
+    clocks::on_two(random, met)
 }
 
 /// A story of calls that are steered like the generated scripts.

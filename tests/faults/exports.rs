@@ -61,6 +61,20 @@ pub unsafe extern "C" fn sheetdesk_open(
 }
 
 #[no_mangle]
+pub unsafe extern "C" fn sheetdesk_compare(
+    p: *mut u32,
+    p_len: usize,
+    q: *mut u32,
+    q_len: usize,
+) -> u32 {
+    if p_len != q_len || p_len > 16 {
+        return 4;
+    }
+    let standing = desk::version::compare(lent(p, p_len), lent(q, q_len));
+    desk::version::standing_number(standing)
+}
+
+#[no_mangle]
 pub unsafe extern "C" fn sheetdesk_covers(
     p: *mut u32,
     p_len: usize,

@@ -1,10 +1,11 @@
 -- Words laid over the front of a list.
--- over-two, over-four: some of them stored one by one. over-more: further words behind them.
+-- over-two, over-four: some of them stored one by one. over-more: further words behind them;
+-- over-last: one.
 -- over-length, over-front, over-behind: the list after it.
 -- Assumes nothing.
 use mathlib.Core.Path.{_≡_, refl, sym, ap, ap₂, _∙_}
 use mathlib.Core.List.{List, [], _∷_, _++_}
-use Prim.Native.Nat.{ℕ, _+_, _≤_}
+use Prim.Native.Nat.{ℕ, _+_, _≤_, _<_}
 use native.Mathlib.Omega.{arith}
 use lib.ListN.{length, take, drop, set, length-append, length-drop}
 use lib.Seq.{sets, sets-eq, take-append-seam, drop-append-seam, drop-append-add, drop-drop}
@@ -52,3 +53,7 @@ over-more ws vs l h =
     ∙ ap (λ (k : ℕ). drop k l) (sym (length-append ws vs)) in
     sets-eq vs (over ws l) n (omega (arith, long))
     ∙ ap₂ (λ (a b : List ℕ). a ++ vs ++ b) (over-front ws l) rest
+
+pub over-last : (ws l : List ℕ) (i x : ℕ) → i ≡ length ws → length ws < length l
+    → set (over ws l) i x ≡ over (ws ++ x ∷ []) l
+over-last ws l i x e h = rw e (over-more ws (x ∷ []) l (omega arith))

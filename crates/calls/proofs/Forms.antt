@@ -5,15 +5,17 @@
 use mathlib.Core.Path.{_≡_, refl, sym, ap, subst, _∙_}
 use mathlib.Core.Bool.{Bool, false, So, _&&_, _||_}
 use mathlib.Core.Logic.{⊎-elim}
-use mathlib.Core.List.{List, [], _∷_}
+use mathlib.Core.List.{List, [], _∷_, _++_}
 use mathlib.Core.Option.{Option, none, some}
 use Prim.Native.Nat.{ℕ, suc, _≤_, _<_}
 use native.Mathlib.Omega.{arith}
 use lib.Dec.{eqb, leb, ltb}
-use lib.ListN.{length, getD, take}
+use lib.ListN.{length, getD, take, length-append}
 use borrow.Author.Tests.{lt-ltb, le-leb}
+use Rattle.words.specs.Lists.{window}
 use Rattle.words.proofs.Bools.{clash, test, and-left, and-right, and-cases, or-true-right, or-false-right, leb-le, eqb-eq, eqb-ne}
 use Rattle.words.proofs.Lists.{length-window}
+use Rattle.clock.specs.Clock.{standingNumber}
 use Rattle.sizes.specs.Bounds.{countsOf}
 use Rattle.answers.specs.declared.Answered.{Answered}
 use Rattle.answers.specs.Answers.{maxAnswer, answerRoom, over, Lays, answeredWords}
@@ -27,7 +29,7 @@ use Rattle.layout.proofs.Rules.{new-fine, new-done, new-leaves, new-refused}
 use Rattle.step.specs.declared.Stepped.{Stepped}
 use Rattle.step.specs.Answers.{steppedWords}
 use Rattle.look.specs.declared.Looked.{Looked}
-use Rattle.look.specs.Answer.{shown, RowIn}
+use Rattle.look.specs.Answer.{seen, shown, RowIn}
 use Rattle.calls.specs.Performs.{Does, Exported, TurnedDown, Made}
 
 -- ---- one call
@@ -107,8 +109,10 @@ few-stepped (Stepped.Broken m) = omega arith
 few-stepped (Stepped.Refused n) = omega arith
 
 pub few-shown : (l : List ℕ) (r : Looked) → RowIn l r → length (shown l r) ≤ maxAnswer
-unfolding shown RowIn
-few-shown l (Looked.Done i at n) h = omega (arith, length-window l at n, h .1)
+unfolding seen shown RowIn
+few-shown l (Looked.Done i at n s) h =
+    let last : List ℕ = standingNumber s ∷ [] in
+    omega (arith, length-append (window l at n) last, length-window l at n, h .1)
 few-shown l (Looked.Refused n) h = omega arith
 
 -- ---- the form of the buffer after a call

@@ -1,25 +1,50 @@
 -- Clocks are ordered by dominates, and join is the least clock above two.
--- dominates-..: an order. join-..: the least upper bound. present-..: who is in a clock.
+-- covers-standing, rivals-standing: what document 01 says of both. dominates-..: an order.
+-- join-..: the least upper bound. present-..: who is in a clock.
 -- Assumes nothing.
-use mathlib.Core.Path.{_≡_, sym, fun-ext}
-use mathlib.Core.Bool.{Bool, true, false, _||_, So}
+use mathlib.Core.Path.{_≡_, refl, sym, ap, _∙_, fun-ext}
+use mathlib.Core.Bool.{Bool, true, false, not, _&&_, _||_, So}
 use mathlib.Core.Logic.{_↔_, _⊎_, inl, inr}
 use Prim.Native.Nat.{ℕ, _≤_, _<_, max}
 use native.Mathlib.Omega.{arith}
 use lib.Bits.{bitOr, or-zero-l, or-comm, or-add-and, and-le-l}
 use lib.Dec.{leb}
-use Rattle.words.proofs.Bools.{test, clash, leb-le, le-leb, leb-gt, gt-leb}
-use Rattle.words.proofs.Tests.{any-intro, any-some, any-no, any-same, all-intro, all-at, all-same}
-use Rattle.clock.specs.Clock.{Clock, dominates, Dominates, present, join}
+use Rattle.words.proofs.Bools.{test, clash, not-intro, not-elim, leb-le, le-leb, leb-gt, gt-leb}
+use Rattle.words.proofs.Tests.{any-intro, any-some, any-no, any-same}
+use Rattle.clock.specs.Clock.{Clock, exceeds, standingOf, standing, covering, dominates, Dominates, rivalling, concurrent, present, join}
+use Rattle.clock.proofs.Standings.{exceeds-none, exceeds-no, standing-same}
 
--- The test and the statement.
-pub dominates-iff : (W : ℕ) (p q : Clock) → So (dominates W p q) ↔ Dominates W p q
-unfolding dominates
-dominates-iff W p q =
-    let less : ℕ → Bool = λ w. leb (q w) (p w) in (
-      λ s w l. leb-le (q w) (p w) (all-at W less s w l),
-      λ c. all-intro W less (λ w l. le-leb (q w) (p w) (c w l)),
+-- ---- covering and rivals, by what document 01 says of them
+
+-- "Clock p covers q if every count of p is at least that of q."
+pub covers-standing : (W : ℕ) (p q : Clock)
+    → So (dominates W p q) ↔ ((w : ℕ) → w < W → q w ≤ p w)
+unfolding dominates standing
+covers-standing W p q =
+    let a = exceeds W p q in
+    let b = exceeds W q p in (
+      λ s. exceeds-none W q p (not-elim (sym (covers a b) ∙ s)),
+      λ c. covers a b ∙ not-intro (exceeds-no W q p c),
     )
+  where
+    covers : (a b : Bool) → covering (standingOf a b) ≡ not b
+    covers false false = refl
+    covers false true = refl
+    covers true false = refl
+    covers true true = refl
+
+-- "Two clocks are rivals if neither covers the other."
+pub rivals-standing : (W : ℕ) (p q : Clock)
+    → concurrent W p q ≡ not (dominates W p q) && not (dominates W q p)
+unfolding concurrent dominates standing
+rivals-standing W p q = cases (exceeds W p q) (exceeds W q p)
+  where
+    cases : (a b : Bool) → rivalling (standingOf a b)
+        ≡ not (covering (standingOf a b)) && not (covering (standingOf b a))
+    cases false false = refl
+    cases false true = refl
+    cases true false = refl
+    cases true true = refl
 
 -- ---- an order
 
@@ -38,19 +63,7 @@ pub dominates-same : (W : ℕ) (p p′ q q′ : Clock)
     → ((w : ℕ) → w < W → p w ≡ p′ w) → ((w : ℕ) → w < W → q w ≡ q′ w)
     → dominates W p q ≡ dominates W p′ q′
 unfolding dominates
-dominates-same W p p′ q q′ h k =
-    all-same W (λ w. leb (q w) (p w)) (λ w. leb (q′ w) (p′ w)) (λ w l. rw (h w l, k w l))
-
--- How a loop answers the test.
-pub dominates-yes : (W : ℕ) (p q : Clock) → Dominates W p q → true ≡ dominates W p q
-dominates-yes W p q c = sym (dominates-iff W p q .1 c)
-
-pub dominates-no : (W : ℕ) (p q : Clock) (w : ℕ) → w < W → p w < q w → false ≡ dominates W p q
-dominates-no W p q w l h =
-    test (dominates W p q) (λ y. absurd (no-more (dominates-iff W p q .0 y w l))) (λ n. sym n)
-  where
-    no-more : q w ≤ p w → ⊥
-    no-more k = omega arith
+dominates-same W p p′ q q′ h k = ap covering (standing-same W p p′ q q′ h k)
 
 -- ---- join, the least upper bound
 

@@ -4,23 +4,76 @@ ghost use mathlib.Core.Path.{_≡_};
 ghost use Prim.Native.Nat.{_+_, _≤_};
 ghost use lib.ListN.{length};
 ghost use Rattle.words.specs.Words.{put, Apart};
-ghost use Rattle.clock.specs.Clock.{dominates, present, join, clockAt};
+ghost use Rattle.clock.specs.Clock.{standing, standingOf, standingNumber, covering, present, join, clockAt};
 
-// Whether the clock at a in p dominates the clock at b in q, of w counts. The two may be lent from
-// one buffer.
-pub fn dominates(p: &[u32], a: usize, q: &[u32], b: usize, w: usize) -> bool
-    requires { ⌜ (a + w ≤ length (now p)) × (b + w ≤ length (now q)) ⌝ }
-    ensures { λ r. ⌜ r
-        ≡ dominates w (clockAt (now (p .entry)) a) (clockAt (now (q .entry)) b) ⌝ }
+// How two clocks stand.
+pub enum Standing {
+    Equal,
+    Older,
+    Newer,
+    Rival,
+}
+
+// The number of a standing.
+pub fn standing_number(s: Standing) -> u32
+    ensures { λ r. ⌜ r ≡ standingNumber s ⌝ }
 {
+    match s {
+        Standing::Equal => 0,
+        Standing::Older => 1,
+        Standing::Newer => 2,
+        Standing::Rival => 3,
+    }
+}
+
+// Whether a clock of this standing covers the other: it is equal or newer.
+pub fn covering(s: Standing) -> bool
+    ensures { λ r. ⌜ r ≡ covering s ⌝ }
+{
+    match s {
+        Standing::Equal => true,
+        Standing::Older => false,
+        Standing::Newer => true,
+        Standing::Rival => false,
+    }
+}
+
+// The standing by whether some count is larger, and whether some is smaller.
+fn standing_of(over: bool, under: bool) -> Standing
+    ensures { λ r. ⌜ r ≡ standingOf over under ⌝ }
+{
+    if over {
+        if under {
+            Standing::Rival
+        } else {
+            Standing::Newer
+        }
+    } else {
+        if under {
+            Standing::Older
+        } else {
+            Standing::Equal
+        }
+    }
+}
+
+// How the clock at a in p stands against the clock at b in q, of w counts. The two may be lent
+// from one buffer.
+pub fn compare(p: &[u32], a: usize, q: &[u32], b: usize, w: usize) -> Standing
+    requires { ⌜ (a + w ≤ length (now p)) × (b + w ≤ length (now q)) ⌝ }
+    ensures { λ r. ⌜ r ≡ standing w (clockAt (now (p .entry)) a) (clockAt (now (q .entry)) b) ⌝ }
+{
+    let mut over = false;
+    let mut under = false;
     let mut i = 0;
     while i < w {
-        if p[a + i] < q[b + i] {
-            return false;
-        }
+        let x = p[a + i];
+        let y = q[b + i];
+        over = over | (y < x);
+        under = under | (x < y);
         i += 1;
     }
-    true
+    standing_of(over, under)
 }
 
 // Whether some writer is present in the clock at an index. All counts are read: that is quicker

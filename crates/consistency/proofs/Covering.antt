@@ -1,10 +1,12 @@
 -- What holds of every row of counts in a store that follows its book.
 -- EveryRow: a claim about all of them. every-row: by the copies that they count.
--- master-dominates: the master's own row of a key has all that is known of the key.
+-- master-dominates: the master's own row of a key has all that is known of the key; so no copy is
+-- ahead of it (caches-behind, snapshots-behind).
 -- count-bound: no row runs ahead of a writer's count.
 -- Assumes nothing.
 use Prim.Native.Nat.{ℕ, _≤_, _<_}
 use Rattle.clock.specs.Clock.{Clock, Dominates}
+use Rattle.clock.proofs.Standings.{standing-below}
 use Rattle.model.specs.Store.{Store}
 use Rattle.history.specs.History.{saved}
 use Rattle.history.specs.Copies.{Copy, reaches, byWriter, counted}
@@ -13,6 +15,7 @@ use Rattle.history.proofs.Past.{past-laws}
 use Rattle.history.proofs.Tally.{tally-dominates, tally-total}
 use Rattle.history.proofs.Reached.{reaches-intro, reaches-saved, reaches-session}
 use Rattle.history.proofs.Counted.{counted-row}
+use Rattle.consistency.specs.Claim.{NotAhead}
 use Rattle.consistency.proofs.Invariant.{Follows}
 
 -- P d p: p is a row for key d.
@@ -58,6 +61,16 @@ module _ {s : Store} {b : Book} (F : Follows s b) where
           (λ j i y.
           let w = reaches-saved K h laws c d j y .1 in
           reaches-intro K h (b .master d) d j j i (F .every d j l w) (laws .own j d i w)))
+
+  pub caches-behind : (o : ℕ) → o < s .counts .sites
+      → NotAhead (s .counts .writers) (s .counts .keys) (s .master) (s .site o .cache)
+  caches-behind o l k h =
+      standing-below (s .counts .writers) _ _ .0 (master-dominates .cache o k k l h h)
+
+  pub snapshots-behind : (r : ℕ) → r < s .counts .runs
+      → NotAhead (s .counts .writers) (s .counts .keys) (s .master) (s .run r .branch .snapshot)
+  snapshots-behind r l k h =
+      standing-below (s .counts .writers) _ _ .0 (master-dominates .snapshot r k k l h h)
 
   -- No count in a row is larger than its writer's.
   pub count-bound : EveryRow s (λ d p. (u : ℕ) → u < s .counts .writers → p u ≤ s .writer u .count)

@@ -15,7 +15,7 @@ use Rattle.words.specs.Lists.{putAt, upto, blocks}
 use Rattle.words.proofs.Bools.{clash}
 use Rattle.masks.specs.Mask.{testBit, withBit, withIf, maskBelow}
 use Rattle.reach.specs.Closure.{closure, rounds, round}
-use Rattle.clock.specs.Clock.{dominates, present, join}
+use Rattle.clock.specs.Clock.{exceeds, standing, dominates, present, join}
 use Rattle.sizes.specs.Bounds.{countsOf, between, ranged, pastSize, versionSize, placeSize, siteSize, writerSize, runSize, masterAt, sitesAt, writersAt, runsAt, tailSize, tailAt, totalOf}
 use Rattle.model.specs.Algebra.{Place, lacking, needsMet}
 use Rattle.model.specs.Version.{Version, held, dependency, supersedes, larger, merge, versions}
@@ -132,26 +132,25 @@ pub record Computed : Type 0 where
 
 pub computed : Computed
 unfolding anyBelow allBelow only foldBelow countBelow largest when putAt upto blocks testBit
-    withBit withIf maskBelow closure rounds round dominates present join between ranged pastSize
-    versionSize placeSize siteSize writerSize runSize masterAt sitesAt writersAt runsAt
-    tailSize tailAt totalOf
-    lacking held dependency supersedes larger merge draws drawSet fetchSet fetched unfetchable
-    pullSet pulled fresh planned doneReads withMaster withLast withSites
-    withCache withWriter withRun withState withJobDone zeroRows versionFormed
+    withBit withIf maskBelow closure rounds round exceeds standing dominates present join
+    between ranged pastSize versionSize placeSize siteSize writerSize runSize masterAt sitesAt
+    writersAt runsAt tailSize tailAt totalOf lacking held dependency supersedes larger merge
+    draws drawSet fetchSet fetched unfetchable pullSet pulled fresh planned doneReads withMaster
+    withLast withSites withCache withWriter withRun withState withJobDone zeroRows versionFormed
     placeFormed validJob zeroJob freeFormed jobsFormed masksFormed snapshotFormed runFormed
     wellFormed answer refuse unless allowed runCause listedJob listedCount listedJobs listValid
     openCause openedRun openDone openRule dropCause dropDone dropRule readStart stepSite
     stepReads stepStart stepFetch stepCache stepPlan stepPull stepSnapshot stepMoved jobLimit
-    notReady jobCause stepCause stepBroken stepDone stepRule raiseCause issueCause takenIn rowsSet
-    newPast newVersion issuedMaster issuedWriter savedStore issuedStore issuedNumber issueDone
-    issueRule ruleOf clockWords pastWords versionWords placeWords siteWords sitesWords
-    writerWords writersWords jobWords jobsWords runWords runsWords tailWords headerWords storeWords
-    readClock readPast readVersion readPlace readSite readWriter readJob readJobs readRun readTail
-    countsIn storeOf written headerRight shaped inForm newCause newOn onStore callOn leaves isOk
-    writerOf leads inPast reaches heldCopy needsCopy meetsCopy union lastIn byWriter counted
-    freshBook withBookCaches withBookRun bookOpen bookStepJob entry bookIssue bookIssued
-    bookRule bookOk bookStep start readNow roleOf finishBy finish advance follow needsMet pickOf
-    chosen
+    notReady jobCause stepCause stepBroken stepDone stepRule raiseCause issueCause takenIn
+    rowsSet newPast newVersion issuedMaster issuedWriter savedStore issuedStore issuedNumber
+    issueDone issueRule ruleOf clockWords pastWords versionWords placeWords siteWords sitesWords
+    writerWords writersWords jobWords jobsWords runWords runsWords tailWords headerWords
+    storeWords readClock readPast readVersion readPlace readSite readWriter readJob readJobs
+    readRun readTail countsIn storeOf written headerRight shaped inForm newCause newOn onStore
+    callOn leaves isOk writerOf leads inPast reaches heldCopy needsCopy meetsCopy union lastIn
+    byWriter counted freshBook withBookCaches withBookRun bookOpen bookStepJob entry bookIssue
+    bookIssued bookRule bookOk bookStep start readNow roleOf finishBy finish advance follow
+    needsMet pickOf chosen
 computed = record {
   both = refl;
   breaks = refl;

@@ -16,6 +16,7 @@ use Rattle.history.proofs.Behind.{past-is-before}
 use Rattle.consistency.specs.Trace.{ReadSet, Trace}
 use Rattle.consistency.specs.Claim.{Holds, HoldsAt, Demand3}
 use Rattle.consistency.proofs.Invariant.{Inv}
+use Rattle.consistency.proofs.Covering.{caches-behind, snapshots-behind}
 use Rattle.consistency.proofs.Cutting.{cuts, overlaps, breaks}
 use Rattle.consistency.proofs.Finished.{read-counted, shared}
 use Rattle.consistency.proofs.Points.{At, start-at, follow-at}
@@ -35,6 +36,8 @@ inv-holds s b f F I =
       shared = shared s b f I F;
       overlaps = overlaps G;
       every-save = λ k i. G .every k i;
+      behind-caches = caches-behind G;
+      behind-snapshots = snapshots-behind G;
     }
 
 pub point-holds : (t : Trace) → At t → HoldsAt t

@@ -1,6 +1,6 @@
 -- Demand 3: one claim about a whole list of calls on the buffer that an accepted new left.
--- PastIsBefore ("stands behind"), Counted (b), Snapshot (c), Pick, Works, BreakExact (d), Holds
--- (all of it at one point of the list), Consistent.
+-- PastIsBefore ("stands behind"), Counted (b), Snapshot (c), NotAhead (no copy is ahead of the
+-- master's), Pick, Works, BreakExact (d), Holds (all of it at one point of the list), Consistent.
 -- Assumes nothing.
 use mathlib.Core.Path.{_≡_}
 use mathlib.Core.Bool.{Bool, true, false, cond, So}
@@ -8,6 +8,8 @@ use mathlib.Core.Logic.{_↔_, _⊎_}
 use mathlib.Core.List.{List, _∷_, _++_}
 use Prim.Native.Nat.{ℕ, _<_}
 use Rattle.masks.specs.Mask.{testBit}
+use Rattle.clock.specs.declared.Standing.the-variants.{Equal, Older}
+use Rattle.clock.specs.Clock.{standing}
 use Rattle.sizes.specs.declared.Counts.{Counts}
 use Rattle.model.specs.Algebra.{Place, needsMet, causalCut, overlappingCut}
 use Rattle.model.specs.Version.{Version, held, merge, unheld, versions}
@@ -54,6 +56,14 @@ pub record Snapshot (K : ℕ) (h : History) (x y : ReadSet) : Type 0 where
 pub data Among (x : ReadSet) : List ReadSet → Type 0 where
   first : {xs : List ReadSet} → Among x (x ∷ xs)
   later : {y : ReadSet} {xs : List ReadSet} → Among x xs → Among x (y ∷ xs)
+
+-- ---- "which copy is ahead": never one on a shelf or card
+
+-- Each version of the place, by its own row, is equal to the master's or older.
+abbrev pub NotAhead : ℕ → ℕ → Place Version → Place Version → Type 0
+NotAhead W K master p =
+    (k : ℕ) → k < K → let s = standing W (p k .past k) (master k .past k) in
+    (s ≡ Equal) ⊎ (s ≡ Older)
 
 -- ---- (d) "a step in the list that is not turned down breaks its run exactly if no choice .. "
 
@@ -135,6 +145,11 @@ pub record Holds (s : Store) (b : Book) (finished : ℕ → List ReadSet) : Type
       (planned (s .run r .jobs) (s .run r .job)) (s .run r .branch .snapshot))
   pub every-save : (k i : ℕ) → k < s .counts .keys → So (saved (b .history) k i)
       → So (b .master k i)
+  -- No copy is ahead of the master's.
+  pub behind-caches : (o : ℕ) → o < s .counts .sites
+      → NotAhead (s .counts .writers) (s .counts .keys) (s .master) (s .site o .cache)
+  pub behind-snapshots : (r : ℕ) → r < s .counts .runs
+      → NotAhead (s .counts .writers) (s .counts .keys) (s .master) (s .run r .branch .snapshot)
 
 -- At a point: the buffer is in form too, so that a store that spoils itself and then refuses all
 -- won't do. (d) is about the step as a call on that buffer.

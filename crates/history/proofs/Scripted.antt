@@ -14,7 +14,7 @@ use Rattle.words.specs.Numbers.{foldBelow, countBelow, largest, when}
 use Rattle.words.specs.Lists.{putAt, upto, blocks}
 use Rattle.masks.specs.Mask.{testBit, withBit, withIf, maskBelow}
 use Rattle.reach.specs.Closure.{closure, rounds, round}
-use Rattle.clock.specs.Clock.{dominates, present, join}
+use Rattle.clock.specs.Clock.{exceeds, standing, dominates, present, join}
 use Rattle.sizes.specs.Bounds.{countsOf, between, pastSize, versionSize, placeSize, siteSize, writerSize, runSize, masterAt, sitesAt, writersAt, runsAt, tailSize, tailAt, totalOf}
 use Rattle.sizes.specs.declared.Counts.{Counts}
 use Rattle.model.specs.Algebra.{Place, lacking}
@@ -28,7 +28,7 @@ use Rattle.model.specs.Runs.{listedJob, listedCount, listedJobs, listValid, ope
 use Rattle.model.specs.Prepare.{jobStart, fetchReads, preparedCaches, unpreparable, usesSite, sitesMerged, siteCaches, prepareCause, prepareCaches, prepareSnapshot, prepareDone, prepareRule}
 use Rattle.model.specs.Step.{readStart, stepSite, stepReads, stepStart, stepFetch, stepCache, stepPlan, stepPull, stepSnapshot, stepMoved, jobLimit, notReady, jobCause, stepCause, stepBroken, stepDone, stepRule}
 use Rattle.model.specs.Issue.{raiseCause, issueCause, takenIn, rowsSet, newPast, newVersion, issuedMaster, issuedWriter, savedStore, issuedStore, issuedNumber, issueDone, issueRule}
-use Rattle.model.specs.Look.{lookPlace, lookLimit, lookCause, rowNumbers, lookNumbers, lookReply}
+use Rattle.model.specs.Look.{lookPlace, lookLimit, lookCause, rowNumbers, lookStanding, lookNumbers, lookReply}
 use Rattle.model.specs.Calls.{StoreCall, fetch, replyOf, ruleOf}
 use Rattle.model.proofs.Outcomes.{nextStore}
 use Rattle.model.proofs.Scripts.{saving, case-a-script, longer-script, reading-script}
@@ -139,24 +139,24 @@ pub record Scripted : Type 0 where
 
 pub scripted : Scripted
 unfolding anyBelow allBelow only foldBelow countBelow largest when putAt upto blocks testBit
-    withBit withIf maskBelow closure rounds round dominates present join between pastSize
-    versionSize placeSize siteSize writerSize runSize masterAt sitesAt writersAt runsAt tailSize
-    tailAt totalOf lacking held dependency supersedes larger merge draws drawSet fetchSet
-    fetched unfetchable evictSet evicted pullSet pulled fresh planned withMaster withLast
-    withSites withCache withCaches withWriter withRun withState withSnapshot withJobDone
-    validJob refuse unless allowed runCause fetchCause fetchDone fetchRule evictCause evictDone
-    evictRule listedJob listedCount listedJobs listValid openCause openedRun openDone openRule
-    dropCause dropDone dropRule jobStart fetchReads preparedCaches unpreparable usesSite
-    sitesMerged siteCaches prepareCause prepareCaches prepareSnapshot prepareDone prepareRule
-    readStart stepSite stepReads stepStart stepFetch stepCache stepPlan stepPull stepSnapshot
-    stepMoved jobLimit notReady jobCause stepCause stepBroken stepDone stepRule raiseCause
-    issueCause takenIn rowsSet newPast newVersion issuedMaster issuedWriter savedStore
-    issuedStore issuedNumber issueDone issueRule lookPlace lookLimit lookCause rowNumbers
-    lookNumbers lookReply replied replyOf ruleOf clockWords pastWords versionWords placeWords
-    siteWords sitesWords writerWords writersWords jobWords jobsWords runWords runsWords
-    tailWords headerWords storeWords readClock readPast readVersion readPlace readSite
-    readWriter readJob readJobs readRun readTail countsIn storeOf isOk writerOf leads inPast
-    reaches heldCopy needsCopy meetsCopy union lastIn byWriter counted freshBook withBookCaches
-    withBookRun bookOpen bookFetch bookEvict bookPrepare bookStepJob entry bookIssue bookIssued
-    bookRule bookOk bookStep
+    withBit withIf maskBelow closure rounds round exceeds standing dominates present join
+    between pastSize versionSize placeSize siteSize writerSize runSize masterAt sitesAt
+    writersAt runsAt tailSize tailAt totalOf lacking held dependency supersedes larger merge
+    draws drawSet fetchSet fetched unfetchable evictSet evicted pullSet pulled fresh planned
+    withMaster withLast withSites withCache withCaches withWriter withRun withState withSnapshot
+    withJobDone validJob refuse unless allowed runCause fetchCause fetchDone fetchRule
+    evictCause evictDone evictRule listedJob listedCount listedJobs listValid openCause
+    openedRun openDone openRule dropCause dropDone dropRule jobStart fetchReads preparedCaches
+    unpreparable usesSite sitesMerged siteCaches prepareCause prepareCaches prepareSnapshot
+    prepareDone prepareRule readStart stepSite stepReads stepStart stepFetch stepCache stepPlan
+    stepPull stepSnapshot stepMoved jobLimit notReady jobCause stepCause stepBroken stepDone
+    stepRule raiseCause issueCause takenIn rowsSet newPast newVersion issuedMaster issuedWriter
+    savedStore issuedStore issuedNumber issueDone issueRule lookPlace lookLimit lookCause
+    rowNumbers lookStanding lookNumbers lookReply replied replyOf ruleOf clockWords pastWords
+    versionWords placeWords siteWords sitesWords writerWords writersWords jobWords jobsWords
+    runWords runsWords tailWords headerWords storeWords readClock readPast readVersion readPlace
+    readSite readWriter readJob readJobs readRun readTail countsIn storeOf isOk writerOf leads
+    inPast reaches heldCopy needsCopy meetsCopy union lastIn byWriter counted freshBook
+    withBookCaches withBookRun bookOpen bookFetch bookEvict bookPrepare bookStepJob entry
+    bookIssue bookIssued bookRule bookOk bookStep
 scripted = record { later = refl; reading = refl; case-a = refl; longer = refl }

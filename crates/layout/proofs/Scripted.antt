@@ -10,7 +10,7 @@ use Rattle.words.specs.Lists.{putAt, upto, blocks}
 use Rattle.words.proofs.Bools.{le-leb}
 use Rattle.masks.specs.Mask.{testBit, withBit, withIf, maskBelow}
 use Rattle.reach.specs.Closure.{closure, rounds, round}
-use Rattle.clock.specs.Clock.{dominates, present, join}
+use Rattle.clock.specs.Clock.{exceeds, standing, dominates, present, join}
 use Rattle.sizes.specs.Bounds.{between, ranged, pastSize, versionSize, placeSize, siteSize, writerSize, runSize, masterAt, sitesAt, writersAt, runsAt, tailSize, tailAt, totalOf}
 use Rattle.model.specs.Algebra.{lacking}
 use Rattle.model.specs.Version.{held, dependency, supersedes, larger, merge}
@@ -23,7 +23,7 @@ use Rattle.model.specs.Runs.{listedJob, listedCount, listedJobs, listValid, ope
 use Rattle.model.specs.Prepare.{jobStart, fetchReads, preparedCaches, unpreparable, usesSite, sitesMerged, siteCaches, prepareCause, prepareCaches, prepareSnapshot, prepareDone, prepareRule}
 use Rattle.model.specs.Step.{readStart, stepSite, stepReads, stepStart, stepFetch, stepCache, stepPlan, stepPull, stepSnapshot, stepMoved, jobLimit, notReady, jobCause, stepCause, stepBroken, stepDone, stepRule}
 use Rattle.model.specs.Issue.{raiseCause, issueCause, takenIn, rowsSet, newPast, newVersion, issuedMaster, issuedWriter, savedStore, issuedStore, issuedNumber, issueDone, issueRule}
-use Rattle.model.specs.Look.{lookPlace, lookLimit, lookCause, rowNumbers, lookNumbers, lookReply}
+use Rattle.model.specs.Look.{lookPlace, lookLimit, lookCause, rowNumbers, lookStanding, lookNumbers, lookReply}
 use Rattle.model.specs.Calls.{replyOf, ruleOf}
 use Rattle.model.proofs.Scripts.{ok₁, not-taken, case-a-script, case-a-answers, longer-script, longer-answers}
 use Rattle.layout.specs.Words.{clockWords, pastWords, versionWords, placeWords, siteWords, sitesWords, writerWords, writersWords, jobWords, jobsWords, runWords, runsWords, tailWords, headerWords, storeWords}
@@ -85,23 +85,24 @@ pub record Scripted : Type 0 where
 
 pub scripted : Scripted
 unfolding anyBelow allBelow only foldBelow putAt upto blocks testBit withBit withIf maskBelow
-    closure rounds round dominates present join between ranged pastSize versionSize placeSize
-    siteSize writerSize runSize masterAt sitesAt writersAt runsAt tailSize tailAt totalOf
-    lacking held dependency supersedes larger merge draws drawSet fetchSet fetched unfetchable
-    evictSet evicted pullSet pulled fresh planned doneReads withMaster withLast withSites
-    withCache withCaches withWriter withRun withState withSnapshot withJobDone zeroRows
-    versionFormed placeFormed validJob zeroJob freeFormed jobsFormed masksFormed snapshotFormed
-    runFormed wellFormed answer refuse unless allowed runCause fetchCause fetchDone fetchRule
-    evictCause evictDone evictRule listedJob listedCount listedJobs listValid openCause
-    openedRun openDone openRule dropCause dropDone dropRule jobStart fetchReads preparedCaches
-    unpreparable usesSite sitesMerged siteCaches prepareCause prepareCaches prepareSnapshot
-    prepareDone prepareRule readStart stepSite stepReads stepStart stepFetch stepCache stepPlan
-    stepPull stepSnapshot stepMoved jobLimit notReady jobCause stepCause stepBroken stepDone
-    stepRule raiseCause issueCause takenIn rowsSet newPast newVersion issuedMaster issuedWriter
-    savedStore issuedStore issuedNumber issueDone issueRule lookPlace lookLimit lookCause
-    rowNumbers lookNumbers lookReply replied replyOf ruleOf clockWords pastWords versionWords
-    placeWords siteWords sitesWords writerWords writersWords jobWords jobsWords runWords
-    runsWords tailWords headerWords storeWords readClock readPast readVersion readPlace readSite
-    readWriter readJob readJobs readRun readTail countsIn storeOf written headerRight shaped
-    inForm newCause newOn onStore callOn leaves outcomes after
+    closure rounds round exceeds standing dominates present join between ranged pastSize
+    versionSize placeSize siteSize writerSize runSize masterAt sitesAt writersAt runsAt tailSize
+    tailAt totalOf lacking held dependency supersedes larger merge draws drawSet fetchSet
+    fetched unfetchable evictSet evicted pullSet pulled fresh planned doneReads withMaster
+    withLast withSites withCache withCaches withWriter withRun withState withSnapshot
+    withJobDone zeroRows versionFormed placeFormed validJob zeroJob freeFormed jobsFormed
+    masksFormed snapshotFormed runFormed wellFormed answer refuse unless allowed runCause
+    fetchCause fetchDone fetchRule evictCause evictDone evictRule listedJob listedCount
+    listedJobs listValid openCause openedRun openDone openRule dropCause dropDone dropRule
+    jobStart fetchReads preparedCaches unpreparable usesSite sitesMerged siteCaches prepareCause
+    prepareCaches prepareSnapshot prepareDone prepareRule readStart stepSite stepReads stepStart
+    stepFetch stepCache stepPlan stepPull stepSnapshot stepMoved jobLimit notReady jobCause
+    stepCause stepBroken stepDone stepRule raiseCause issueCause takenIn rowsSet newPast
+    newVersion issuedMaster issuedWriter savedStore issuedStore issuedNumber issueDone issueRule
+    lookPlace lookLimit lookCause rowNumbers lookStanding lookNumbers lookReply replied replyOf
+    ruleOf clockWords pastWords versionWords placeWords siteWords sitesWords writerWords
+    writersWords jobWords jobsWords runWords runsWords tailWords headerWords storeWords
+    readClock readPast readVersion readPlace readSite readWriter readJob readJobs readRun
+    readTail countsIn storeOf written headerRight shaped inForm newCause newOn onStore callOn
+    leaves outcomes after
 scripted = record { case-a = refl; case-a-past = refl; longer = refl }

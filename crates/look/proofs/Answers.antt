@@ -1,37 +1,40 @@
 -- What a look comes to on a buffer.
 -- area-in, held-in, cause-in: what the tests rest on. Found, found: the version is there.
--- Says: what the answer shows, and which row it has; look-refused, look-done. row-lies.
+-- standing-in: how it stands. Says: what the answer shows, and which row it has; look-refused,
+-- look-done. row-lies.
 -- Assumes nothing.
 use mathlib.Core.Path.{_≡_, refl, sym, ap, ap₂, _∙_}
 use mathlib.Core.Bool.{not, So}
 use mathlib.Core.Logic.{_≢_}
-use mathlib.Core.List.{List, [], _∷_}
+use mathlib.Core.List.{List, [], _∷_, _++_}
 use Prim.Native.Nat.{ℕ, _<_}
 use native.Mathlib.Omega.{arith}
 use lib.Dec.{eqb, leb}
 use lib.ListN.{length, getD}
 use Rattle.words.specs.Lists.{window}
 use Rattle.words.proofs.Bools.{test, leb-gt, eqb-eq, eqb-ne}
+use Rattle.clock.specs.declared.Standing.{Standing}
+use Rattle.clock.specs.Clock.{standing, standingNumber, clockAt}
 use Rattle.sizes.specs.declared.Counts.{Counts}
-use Rattle.sizes.specs.Bounds.{keyAt}
+use Rattle.sizes.specs.Bounds.{masterAt, keyAt, rowAt}
 use Rattle.model.specs.Version.{Version, held}
 use Rattle.model.specs.Outcome.{refused, told, answer, refuse}
-use Rattle.model.specs.Look.{lookPlace, lookLimit, lookCause, lookNumbers, lookReply}
+use Rattle.model.specs.Look.{placeKinds, lookPlace, lookLimit, lookCause, lookStanding, lookNumbers, lookReply}
 use Rattle.model.specs.Calls.{look, ask, replyOf}
 use Rattle.layout.specs.Reading.{readWord, readVersion, readPlace, countsIn, storeOf}
 use Rattle.layout.specs.Buffer.{inForm}
 use Rattle.layout.specs.Calls.{on, callOn}
 use Rattle.model.proofs.Outcomes.{no-cause}
 use Rattle.layout.proofs.Places.{place-at}
-use Rattle.layout.proofs.Readings.{counts-in}
+use Rattle.layout.proofs.Readings.{counts-in, master-in}
 use Rattle.layout.proofs.Forms.{ask-refused, ask-told}
 use Rattle.version.specs.Places.{Area}
-use Rattle.version.proofs.Areas.{row-in}
+use Rattle.version.proofs.Areas.{row-in, standing-word}
 use Rattle.form.proofs.Known.{form-area}
 use Rattle.look.specs.declared.Looked.{Looked}
 use Rattle.look.specs.declared.Looked.the-variants.{Done, Refused}
 use Rattle.look.specs.Places.{placeAt, ownRowAt}
-use Rattle.look.specs.Answer.{shown, OwnRow, RowIn}
+use Rattle.look.specs.Answer.{seen, shown, OwnRow, RowIn}
 use Rattle.look.proofs.Places.{place-in, place-area, row-window}
 
 -- ---- the tests
@@ -48,7 +51,7 @@ module _ (l : List ℕ) (z : Counts) (d : z ≡ countsIn l) (p i : ℕ) where
 
   -- The cause, with the counts in the header.
   pub cause-in : (k : ℕ) → lookCause (storeOf l) p i k
-      ≡ refuse (leb 3 p) 3
+      ≡ refuse (leb placeKinds p) 3
       (refuse (leb (lookLimit z p) i) 3
       (refuse (leb (z .keys) k) 3
       (refuse (not (held (lookPlace (storeOf l) p i k))) 8
@@ -95,18 +98,32 @@ module _ (l : List ℕ) (p i k : ℕ) where
       let no : callOn (on (ask (look p i k))) l ≡ refused n = rw e (refused-by F (rw e at h)) in
       (rw no refl, tt)
 
+  -- The standing of the two rows is that of the versions.
+  standing-in : (z : Counts) → z ≡ countsIn l → i < lookLimit z p → k < z .keys
+      → let s = storeOf l in lookStanding (s .counts .writers) k (lookPlace s p i k) (s .master k)
+      ≡ standing (z .writers) (clockAt l (ownRowAt z p i k))
+      (clockAt l (rowAt z (keyAt z (masterAt z) k) k))
+  unfolding lookStanding ownRowAt
+  standing-in z d h g =
+      rw (place-in l z d p i h, master-in l z d, counts-in l, ← d)
+      (standing-word z l (placeAt z p i) k (masterAt z) k k g g g)
+
   pub look-done : (z : Counts) → z ≡ countsIn l → So (inForm l) → Found l z p i k
+      → (s : Standing) → s ≡ standing (z .writers) (clockAt l (ownRowAt z p i k))
+      (clockAt l (rowAt z (keyAt z (masterAt z) k) k))
       → Says (Done (record { 0 = readWord l (keyAt z (placeAt z p i) k) }) (ownRowAt z p i k)
-      (z .writers))
-  unfolding lookNumbers shown answer OwnRow ownRowAt readVersion
-  look-done z d F T =
+      (z .writers) s)
+  unfolding lookNumbers seen shown answer OwnRow ownRowAt readVersion
+  look-done z d F T s q =
       let at = placeAt z p i in
       let issue = ap (λ (v : Version). v .issue) (place-at z l at k (T .key)) in
       let row = row-window z l at k k (T .key) (T .key) in
-      let r = Done (record { 0 = readWord l (keyAt z at k) }) (ownRowAt z p i k) (z .writers) in
+      let r = Done (record { 0 = readWord l (keyAt z at k) }) (ownRowAt z p i k) (z .writers) s in
+      let stands = q ∙ sym (standing-in z d (T .number) (T .key)) in
       let says : shown l r ≡ answer (callOn (on (ask (look p i k))) l) =
-      rw (T .result, place-in l z d p i (T .number), counts-in l, ← d)
-      (ap₂ (λ (n : ℕ) (t : List ℕ). 0 ∷ n ∷ t) (sym issue) (sym row)) in
+      rw (T .result, ← stands, place-in l z d p i (T .number), counts-in l, ← d)
+      (ap₂ (λ (n : ℕ) (t : List ℕ). 0 ∷ n ∷ (t ++ standingNumber s ∷ [])) (sym issue)
+      (sym row)) in
       let e = ap (λ (y : Counts). ownRowAt y p i k) d in
       (says, (e, ap (λ (y : Counts). y .writers) d))
 
@@ -114,16 +131,15 @@ module _ (l : List ℕ) (p i k : ℕ) where
   pub row-lies : (r : Looked) → So (inForm l)
       → shown l r ≡ answer (callOn (on (ask (look p i k))) l)
       → OwnRow (countsIn l) p i k r → RowIn l r
-  unfolding shown answer OwnRow RowIn ownRowAt
+  unfolding seen shown answer OwnRow RowIn ownRowAt
   row-lies (Refused n) F e o = tt
-  row-lies (Done n at c) F e o =
-      let s = storeOf l in
-      let x = lookCause s p i k in
+  row-lies (Done n at c s) F e o =
+      let x = lookCause (storeOf l) p i k in
       test (eqb x 0)
       (λ t. let T = found (countsIn l) refl F (eqb-eq x 0 t) in
       let A = area-in l (countsIn l) refl p i F (T .number) in
       rw (o .0, o .1)
       (row-in (length l) (countsIn l) _ A k k (T .key) (T .key), A .ranged .writers-high))
       (λ t. let no = refused-by F (eqb-ne x 0 t) in
-      let two : 0 ∷ n .0 ∷ window l at c ≡ 2 ∷ x ∷ [] = e ∙ rw no in
+      let two : 0 ∷ n .0 ∷ (window l at c ++ standingNumber s ∷ []) ≡ 2 ∷ x ∷ [] = e ∙ rw no in
       absurd (omega (arith, ap (λ (t : List ℕ). getD t 0 0) two)))

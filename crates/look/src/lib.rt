@@ -1,7 +1,10 @@
-// The call look: the issue number and the own row of a version, read in a buffer.
+// The call look: the issue number and the own row of a version, read in a buffer, and how it
+// stands against the master's.
 mod row;
 
 use answers::put_two;
+use clock::Standing;
+use clock::compare;
 use form::header::counts;
 use numbers::IssueNumber;
 use numbers::version_issue;
@@ -17,7 +20,7 @@ ghost use lib.ListN.{length};
 ghost use Rattle.answers.specs.Answers.{answerRoom, Lays};
 ghost use Rattle.sizes.specs.Bounds.{Ranged};
 ghost use Rattle.model.specs.Outcome.{answer};
-ghost use Rattle.model.specs.Look.{lookLimit, lookCause};
+ghost use Rattle.model.specs.Look.{placeKinds, lookLimit, lookCause};
 ghost use Rattle.model.specs.Calls.{look, ask};
 ghost use Rattle.layout.specs.Reading.{countsIn, storeOf};
 ghost use Rattle.layout.specs.Buffer.{inForm};
@@ -26,11 +29,24 @@ ghost use Rattle.form.specs.Parts.{FormWith};
 ghost use Rattle.look.specs.Places.{placeAt};
 ghost use Rattle.look.specs.Answer.{shown, OwnRow, RowIn};
 
-// The issue number, and where the own row's counts begin and how many they are; or the number of
-// the cause for which a look is refused.
+// The issue number, where the own row's counts begin and how many they are, and the standing; or
+// the number of the cause for which a look is refused.
 pub enum Looked {
-    Done(IssueNumber, usize, usize),
+    Done(IssueNumber, usize, usize, Standing),
     Refused(u32),
+}
+
+// The kinds of places that a look names.
+pub struct PlaceKinds {}
+
+impl PlaceKinds {
+    // How many there are.
+    pub const COUNT: u32 = 3;
+
+    // It is that of the definitions.
+    pub fn counted()
+        ensures { λ _. do ⌜ (← ⟦PlaceKinds::COUNT⟧ .entry) ≡ placeKinds ⌝ }
+    {}
 }
 
 // How many places of the kind there are.
@@ -66,7 +82,7 @@ fn cause(words: &[u32], z: Counts, place: u32, i: usize, k: usize) -> u32
     requires { ⌜ FormWith (now words) z ⌝ }
     ensures { λ r. ⌜ r ≡ lookCause (storeOf (now (words .entry))) place i k ⌝ }
 {
-    if 3 <= place {
+    if PlaceKinds::COUNT <= place {
         return 3;
     }
     if limit(z, place) <= i {
@@ -101,7 +117,9 @@ pub fn look(words: &[u32], place: u32, number: u32, key: u32) -> Looked
     let version = z.key_at(at, k);
     let issue = version_issue(words, version);
     let row = row_of(z, at, k, k);
-    Looked::Done(issue, row, z.writers)
+    let own = row_of(z, z.areas().master, k, k);
+    let standing = compare(words, row, words, own, z.writers);
+    Looked::Done(issue, row, z.writers, standing)
 }
 
 // The words of a look at this buffer, laid over an answer slice.
@@ -112,7 +130,7 @@ pub fn put_looked(answer: &mut [u32], store: &[u32], r: Looked) -> usize
         (now (answer .entry)) (now (answer .exit)) n ⌝ }
 {
     match r {
-        Looked::Done(issue, at, n) => put_version(answer, store, issue, at, n),
+        Looked::Done(issue, at, n, s) => put_version(answer, store, issue, at, n, s),
         Looked::Refused(no) => put_two(answer, 2, no),
     }
 }

@@ -8,7 +8,7 @@ use Rattle.words.specs.Numbers.{foldBelow}
 use Rattle.words.specs.Lists.{putAt, upto, blocks}
 use Rattle.masks.specs.Mask.{testBit, withBit, withIf, maskBelow}
 use Rattle.reach.specs.Closure.{closure, rounds, round}
-use Rattle.clock.specs.Clock.{dominates, concurrent, present, join}
+use Rattle.clock.specs.Clock.{exceeds, standing, dominates, concurrent, present, join}
 use Rattle.sizes.specs.Bounds.{countsOf, between}
 use Rattle.model.specs.Algebra.{lacking, needsMet, causalCut, overlappingCut}
 use Rattle.model.specs.Version.{held, dependency, supersedes, larger, merge}
@@ -21,10 +21,11 @@ use Rattle.model.specs.Runs.{listedJob, listedCount, listedJobs, listVal
 use Rattle.model.specs.Prepare.{jobStart, fetchReads, preparedCaches, unpreparable, usesSite, sitesMerged, siteCaches, prepareCause, prepareCaches, prepareSnapshot, prepareDone, prepareRule}
 use Rattle.model.specs.Step.{readStart, stepSite, stepReads, stepStart, stepFetch, stepCache, stepPlan, stepPull, stepSnapshot, stepMoved, jobLimit, notReady, jobCause, stepCause, stepBroken, stepDone, stepRule}
 use Rattle.model.specs.Issue.{raiseCause, issueCause, takenIn, rowsSet, newPast, newVersion, issuedMaster, issuedWriter, savedStore, issuedStore, issuedNumber, issueDone, issueRule}
-use Rattle.model.specs.Look.{lookPlace, lookLimit, lookCause, rowNumbers, lookNumbers, lookReply}
+use Rattle.model.specs.Look.{lookPlace, lookLimit, lookCause, rowNumbers, lookStanding, lookNumbers, lookReply}
 use Rattle.model.specs.Calls.{replyOf, ruleOf}
 use Rattle.model.proofs.Readings.{marked, sentences, unmarked, limits, shelved}
-use Rattle.model.proofs.Scripts.{answers, case-a-script, case-a-answers, longer-script, longer-answers, refusals-script, refusals-answers, reading-script, reading-answers, again-script, again-answers, broken-script, broken-answers}
+use Rattle.model.proofs.Looks.{looked}
+use Rattle.model.proofs.Scripts.{answers, case-a-script, case-a-answers, longer-script, longer-answers, refusals-script, refusals-answers, reading-script, reading-answers, again-script, again-answers, broken-script, broken-answers, behind-script, behind-answers}
 
 -- The ten marked readings pass, and each script is answered as it should be, answer by answer.
 pub record Computed : Type 0 where
@@ -33,39 +34,44 @@ pub record Computed : Type 0 where
   pub others : unmarked ≡ replicate 5 true
   pub at-limits : limits ≡ replicate 6 true
   pub on-shelf : shelved ≡ replicate 2 true
+  pub on-looks : looked ≡ replicate 11 true
   pub case-a : answers case-a-script (fresh (countsOf 2 2 2 1)) ≡ case-a-answers
   pub refusals : answers refusals-script (fresh (countsOf 2 2 1 2)) ≡ refusals-answers
   pub reading : answers reading-script (fresh (countsOf 2 2 2 1)) ≡ reading-answers
   pub again : answers again-script (fresh (countsOf 2 2 1 1)) ≡ again-answers
   pub broken : answers broken-script (fresh (countsOf 2 2 2 2)) ≡ broken-answers
+  pub behind : answers behind-script (fresh (countsOf 1 2 2 1)) ≡ behind-answers
   pub longer : answers longer-script (fresh (countsOf 3 2 2 2)) ≡ longer-answers
 
 pub computed : Computed
 unfolding needsMet causalCut overlappingCut concurrent doneReads zeroRows versionFormed
     placeFormed zeroJob freeFormed jobsFormed masksFormed snapshotFormed runFormed wellFormed
     anyBelow allBelow only foldBelow putAt upto blocks testBit withBit withIf maskBelow closure
-    rounds round dominates present join between lacking held dependency supersedes larger merge
-    draws drawSet fetchSet fetched unfetchable evictSet evicted pullSet pulled fresh planned
-    withMaster withLast withSites withCache withCaches withWriter withRun withState withSnapshot
-    withJobDone validJob answer refuse unless allowed runCause fetchCause fetchDone fetchRule
-    evictCause evictDone evictRule listedJob listedCount listedJobs listValid openCause
-    openedRun openDone openRule dropCause dropDone dropRule jobStart fetchReads preparedCaches
-    unpreparable usesSite sitesMerged siteCaches prepareCause prepareCaches prepareSnapshot
-    prepareDone prepareRule readStart stepSite stepReads stepStart stepFetch stepCache stepPlan
-    stepPull stepSnapshot stepMoved jobLimit notReady jobCause stepCause stepBroken stepDone
-    stepRule raiseCause issueCause takenIn rowsSet newPast newVersion issuedMaster issuedWriter
-    savedStore issuedStore issuedNumber issueDone issueRule lookPlace lookLimit lookCause
-    rowNumbers lookNumbers lookReply replied replyOf ruleOf
+    rounds round exceeds standing dominates present join between lacking held dependency
+    supersedes larger merge draws drawSet fetchSet fetched unfetchable evictSet evicted pullSet
+    pulled fresh planned withMaster withLast withSites withCache withCaches withWriter withRun
+    withState withSnapshot withJobDone validJob answer refuse unless allowed runCause fetchCause
+    fetchDone fetchRule evictCause evictDone evictRule listedJob listedCount listedJobs
+    listValid openCause openedRun openDone openRule dropCause dropDone dropRule jobStart
+    fetchReads preparedCaches unpreparable usesSite sitesMerged siteCaches prepareCause
+    prepareCaches prepareSnapshot prepareDone prepareRule readStart stepSite stepReads stepStart
+    stepFetch stepCache stepPlan stepPull stepSnapshot stepMoved jobLimit notReady jobCause
+    stepCause stepBroken stepDone stepRule raiseCause issueCause takenIn rowsSet newPast
+    newVersion issuedMaster issuedWriter savedStore issuedStore issuedNumber issueDone issueRule
+    lookPlace lookLimit lookCause rowNumbers lookStanding lookNumbers lookReply replied replyOf
+    ruleOf
 computed = record {
   ten = refl;
   texts = refl;
   others = refl;
   at-limits = refl;
   on-shelf = refl;
+  on-looks = refl;
   case-a = refl;
   refusals = refl;
   reading = refl;
   again = refl;
   broken = refl;
+  behind = refl;
   longer = refl;
 }

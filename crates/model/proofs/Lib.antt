@@ -1,6 +1,7 @@
 pub mod Outcomes
 pub mod Scripts
 pub mod Readings
+pub mod Looks
 pub mod Clauses
 pub mod Computed
 pub mod Merges

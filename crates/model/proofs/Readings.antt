@@ -10,7 +10,7 @@ use lib.ListN.{getD}
 use Rattle.words.specs.Tests.{only}
 use Rattle.words.specs.Lists.{putAt}
 use Rattle.masks.specs.Mask.{testBit, maskBelow}
-use Rattle.clock.specs.Clock.{Clock, dominates, concurrent}
+use Rattle.clock.specs.Clock.{Clock, standing, standingNumber, dominates, concurrent}
 use Rattle.sizes.specs.Bounds.{countsOf}
 use Rattle.model.specs.Algebra.{Place, causalCut, overlappingCut}
 use Rattle.model.specs.Version.{Version, zeroPast, unheld, dependency, supersedes, merge, versions}
@@ -47,35 +47,45 @@ sameVersion a b =
     && (same (rowNumbers 2 (a .past 0)) (rowNumbers 2 (b .past 0))
     && same (rowNumbers 2 (a .past 1)) (rowNumbers 2 (b .past 1)))
 
-abbrev zero-zero : List ℕ
+abbrev pub zero-zero : List ℕ
 zero-zero = 0 ∷ 0 ∷ []
 
 abbrev one-zero : List ℕ
 one-zero = 1 ∷ 0 ∷ []
 
-abbrev zero-one : List ℕ
+abbrev pub zero-one : List ℕ
 zero-one = 0 ∷ 1 ∷ []
 
-abbrev one-one : List ℕ
+abbrev pub one-one : List ℕ
 one-one = 1 ∷ 1 ∷ []
 
-abbrev two-zero : List ℕ
+abbrev pub two-zero : List ℕ
 two-zero = 2 ∷ 0 ∷ []
 
 -- ---- the ten marked readings
 
--- "clock (1,0) doesn't cover (0,1), nor the reverse"
-abbrev pub first : Bool
-first = concurrent 2 (clock one-zero) (clock zero-one)
+-- The number of the standing of two clocks.
+abbrev pub stands : List ℕ → List ℕ → ℕ → Bool
+stands p q n = eqb (standingNumber (standing 2 (clock p) (clock q))) n
 
--- "(1,1) covers both"
+-- "clock (1,0) doesn't cover (0,1), nor the reverse": they are rivals.
+abbrev pub first : Bool
+first =
+    stands one-zero zero-one 3
+    && (not (dominates 2 (clock one-zero) (clock zero-one))
+    && not (dominates 2 (clock zero-one) (clock one-zero)))
+
+-- "(1,1) covers both": it is newer.
 abbrev pub second : Bool
 second =
-    dominates 2 (clock one-one) (clock one-zero) && dominates 2 (clock one-one) (clock zero-one)
+    stands one-one one-zero 2
+    && (stands one-one zero-one 2
+    && (dominates 2 (clock one-one) (clock one-zero)
+    && dominates 2 (clock one-one) (clock zero-one)))
 
 -- "equal clocks cover"
 abbrev pub third : Bool
-third = dominates 2 (clock one-zero) (clock one-zero)
+third = stands one-zero one-zero 0 && dominates 2 (clock one-zero) (clock one-zero)
 
 -- "merge of rows (2,0) and (1,3) is (2,3)"
 abbrev pub fourth : Bool
@@ -108,7 +118,7 @@ sixth =
 abbrev reading : ℕ → Job
 reading m = record { site = 0; reads = m; upstream = 0 }
 
-abbrev jobs : ℕ → Job
+abbrev pub jobs : ℕ → Job
 jobs i = getD (reading 1 ∷ reading 2 ∷ []) i noJob
 
 abbrev pub cache-of : List ℕ → Place Version
@@ -160,11 +170,13 @@ marked =
 abbrev pub concurrent-unmet : Bool
 concurrent-unmet = not (supersedes 2 0 (version 1 (one-zero ∷ [])) (clock zero-one))
 
--- "(1,1) covers both": so it is no rival of (1,0).
+-- "(1,1) covers both": so it is no rival of (1,0), which is older.
 abbrev pub not-concurrent : Bool
 not-concurrent =
     not (concurrent 2 (clock one-one) (clock one-zero))
-    && not (concurrent 2 (clock one-zero) (clock one-one))
+    && (stands one-zero one-one 1
+    && (not (concurrent 2 (clock one-zero) (clock one-one))
+    && concurrent 2 (clock one-zero) (clock zero-one)))
 
 -- A causal cut: sixth's place is one, and without e it isn't one, nor with e older than u's need.
 abbrev pub cut : Bool

@@ -1,16 +1,21 @@
--- Look: the issue number and own row of a version.
+-- Look: the issue number and own row of a version, and how it stands against the master's.
 -- Assumes nothing.
 use mathlib.Core.Bool.{cond, not}
-use mathlib.Core.List.{List, [], _∷_}
+use mathlib.Core.List.{List, [], _∷_, _++_}
 use Prim.Native.Nat.{ℕ}
 use lib.Dec.{eqb, leb}
 use Rattle.words.specs.Lists.{blocks}
-use Rattle.clock.specs.Clock.{Clock}
+use Rattle.clock.specs.declared.Standing.{Standing}
+use Rattle.clock.specs.Clock.{Clock, standing, standingNumber}
 use Rattle.sizes.specs.declared.Counts.{Counts}
 use Rattle.model.specs.Algebra.{Place}
 use Rattle.model.specs.Version.{Version, held}
 use Rattle.model.specs.Store.{Store}
 use Rattle.model.specs.Outcome.{Reply, refuse}
+
+-- How many kinds of places there are.
+abbrev pub placeKinds : ℕ
+placeKinds = 3
 
 -- "place (0 master, 1 shelf, 2 card), its number (0 for the master)"
 unfoldable pub lookPlace : Store → ℕ → ℕ → Place Version
@@ -23,7 +28,7 @@ lookLimit z p = cond (eqb p 0) 1 (cond (eqb p 1) (z .sites) (z .runs))
 
 unfoldable pub lookCause : Store → ℕ → ℕ → ℕ → ℕ
 lookCause s p i k =
-    refuse (leb 3 p) 3
+    refuse (leb placeKinds p) 3
     (refuse (leb (lookLimit (s .counts) p) i) 3
     (refuse (leb (s .counts .keys) k) 3
     (refuse (not (held (lookPlace s p i k))) 8
@@ -33,11 +38,16 @@ lookCause s p i k =
 unfoldable pub rowNumbers : ℕ → Clock → List ℕ
 rowNumbers W c = blocks W (λ w. c w ∷ [])
 
--- "answers issue number and own row. Changes nothing."
+-- "the standing of the place's version against the master's": of their own rows (row k).
+unfoldable pub lookStanding : ℕ → ℕ → Version → Version → Standing
+lookStanding W k v master = standing W (v .past k) (master .past k)
+
+-- "answers issue number and own row. Changes nothing." The standing is "printed last".
 unfoldable pub lookNumbers : Store → ℕ → ℕ → ℕ → List ℕ
 lookNumbers s p i k =
+    let W = s .counts .writers in
     let v = lookPlace s p i k in
-    v .issue ∷ rowNumbers (s .counts .writers) (v .past k)
+    v .issue ∷ (rowNumbers W (v .past k) ++ standingNumber (lookStanding W k v (s .master k)) ∷ [])
 
 unfoldable pub lookReply : ℕ → ℕ → ℕ → Store → Reply
 lookReply p i k s =

@@ -28,7 +28,7 @@ held v = leb 1 (v .issue)
 unfoldable pub dependency : ℕ → ℕ → Version → Items
 dependency W k v d = not (eqb d k) && present W (v .past d)
 
--- "A held version of d meets a need if its own row covers it."
+-- "A held version of d meets a need if its own row covers it": it is equal or newer.
 unfoldable pub supersedes : ℕ → ℕ → Version → Clock → Bool
 supersedes W d v need = held v && dominates W (v .past d) need
 

@@ -1,6 +1,6 @@
 -- What the exported calls on two lent clocks give.
--- alike: clocks that can be compared. covers: the answer of `sheetdesk_covers`. together, merged:
--- that of `sheetdesk_merge`, and the target that it leaves.
+-- alike: clocks that can be compared. compared: the answer of `sheetdesk_compare`. covers: that of
+-- `sheetdesk_covers`. together, merged: that of `sheetdesk_merge`, and the target that it leaves.
 -- Assumes nothing.
 use mathlib.Core.Bool.{Bool, cond, _&&_}
 use mathlib.Core.List.{List}
@@ -9,12 +9,17 @@ use lib.Dec.{eqb, leb}
 use lib.ListN.{length}
 use Rattle.words.specs.Numbers.{when}
 use Rattle.words.specs.Words.{put}
-use Rattle.clock.specs.Clock.{dominates, join, clockAt}
+use Rattle.clock.specs.Clock.{standing, standingNumber, dominates, join, clockAt}
 use Rattle.sizes.specs.Bounds.{maxWriters}
 
 -- Of one length, which doesn't exceed the most writers.
 unfoldable pub alike : List ℕ → List ℕ → Bool
 alike p q = eqb (length p) (length q) && leb (length p) maxWriters
+
+-- "0 equal, 1 older, 2 newer, 3 rival": p against q, and 4 if they aren't alike.
+unfoldable pub compared : List ℕ → List ℕ → ℕ
+compared p q =
+    cond (alike p q) (standingNumber (standing (length p) (clockAt p 0) (clockAt q 0))) 4
 
 -- "Clock p covers q if every count of p is at least that of q": 1 or 0, and 2 if they aren't
 -- alike.

@@ -1,5 +1,7 @@
 // Clocks for C and Rust: each is lent as a slice of its counts.
-use clock::dominates;
+use clock::compare;
+use clock::covering;
+use clock::standing_number;
 use sizes::Sizes;
 use words::larger;
 ghost use mathlib.Core.Path.{_≡_};
@@ -7,7 +9,7 @@ ghost use Prim.Native.Nat.{_≤_};
 ghost use lib.ListN.{length};
 ghost use Rattle.words.specs.Words.{put};
 ghost use Rattle.clock.specs.Clock.{join, clockAt};
-ghost use Rattle.sheetdesk_c.specs.Pairs.{alike, covers, together, merged};
+ghost use Rattle.sheetdesk_c.specs.Pairs.{alike, compared, covers, together, merged};
 
 // Whether two clocks can be compared: they have one length, which doesn't exceed the most writers.
 fn are_alike(p: &[u32], q: &[u32]) -> bool
@@ -29,6 +31,18 @@ fn raise(target: &mut [u32], source: &[u32], w: usize)
     }
 }
 
+// How clock p stands against clock q: 0 equal, 1 older, 2 newer, 3 rival, and 4 if the lengths
+// differ or exceed 16.
+#[no_mangle]
+pub extern "C" fn sheetdesk_compare(p: &[u32], q: &[u32]) -> u32
+    ensures { λ r. ⌜ r ≡ compared (now (p .entry)) (now (q .entry)) ⌝ }
+{
+    if !are_alike(p, q) {
+        return 4;
+    }
+    standing_number(compare(p, 0, q, 0, p.len()))
+}
+
 // Whether clock p covers clock q: 1 or 0, and 2 if the lengths differ or exceed 16.
 #[no_mangle]
 pub extern "C" fn sheetdesk_covers(p: &[u32], q: &[u32]) -> u32
@@ -37,7 +51,7 @@ pub extern "C" fn sheetdesk_covers(p: &[u32], q: &[u32]) -> u32
     if !are_alike(p, q) {
         return 2;
     }
-    let yes = dominates(p, 0, q, 0, p.len());
+    let yes = covering(compare(p, 0, q, 0, p.len()));
     if yes { 1 } else { 0 }
 }
 

@@ -106,7 +106,7 @@ pub extern "C" fn sheetdesk_look(
 pub extern "C" fn sheetdesk_version() -> u32
     ensures { λ r. ⌜ r ≡ interfaceVersion ⌝ }
 {
-    1
+    2
 }
 
 // The version of the layout: it rises when the words of a desk change.

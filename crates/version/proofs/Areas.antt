@@ -1,5 +1,5 @@
 -- Where the versions and rows of a place lie, and what is read there.
--- key-..: the version of a key. row-in: a row. dominates-word: two rows compared.
+-- key-..: the version of a key. row-in: a row. standing-word: two rows compared.
 -- Assumes nothing.
 use mathlib.Core.Path.{_≡_, ap}
 use mathlib.Core.List.{List}
@@ -7,8 +7,8 @@ use mathlib.Core.Logic.{inl, inr, ⊎-elim}
 use Prim.Native.Nat.{ℕ, _+_, _≤_, _<_}
 use native.Mathlib.Omega.{arith}
 use Rattle.words.specs.Words.{Apart}
-use Rattle.clock.specs.Clock.{dominates, clockAt}
-use Rattle.clock.proofs.Order.{dominates-same}
+use Rattle.clock.specs.Clock.{standing, clockAt}
+use Rattle.clock.proofs.Standings.{standing-same}
 use Rattle.sizes.specs.declared.Counts.{Counts}
 use Rattle.sizes.specs.Bounds.{versionSize, keyAt, rowAt}
 use Rattle.sizes.proofs.Offsets.{largest, key-lies, row-lies}
@@ -42,13 +42,13 @@ key-apart len z dst src A k h =
     }
 
 -- Row d of key k in one place and of key t in another.
-pub dominates-word : (z : Counts) (l : List ℕ) (a k b t d : ℕ)
+pub standing-word : (z : Counts) (l : List ℕ) (a k b t d : ℕ)
     → k < z .keys → t < z .keys → d < z .keys
-    → dominates (z .writers) (readPlace z l a k .past d) (readPlace z l b t .past d)
-    ≡ dominates (z .writers) (clockAt l (rowAt z (keyAt z a k) d))
+    → standing (z .writers) (readPlace z l a k .past d) (readPlace z l b t .past d)
+    ≡ standing (z .writers) (clockAt l (rowAt z (keyAt z a k) d))
     (clockAt l (rowAt z (keyAt z b t) d))
-dominates-word z l a k b t d h i j =
-    dominates-same (z .writers) (readPlace z l a k .past d) (clockAt l (rowAt z (keyAt z a k) d))
+standing-word z l a k b t d h i j =
+    standing-same (z .writers) (readPlace z l a k .past d) (clockAt l (rowAt z (keyAt z a k) d))
     (readPlace z l b t .past d) (clockAt l (rowAt z (keyAt z b t) d))
     (λ w u. row-word z l a k d w h j u) (λ w u. row-word z l b t d w i j u)
 

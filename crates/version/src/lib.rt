@@ -1,5 +1,6 @@
 // Versions in the words of a buffer: read, copied, cleared, merged.
-use clock::dominates;
+use clock::compare;
+use clock::covering;
 use clock::merge_into;
 use clock::present;
 use masks::has;
@@ -69,7 +70,7 @@ pub fn meets(words: &[u32], z: Counts, target: usize, d: usize, source: usize, t
     }
     let own = row_of(z, target, d, d);
     let need = row_of(z, source, t, d);
-    dominates(words, own, words, need, z.writers)
+    covering(compare(words, own, words, need, z.writers))
 }
 
 // The mask of the keys that the place holds.

@@ -1,12 +1,15 @@
 -- `look` is refused by its cause, or reads where the version is.
 -- Assumes nothing.
-use mathlib.Core.Path.{sym, _∙_}
+use mathlib.Core.Path.{sym, ap, _∙_}
 use borrow.Author.Needs.{needs}
 use native.Mathlib.Omega.{arith}
 use lib.ListN.{length}
 use Rattle.version.specs.Places.{Area}
-use Rattle.version.proofs.Areas.{issue-in}
-use Rattle.form.proofs.Known.{form-long}
+use Rattle.sizes.specs.declared.Sizes.{Sizes}
+use Rattle.sizes.specs.Bounds.{sizesOf, masterAt}
+use Rattle.version.proofs.Areas.{issue-in, row-in}
+use Rattle.version.proofs.Stores.{master-area}
+use Rattle.form.proofs.Known.{form-long, form-area}
 use Rattle.look.specs.Places.{placeAt, ownRowAt}
 use Rattle.look.proofs.Answers.{area-in, Found, found, look-refused, look-done}
 use Rattle.look.proofs.look.Statement.{statement}
@@ -82,10 +85,46 @@ row-of-requires c κs =
     let h = there (p .before) .key in
     (A .ranged, (rw (p .place-at .ensures) (A .low), h, omega (arith, h)))
 
+areas-requires : tie.Need-areas-requires
+areas-requires c κs = area (c .before .before .before .before) .ranged
+
+-- The master's place.
+master : (c : tie.Else1) → let n = c .before .before .before .before in
+    let z = n .counts .result in
+    Area (length (n .before .before .args .words .now)) z (masterAt z)
+master c =
+    let n = c .before .before .before .before in
+    let s = n .before .before in
+    let S = form-area (s .args .words .now) (n .counts .result)
+    (record { form = s .pre; counts = n .counts .ensures }) in
+    master-area _ _ (S .ranged) (S .fits)
+
+row-of-requires-2 : tie.Need-row-of-requires-2
+unfolding sizesOf
+row-of-requires-2 c κs =
+    let e = c .before .before .before .before .before in
+    let A = master e in
+    let h = there e .key in
+    (A .ranged, (rw (c .areas .ensures) (A .low), h, omega (arith, h)))
+
+compare-requires : tie.Need-compare-requires
+unfolding sizesOf
+compare-requires c κs =
+    let o = c .before .before in
+    let e = o .before .before .before .before in
+    let h = there e .key in
+    let own = row-in _ _ _ (area e) _ _ h h in
+    let its = row-in _ _ _ (master e) _ _ h h in (
+      rw (o .row-of .ensures, o .before .before .before .place-at .ensures) own,
+      rw (c .row-of2 .ensures, c .before .areas .ensures) its,
+    )
+
 returns-2 : tie.Need-returns-2
-unfolding ownRowAt
+unfolding ownRowAt sizesOf
 returns-2 c =
-    let n = c .before in
+    let m = c .before in
+    let o = m .before .before in
+    let n = o .before in
     let v = n .before in
     let e = v .before .before in
     let k = e .before .before in
@@ -96,13 +135,19 @@ returns-2 c =
     rw (
       ← i .wide .ensures,
       ← k .wide2 .ensures,
-      c .row-of .ensures,
+      o .row-of .ensures,
       n .version-issue .ensures,
       v .key-at .ensures,
       v .before .place-at .ensures,
     )
     (look-done (a .words .now) (a .place) (i .wide .result) (k .wide2 .result)
-    (z .counts .result) (z .counts .ensures) (s .pre) (there e))
+    (z .counts .result) (z .counts .ensures) (s .pre) (there e) (c .compare .result)
+    (rw (
+      ← v .before .place-at .ensures,
+      ← o .row-of .ensures,
+      ← ap (λ (x : Sizes). x .master) (m .before .areas .ensures),
+      ← m .row-of2 .ensures,
+    ) (c .compare .ensures)))
 
 pub look-spec : {M : Type 1} → statement M
 look-spec =
@@ -117,4 +162,7 @@ look-spec =
     key-at-requires
     version-issue-requires
     row-of-requires
+    areas-requires
+    row-of-requires-2
+    compare-requires
     returns-2)

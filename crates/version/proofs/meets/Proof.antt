@@ -5,8 +5,9 @@ use borrow.Author.Needs.{needs}
 use native.Mathlib.Omega.{arith}
 use borrow.Author.Tests.{not-true, not-false}
 use lib.ListN.{length}
+use Rattle.clock.specs.Clock.{dominates}
 use Rattle.model.specs.Version.{supersedes}
-use Rattle.version.proofs.Areas.{row-in, dominates-word}
+use Rattle.version.proofs.Areas.{row-in, standing-word}
 use Rattle.version.proofs.meets.Statement.{statement}
 use Rattle.version.proofs.meets.Tie as tie
 
@@ -23,8 +24,8 @@ row-of-requires c κs = search needs
 row-of-requires-2 : tie.Need-row-of-requires-2
 row-of-requires-2 c κs = search needs
 
-dominates-requires : tie.Need-dominates-requires
-dominates-requires c κs =
+compare-requires : tie.Need-compare-requires
+compare-requires c κs =
     let s = c .before .before .before .before .before in
     let a = s .args in
     let n = length (a .words .now) in
@@ -33,23 +34,35 @@ dominates-requires c κs =
     let need = row-in n (a .z) (a .source) (s .pre .0 .1) (a .t) (a .d) (s .pre .1 .1) d in
     rw (c .row-of2 .ensures, c .before .row-of .ensures) (omega arith, omega arith)
 
+covering-requires : tie.Need-covering-requires
+covering-requires c κs = search needs
+
 returns-2 : tie.Need-returns-2
-unfolding supersedes
+unfolding supersedes dominates
 returns-2 c =
-    let b = c .before .before in
+    let m = c .before in
+    let b = m .before .before in
     let s = b .before .before .before .before in
     let a = s .args in
     let d = s .pre .1 .0 in
     rw (
       sym (b .before .before .held .ensures) ∙ not-false _ (b .before .if1 .left),
-      dominates-word (a .z) (a .words .now) (a .target) (a .d) (a .source) (a .t) (a .d) d
+      standing-word (a .z) (a .words .now) (a .target) (a .d) (a .source) (a .t) (a .d) d
           (s .pre .1 .1) d,
       ← b .row-of .ensures,
-      ← c .before .row-of2 .ensures,
+      ← m .before .row-of2 .ensures,
+      ← m .compare .ensures,
     )
-    (c .dominates .ensures)
+    (c .covering .ensures)
 
 pub meets-spec : {M : Type 1} → statement M
 meets-spec =
     tie.close
-    (tie.spec held-requires returns row-of-requires row-of-requires-2 dominates-requires returns-2)
+    (tie.spec
+    held-requires
+    returns
+    row-of-requires
+    row-of-requires-2
+    compare-requires
+    covering-requires
+    returns-2)

@@ -1,15 +1,19 @@
--- `put_version` lays two words over the front, and the row behind them.
+-- `put_version` lays two words over the front, the row behind them, and the standing last.
 -- Assumes nothing.
 use native.Mathlib.Omega.{arith}
-use mathlib.Core.Path.{ap, _∙_}
-use mathlib.Core.List.{List, [], _∷_}
+use mathlib.Core.Path.{_≡_, ap, _∙_}
+use mathlib.Core.List.{List, [], _∷_, _++_}
 use Prim.Native.Nat.{ℕ}
+use lib.ListN.{length, length-set, length-append}
 use lib.Seq.{sets}
 use borrow.Author.Needs.{needs}
 use Rattle.words.specs.Lists.{window}
 use Rattle.words.proofs.Lists.{length-window}
 use Rattle.layout.proofs.Merges.{put-window}
-use Rattle.answers.proofs.Fronts.{over-more}
+use Rattle.clock.specs.Clock.{standingNumber}
+use Rattle.answers.specs.Answers.{over}
+use Rattle.answers.proofs.Fronts.{over-more, over-last}
+use Rattle.look.specs.Answer.{seen}
 use Rattle.look.proofs.row.put_version.Statement.{statement}
 use Rattle.look.proofs.row.put_version.Tie as tie
 
@@ -22,32 +26,67 @@ put-two-requires c κs = search needs
 put-counts-requires : tie.Need-put-counts-requires
 put-counts-requires c κs = search needs
 
+standing-number-requires : tie.Need-standing-number-requires
+standing-number-requires c κs = search needs
+
+add-answer : tie.Need-add-answer
+add-answer c = search needs
+
+mul-answer : tie.Need-mul-answer
+mul-answer c = search needs
+
+slice-write-answer : tie.Need-slice-write-answer
+slice-write-answer c = search needs
+
 add-result : tie.Need-add-result
 add-result c = search needs
 
+add-result-2 : tie.Need-add-result-2
+add-result-2 c = search needs
+
 same-length : tie.Need-same-length
-same-length c = search needs
+same-length c =
+    let m = c .before .before .before in
+    length-set (m .put-counts .last .0) _ _ ∙ search needs
 
 returns : tie.Need-returns
+unfolding seen
 returns c =
-    let p = c .before .before .before .before .before .before in
+    let m = c .before .before .before in
+    let p = m .before .before .before .before in
     let w = p .before .before in
     let s = w .before .before .before in
     let a = s .args in
     let t = p .put-two in
     let row = window (a .store .now) (a .at) (a .n) in
     let long = length-window (a .store .now) (a .at) (a .n) in
+    let last : List ℕ = standingNumber (a .standing) ∷ [] in
+    let front : List ℕ = 0 ∷ a .issue .0 ∷ row in
+    let behind : m .put-counts .last .0 ≡ over front (a .answer .now) = m .put-counts .ensures
+    ∙ put-window (t .last .0) (a .store .now) 2 (a .at) (a .n)
+    ∙ ap (λ (l : List ℕ). sets l 2 row) (t .ensures .laid)
+    ∙ rw (w .word .ensures)
+    (over-more (0 ∷ a .issue .0 ∷ []) row (a .answer .now)
+    (omega (arith, long, s .pre .0 .1, s .pre .1))) in
     record {
-      laid = c .before .before .put-counts .ensures
-          ∙ put-window (t .last .0) (a .store .now) 2 (a .at) (a .n)
-          ∙ ap (λ (l : List ℕ). sets l 2 row) (t .ensures .laid)
-          ∙ rw (w .word .ensures)
-          (over-more (0 ∷ a .issue .0 ∷ []) row (a .answer .now)
+      laid = rw (behind, c .standing-number .ensures)
+          (over-last front (a .answer .now) _ _ (omega (arith, t .ensures .count, long))
           (omega (arith, long, s .pre .0 .1, s .pre .1)));
-      count = rw (t .ensures .count) (omega (arith, long));
+      count = rw (t .ensures .count) (omega (arith, long, length-append row last));
     }
 
 pub put-version-spec : {M : Type 1} → statement M
 put-version-spec =
     tie.close
-    (tie.spec word-requires put-two-requires put-counts-requires add-result same-length returns)
+    (tie.spec
+    word-requires
+    put-two-requires
+    put-counts-requires
+    standing-number-requires
+    add-answer
+    mul-answer
+    slice-write-answer
+    add-result
+    add-result-2
+    same-length
+    returns)

@@ -15,25 +15,39 @@ are-alike-requires c κs = search needs
 returns : tie.Need-returns
 returns c = covers-no _ _ (sym (c .before .are-alike .ensures) ∙ not-true _ (c .if1 .taken))
 
-dominates-requires : tie.Need-dominates-requires
-dominates-requires c κs =
+compare-requires : tie.Need-compare-requires
+compare-requires c κs =
     let y = sym (c .before .are-alike .ensures) ∙ not-false _ (c .if1 .left) in
     let e = one-length _ _ y in (omega arith, omega (arith, e))
+
+covering-requires : tie.Need-covering-requires
+covering-requires c κs = search needs
 
 returns-2 : tie.Need-returns-2
 unfolding when
 returns-2 c =
-    let d = c .before in
-    let y = sym (d .before .before .are-alike .ensures) ∙ not-false _ (d .before .if1 .left) in
-    covers-test _ _ _ y (sym (c .if2 .taken) ∙ d .dominates .ensures)
+    let v = c .before in
+    let m = v .before in
+    let d = m .before in
+    let y = sym (d .before .are-alike .ensures) ∙ not-false _ (d .if1 .left) in
+    covers-test _ _ _ _ y (sym (c .if2 .taken) ∙ v .covering .ensures) (m .compare .ensures)
 
 returns-3 : tie.Need-returns-3
 unfolding when
 returns-3 c =
-    let d = c .before in
-    let y = sym (d .before .before .are-alike .ensures) ∙ not-false _ (d .before .if1 .left) in
-    covers-test _ _ _ y (sym (c .if2 .left) ∙ d .dominates .ensures)
+    let v = c .before in
+    let m = v .before in
+    let d = m .before in
+    let y = sym (d .before .are-alike .ensures) ∙ not-false _ (d .if1 .left) in
+    covers-test _ _ _ _ y (sym (c .if2 .left) ∙ v .covering .ensures) (m .compare .ensures)
 
 pub sheetdesk-covers-spec : {M : Type 1} → statement M
 sheetdesk-covers-spec =
-    tie.close (tie.spec are-alike-requires returns dominates-requires returns-2 returns-3)
+    tie.close
+    (tie.spec
+    are-alike-requires
+    returns
+    compare-requires
+    covering-requires
+    returns-2
+    returns-3)

@@ -1,0 +1,92 @@
+-- `compare` answers the standing of two clocks. The loop's invariant: whether some count passed
+-- is larger, and whether some is smaller.
+-- Assumes nothing.
+use mathlib.Core.Path.{_≡_, refl, ap₂, _∙_}
+use Prim.Native.Nat.{_≤_, _-_}
+use borrow.Author.Needs.{needs}
+use native.Mathlib.Omega.{arith}
+use Rattle.words.specs.Tests.{anyBelow}
+use Rattle.clock.specs.Clock.{exceeds, standingOf, standing, clockAt}
+use Rattle.clock.proofs.Standings.{exceeds-more}
+use Rattle.clock.proofs.compare.Statement.{statement}
+use Rattle.clock.proofs.compare.Tie as tie
+
+abbrev Inv-loop : tie.InvT-loop
+Inv-loop p a q b w over₀ under₀ i₀ over under i =
+    let c = clockAt p a in
+    let d = clockAt q b in
+    (i ≤ w) × (over ≡ exceeds i c d) × (under ≡ exceeds i d c)
+
+abbrev μ-loop : tie.MeasureT-loop
+μ-loop p a q b w over₀ under₀ i₀ over under i = w - i
+
+loop-holds : tie.Need-loop-holds Inv-loop μ-loop
+unfolding exceeds anyBelow
+loop-holds c = (omega arith, refl, refl)
+
+add-x : tie.Need-add-x Inv-loop μ-loop
+add-x c = omega arith
+
+mul-x : tie.Need-mul-x Inv-loop μ-loop
+mul-x c = omega arith
+
+shared-slice-read-x : tie.Need-shared-slice-read-x Inv-loop μ-loop
+shared-slice-read-x c = omega arith
+
+add-y : tie.Need-add-y Inv-loop μ-loop
+add-y c = omega arith
+
+mul-y : tie.Need-mul-y Inv-loop μ-loop
+mul-y c = omega arith
+
+shared-slice-read-y : tie.Need-shared-slice-read-y Inv-loop μ-loop
+shared-slice-read-y c = omega arith
+
+add-i : tie.Need-add-i Inv-loop μ-loop
+add-i c = omega arith
+
+loop-less : tie.Need-loop-less Inv-loop μ-loop
+loop-less c = omega arith
+
+loop-again : tie.Need-loop-again Inv-loop μ-loop
+unfolding clockAt
+loop-again c =
+    let l = c .before .before .before in
+    let a = l .before .before .before .args in
+    let p = clockAt (a .p .now) (a .a) in
+    let q = clockAt (a .q .now) (a .b) in
+    let i = l .loop .i in (
+      omega arith,
+      rw (exceeds-more p q i, ← l .loop .inv .1),
+      rw (exceeds-more q p i, ← l .loop .inv .2),
+    )
+
+standing-of-requires : tie.Need-standing-of-requires Inv-loop μ-loop
+standing-of-requires c κs = search needs
+
+returns : tie.Need-returns Inv-loop μ-loop
+unfolding standing
+returns c =
+    let l = c .before .before in
+    let a = l .before .before .before .args in
+    let e : l .loop .i ≡ a .w = omega arith in
+    rw (← e) (c .standing-of .ensures ∙ ap₂ standingOf (l .loop .inv .1) (l .loop .inv .2))
+
+pub compare-spec : {M : Type 1} → statement M
+compare-spec =
+    tie.close
+    (tie.spec
+    Inv-loop
+    μ-loop
+    loop-holds
+    add-x
+    mul-x
+    shared-slice-read-x
+    add-y
+    mul-y
+    shared-slice-read-y
+    add-i
+    loop-less
+    loop-again
+    standing-of-requires
+    returns)
