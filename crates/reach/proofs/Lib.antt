@@ -5,3 +5,6 @@ pub mod Paths
 pub mod ShortestPaths
 pub mod SamePaths
 pub mod PathExamples
+pub mod Rows
+pub mod Following
+pub mod Layers
