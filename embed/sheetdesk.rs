@@ -68,6 +68,10 @@ pub mod exports {
             desk: *const u32, desk_len: usize, place: u32, number: u32, sheet: u32,
             answer: *mut u32, answer_len: usize,
         ) -> u32;
+        pub fn sheetdesk_explain(
+            desk: *const u32, desk_len: usize, run: u32, job: u32,
+            answer: *mut u32, answer_len: usize,
+        ) -> u32;
         pub fn sheetdesk_compare(p: *const u32, p_len: usize, q: *const u32, q_len: usize) -> u32;
         pub fn sheetdesk_covers(p: *const u32, p_len: usize, q: *const u32, q_len: usize) -> u32;
         pub fn sheetdesk_merge(
