@@ -1,6 +1,6 @@
 -- Clocks are ordered by dominates, and join is the least clock above two.
--- dominates-iff, concurrent-iff: what they say. dominates-..: an order. join-..: the least upper
--- bound. present-..: who is in a clock.
+-- covers-standing, rivals-standing: what document 01 says of both. dominates-..: an order.
+-- join-..: the least upper bound. present-..: who is in a clock.
 -- Assumes nothing.
 use mathlib.Core.Path.{_≡_, refl, sym, ap, _∙_, fun-ext}
 use mathlib.Core.Bool.{Bool, true, false, not, _&&_, _||_, So}
@@ -17,9 +17,10 @@ use Rattle.clock.proofs.Standings.{exceeds-none, exceeds-no, standing-s
 -- ---- covering and rivals, by what document 01 says of them
 
 -- "Clock p covers q if every count of p is at least that of q."
-pub dominates-iff : (W : ℕ) (p q : Clock) → So (dominates W p q) ↔ Dominates W p q
+pub covers-standing : (W : ℕ) (p q : Clock)
+    → So (dominates W p q) ↔ ((w : ℕ) → w < W → q w ≤ p w)
 unfolding dominates standing
-dominates-iff W p q =
+covers-standing W p q =
     let a = exceeds W p q in
     let b = exceeds W q p in (
       λ s. exceeds-none W q p (not-elim (sym (covers a b) ∙ s)),
@@ -33,10 +34,10 @@ dominates-iff W p q =
     covers true true = refl
 
 -- "Two clocks are rivals if neither covers the other."
-pub concurrent-iff : (W : ℕ) (p q : Clock)
+pub rivals-standing : (W : ℕ) (p q : Clock)
     → concurrent W p q ≡ not (dominates W p q) && not (dominates W q p)
 unfolding concurrent dominates standing
-concurrent-iff W p q = cases (exceeds W p q) (exceeds W q p)
+rivals-standing W p q = cases (exceeds W p q) (exceeds W q p)
   where
     cases : (a b : Bool) → rivalling (standingOf a b)
         ≡ not (covering (standingOf a b)) && not (covering (standingOf b a))

@@ -1,6 +1,6 @@
 -- The four ways in which two clocks stand.
 -- exceeds-..: some count is larger. standing-view: what holds in each of the four.
--- standing-equal, -below, -self, -flip, -same.
+-- standing-equal, -below, -newer, -self, -flip, -same.
 -- Assumes nothing.
 use mathlib.Core.Path.{_≡_, refl, ap₂}
 use mathlib.Core.Bool.{Bool, true, false, _||_, So}
@@ -104,6 +104,14 @@ module _ (W : ℕ) (p q : Clock) where
       back (inr e) =
           let v : View W p q Older = rw e at standing-view in
           v .0
+
+  -- Newer exactly if it covers the other and some count is larger.
+  pub standing-newer : (standing W p q ≡ Newer) ↔ (Dominates W p q × Larger W p q)
+  unfolding standing
+  standing-newer = (
+    λ e. rw e at standing-view,
+    λ v. rw (exceeds-intro W p q (v .1), exceeds-no W q p (v .0)),
+  )
 
 pub standing-self : (W : ℕ) (p : Clock) → standing W p p ≡ Equal
 standing-self W p = standing-equal W p p .1 (λ w l. refl)

@@ -4,15 +4,19 @@
 -- Assumes nothing.
 use mathlib.Core.Path.{_≡_, refl, sym, ap, _∙_}
 use mathlib.Core.Bool.{false, So}
-use mathlib.Core.Logic.{_⊎_, inr, _≢_}
+use mathlib.Core.Logic.{_⊎_, inl, inr, ⊎-elim, _≢_}
 use mathlib.Core.List.{List, [], _∷_, _++_, append-nil}
 use Prim.Native.Nat.{ℕ, _≤_, _<_}
-use Rattle.words.proofs.Bools.{eq-eqb, ne-eqb, and-intro, and-left, and-right}
-use Rattle.clock.proofs.Standings.{standing-below}
+use lib.Dec.{eqb}
+use Rattle.words.proofs.Bools.{test, eq-eqb, ne-eqb, and-intro, and-left, and-right}
+use Rattle.clock.specs.declared.Standing.the-variants.{Equal, Older}
+use Rattle.clock.specs.Clock.{standingNumber}
+use Rattle.clock.proofs.Standings.{standing-below, standing-self}
 use Rattle.sizes.specs.declared.Counts.{Counts}
 use Rattle.model.specs.Version.{held, dependency, supersedes, versions}
 use Rattle.model.specs.Store.{Run, Store, freeRun, planned}
 use Rattle.model.specs.Outcome.{refused, broken, done, freeState, openState}
+use Rattle.model.specs.Look.{lookPlace, lookLimit, rowNumbers, lookStanding, lookNumbers}
 use Rattle.model.specs.Calls.{StoreCall, openRun, fetch, evict, step, dropRun, Query, ask}
 use Rattle.model.proofs.Cuts.{causalCut-at, overlappingCut-within, overlappingCut-at}
 use Rattle.layout.specs.Reading.{storeOf}
@@ -101,6 +105,29 @@ module _ (t : Trace) (H : HoldsAt t) where
   pub snapshot-not-ahead : (r : ℕ) → r < s .counts .runs → (k : ℕ) → k < K → (w : ℕ) → w < W
       → s .run r .branch .snapshot k .past k w ≤ s .master k .past k w
   snapshot-not-ahead r l k h = standing-below W _ _ .1 (H .holds .behind-snapshots r l k h)
+
+  -- So a look, whatever place it asks for, tells equal or older,
+  pub look-not-ahead : (p i k : ℕ) → i < lookLimit (s .counts) p → k < K
+      → let x = lookStanding W k (lookPlace s p i k) (s .master k) in (x ≡ Equal) ⊎ (x ≡ Older)
+  unfolding lookStanding lookPlace lookLimit
+  look-not-ahead p i k h l =
+      test (eqb p 0) (λ y. rw y (inl (standing-self W (s .master k .past k)))) (λ n.
+      test (eqb p 1)
+      (λ y. rw (n, y) (H .holds .behind-caches i (rw (n, y) at h) k l))
+      (λ m. rw (n, m) (H .holds .behind-snapshots i (rw (n, m) at h) k l)))
+
+  -- and its last number is 0 or 1.
+  pub look-last : (p i k : ℕ) → i < lookLimit (s .counts) p → k < K → let v = lookPlace s p i k in
+      (n : ℕ) × ((n ≡ 0) ⊎ (n ≡ 1))
+      × (lookNumbers s p i k ≡ v .issue ∷ (rowNumbers W (v .past k) ++ n ∷ []))
+  unfolding lookNumbers
+  look-last p i k h l =
+      let x = lookStanding W k (lookPlace s p i k) (s .master k) in (
+        standingNumber x,
+        ⊎-elim (λ e. inl (ap standingNumber e)) (λ e. inr (ap standingNumber e))
+            (look-not-ahead p i k h l),
+        refl,
+      )
 
   -- "Save s stands behind save t": in the past of t's issue, and nothing else is but t itself
   pub behind-past : (d j e i : ℕ) → So (saved h e i) → HappensBefore h d j e i

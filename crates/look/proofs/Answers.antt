@@ -100,7 +100,7 @@ module _ (l : List ℕ) (p i k : ℕ) where
 
   -- The standing of the two rows is that of the versions.
   standing-in : (z : Counts) → z ≡ countsIn l → i < lookLimit z p → k < z .keys
-      → lookStanding (storeOf l) p i k
+      → let s = storeOf l in lookStanding (s .counts .writers) k (lookPlace s p i k) (s .master k)
       ≡ standing (z .writers) (clockAt l (ownRowAt z p i k))
       (clockAt l (rowAt z (keyAt z (masterAt z) k) k))
   unfolding lookStanding ownRowAt

@@ -38,7 +38,7 @@ pub record Computed : Type 0 where
   pub others : unmarked ≡ replicate 5 true
   pub at-limits : limits ≡ replicate 6 true
   pub on-shelf : shelved ≡ replicate 2 true
-  pub on-looks : looked ≡ replicate 6 true
+  pub on-looks : looked ≡ replicate 11 true
   pub case-a : answers case-a-script (fresh (countsOf 2 2 2 1)) ≡ case-a-answers
   pub refusals : answers refusals-script (fresh (countsOf 2 2 1 2)) ≡ refusals-answers
   pub reading : answers reading-script (fresh (countsOf 2 2 2 1)) ≡ reading-answers

@@ -8,11 +8,11 @@ use Prim.Native.Nat.{ℕ, _<_}
 use lib.Dec.{leb}
 use Rattle.words.specs.Tests.{allBelow}
 use Rattle.words.specs.Lists.{putAt}
-use Rattle.words.proofs.Bools.{test, and-intro, and-left, and-right, not-intro}
+use Rattle.words.proofs.Bools.{test, and-intro, and-left, and-right, not-intro, not-elim}
 use Rattle.words.proofs.Tests.{all-intro, all-at, any-no}
 use Rattle.words.proofs.Lists.{putAt-cases}
 use Rattle.clock.specs.Clock.{present}
-use Rattle.clock.proofs.Order.{present-mono}
+use Rattle.clock.proofs.Order.{present-mono, absent}
 use Rattle.sizes.specs.declared.Counts.{Counts}
 use Rattle.model.specs.Algebra.{Place}
 use Rattle.model.specs.Version.{Version, unheld, zeroPast, held, merge}
@@ -50,6 +50,15 @@ pub version-row : (z : Counts) (k : ℕ) (v : Version) → VersionFormed z k v �
     → So (present (z .writers) (v .past k))
 unfolding versionFormed
 version-row z k v F h = rw h at F
+
+-- One that isn't held has only zero counts.
+pub version-zero : (z : Counts) (k : ℕ) (v : Version) → VersionFormed z k v → held v ≡ false
+    → (d : ℕ) → d < z .keys → (w : ℕ) → w < z .writers → v .past d w ≡ 0
+unfolding versionFormed zeroRows
+version-zero z k v F n d l =
+    let rows : So (zeroRows z v) = rw n at F in
+    let none = all-at (z .keys) (λ d. not (present (z .writers) (v .past d))) rows d l in
+    absent (z .writers) (v .past d) (not-elim none)
 
 pub version-merge : (z : Counts) (k : ℕ) (a b : Version)
     → VersionFormed z k a → VersionFormed z k b → VersionFormed z k (merge a b)

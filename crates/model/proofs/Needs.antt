@@ -9,7 +9,7 @@ use native.Mathlib.Omega.{arith}
 use lib.Dec.{eqb}
 use Rattle.words.proofs.Bools.{test, and-intro, and-left, and-right, not-intro, not-elim, ne-eqb, eqb-ne}
 use Rattle.clock.specs.Clock.{Clock, dominates, Dominates, present}
-use Rattle.clock.proofs.Order.{dominates-iff, dominates-trans, present-mono, absent}
+use Rattle.clock.proofs.Order.{covers-standing, dominates-trans, present-mono, absent}
 use Rattle.model.specs.Version.{Version, held, dependency, supersedes, merge}
 use Rattle.model.proofs.Merges.{merge-held-left, merge-held-right, merge-left, merge-right, merge-least, merge-present}
 
@@ -46,8 +46,8 @@ pub supersedes-iff : (W d : ℕ) (v : Version) (q : Clock)
 unfolding supersedes
 supersedes-iff W d v q =
     let row = dominates W (v .past d) q in (
-      λ s. (and-left (held v) row s, dominates-iff W (v .past d) q .0 (and-right (held v) row s)),
-      λ h. and-intro (h .0) (dominates-iff W (v .past d) q .1 (h .1)),
+      λ s. (and-left (held v) row s, covers-standing W (v .past d) q .0 (and-right (held v) row s)),
+      λ h. and-intro (h .0) (covers-standing W (v .past d) q .1 (h .1)),
     )
 
 -- A smaller need is met too.

@@ -1,15 +1,16 @@
 -- Laws of the form of a run.
 -- Valid: a valid job. Plan: the form of a run that isn't free, as a record; plan-out, plan-in.
--- free-formed: a free run. read-planned: what is read is in the plan. state-low: its state.
+-- free-formed: a free run. run-place: the card. read-planned: what is read is in the plan.
+-- state-low: its state.
 -- Assumes nothing.
 use mathlib.Core.Path.{_≡_, refl, ap}
-use mathlib.Core.Bool.{Bool, cond, not, So, _&&_}
+use mathlib.Core.Bool.{Bool, false, cond, not, So, _&&_}
 use mathlib.Core.Logic.{⊎-elim}
 use Prim.Native.Nat.{ℕ, _≤_, _<_, _^_}
 use native.Mathlib.Omega.{arith}
 use lib.Dec.{eqb, leb, ltb}
 use Rattle.words.specs.Tests.{allBelow}
-use Rattle.words.proofs.Bools.{test, clash, _∙˙_, and-intro, and-left, and-right, leb-le, le-leb, ltb-lt, lt-ltb, ge-ltb, eqb-eq, eq-eqb, eqb-ne, ne-eqb}
+use Rattle.words.proofs.Bools.{test, clash, _∙˙_, and-intro, and-left, and-right, not-elim, leb-le, le-leb, ltb-lt, lt-ltb, ge-ltb, eqb-eq, eq-eqb, eqb-ne, ne-eqb}
 use Rattle.words.proofs.Tests.{below-or-not, all-intro, all-at}
 use Rattle.masks.specs.Mask.{testBit, maskBelow}
 use Rattle.masks.proofs.Bits.{test-none}
@@ -19,7 +20,7 @@ use Rattle.sizes.proofs.Offsets.{between-out, between-in}
 use Rattle.model.specs.Algebra.{Place, implies}
 use Rattle.model.specs.Version.{Version, unheld, held}
 use Rattle.model.specs.Store.{Job, Run, freeRun, noJob, planned, doneReads}
-use Rattle.model.specs.Form.{validJob, zeroJob, zeroRows, placeFormed, freeFormed, jobsFormed, masksFormed, snapshotFormed, runFormed}
+use Rattle.model.specs.Form.{validJob, zeroJob, zeroRows, versionFormed, placeFormed, freeFormed, jobsFormed, masksFormed, snapshotFormed, runFormed}
 use Rattle.model.proofs.Cuts.{implies-in, implies-out}
 use Rattle.model.proofs.Formed.{PlaceFormed, place-out, place-in, zero-rows}
 
@@ -183,19 +184,39 @@ free-formed z =
     and-intro (all-intro maxJobs (λ i. zeroJob noJob) (λ i h. zero-job))
     (all-intro (z .keys) (λ k. not (held unheld) && zeroRows z unheld) (λ k h. zero-rows z))
 
--- A free run has read nothing.
-free-read : (z : Counts) (a : Run) → So (freeFormed z a) → a .branch .read ≡ 0
-unfolding freeFormed
-free-read z a p =
+-- A free run has read nothing, and its card is in form (nothing is held).
+free-out : (z : Counts) (a : Run) → So (freeFormed z a)
+    → (a .branch .read ≡ 0) × PlaceFormed z (a .branch .snapshot)
+unfolding freeFormed versionFormed
+free-out z a p =
     let jobs = allBelow maxJobs (λ i. zeroJob (a .job i)) in
-    let place = allBelow (z .keys) (λ k.
-    not (held (a .branch .snapshot k)) && zeroRows z (a .branch .snapshot k)) in
+    let out : ℕ → Bool = λ k. not (held (a .branch .snapshot k)) in
+    let zeros : ℕ → Bool = λ k. zeroRows z (a .branch .snapshot k) in
+    let place = allBelow (z .keys) (λ k. out k && zeros k) in
     let read = eqb (a .branch .read) 0 in
     let done = eqb (a .done) 0 in
-    eqb-eq (a .branch .read) 0
-    (and-left read (jobs && place)
-    (and-right done (read && (jobs && place))
-    (and-right (eqb (a .jobs) 0) (done && (read && (jobs && place))) p)))
+    let q =
+    and-right done (read && (jobs && place))
+    (and-right (eqb (a .jobs) 0) (done && (read && (jobs && place))) p) in
+    let each =
+    all-at (z .keys) (λ k. out k && zeros k)
+    (and-right jobs place (and-right read (jobs && place) q)) in (
+      eqb-eq (a .branch .read) 0 (and-left read (jobs && place) q),
+      λ k l.
+          let none : held (a .branch .snapshot k) ≡ false =
+          not-elim (and-left (out k) (zeros k) (each k l)) in
+          rw none (and-right (out k) (zeros k) (each k l)),
+    )
+
+-- The card of a run, free or not.
+pub run-place : (z : Counts) (a : Run) → So (runFormed z a)
+    → PlaceFormed z (a .branch .snapshot)
+unfolding runFormed
+run-place z a F =
+    test (eqb (a .state) 0)
+    (λ y. free-out z a (rw y at F) .1)
+    (λ n. let used : 1 ≤ a .state = omega (arith, eqb-ne (a .state) 0 n) in
+    plan-out z a used F .snapshot .place)
 
 -- What a run has read is among the keys of its plan.
 pub read-planned : (z : Counts) (a : Run) → So (runFormed z a) → (k : ℕ) → k < z .keys
@@ -203,7 +224,7 @@ pub read-planned : (z : Counts) (a : Run) → So (runFormed z a) → (k : ℕ) �
 unfolding runFormed
 read-planned z a F k l p =
     test (eqb (a .state) 0)
-    (λ y. clash (ap (λ (m : ℕ). testBit m k) (free-read z a (rw y at F)) ∙˙ p) (test-none k))
+    (λ y. clash (ap (λ (m : ℕ). testBit m k) (free-out z a (rw y at F) .0) ∙˙ p) (test-none k))
     (λ n. let used : 1 ≤ a .state = omega (arith, eqb-ne (a .state) 0 n) in
     let P = plan-out z a used F in
     P .snapshot .carried k l (P .snapshot .has k l p))

@@ -118,7 +118,7 @@ sixth =
 abbrev reading : ℕ → Job
 reading m = record { site = 0; reads = m; upstream = 0 }
 
-abbrev jobs : ℕ → Job
+abbrev pub jobs : ℕ → Job
 jobs i = getD (reading 1 ∷ reading 2 ∷ []) i noJob
 
 abbrev pub cache-of : List ℕ → Place Version

@@ -38,17 +38,16 @@ lookCause s p i k =
 unfoldable pub rowNumbers : ℕ → Clock → List ℕ
 rowNumbers W c = blocks W (λ w. c w ∷ [])
 
--- "the standing of the place's version against the master's": of their own rows.
-unfoldable pub lookStanding : Store → ℕ → ℕ → ℕ → Standing
-lookStanding s p i k =
-    standing (s .counts .writers) (lookPlace s p i k .past k) (s .master k .past k)
+-- "the standing of the place's version against the master's": of their own rows (row k).
+unfoldable pub lookStanding : ℕ → ℕ → Version → Version → Standing
+lookStanding W k v master = standing W (v .past k) (master .past k)
 
 -- "answers issue number and own row. Changes nothing." The standing is "printed last".
 unfoldable pub lookNumbers : Store → ℕ → ℕ → ℕ → List ℕ
 lookNumbers s p i k =
+    let W = s .counts .writers in
     let v = lookPlace s p i k in
-    v .issue ∷ (rowNumbers (s .counts .writers) (v .past k)
-    ++ standingNumber (lookStanding s p i k) ∷ [])
+    v .issue ∷ (rowNumbers W (v .past k) ++ standingNumber (lookStanding W k v (s .master k)) ∷ [])
 
 unfoldable pub lookReply : ℕ → ℕ → ℕ → Store → Reply
 lookReply p i k s =

@@ -15,8 +15,8 @@ feed-requires c κs =
     let p = r .before .before .before .before .before .before .before .before .pre in
     let i = r .read-chunk in
     let n = g .got .ensures in
-    let e = front (i .result .got) (i .last .1 .0) (i .ensures .front) in
-    (p .0, (p .1 .0, rw n (omega (arith, e, i .ensures .front, i .kept, p))))
+    let e = front (g .got .result) (i .last .1 .0) (omega (arith, n, i .ensures .front)) in
+    (p .0, (p .1 .0, omega (arith, n, e, i .ensures .front, i .kept, p)))
 
 hand-over-requires : tie.Need-hand-over-requires
 hand-over-requires c κs =
@@ -27,11 +27,11 @@ hand-over-requires c κs =
     let p = r .before .before .before .before .before .before .before .before .pre in
     let i = r .read-chunk in
     let n = g .got .ensures in
-    let e = front (i .result .got) (i .last .1 .0) (i .ensures .front) in
-    let s = rw n at (f .feed .ensures) in (
+    let e = front (g .got .result) (i .last .1 .0) (omega (arith, n, i .ensures .front)) in
+    let s = f .feed .ensures in (
       (
-        omega (arith, e, s, f .feed .kept, i .ensures .front, i .kept, p),
-        omega (arith, e, s, i .ensures .front, i .kept, p),
+        omega (arith, n, e, s, f .feed .kept, i .ensures .front, i .kept, p),
+        omega (arith, n, e, s, i .ensures .front, i .kept, p),
       ),
       omega (arith, p),
     )
@@ -56,7 +56,7 @@ returns c =
     let x = k .1 .0 .0 in
     let y = k .1 .0 .1 in
     let n = g .got .ensures in
-    let e = front (i .result .got) (i .last .1 .0) (i .ensures .front) in
+    let e = front (g .got .result) (i .last .1 .0) (omega (arith, n, i .ensures .front)) in
     let z : g .got .result - 0 ≡ i .result .got = omega (arith, n) in (
       k .0 .0 ∙ f .feed .ensures .0,
       (
