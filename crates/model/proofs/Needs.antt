@@ -45,9 +45,10 @@ pub supersedes-iff : (W d : ℕ) (v : Version) (q : Clock)
     → So (supersedes W d v q) ↔ So (held v) × Dominates W (v .past d) q
 unfolding supersedes
 supersedes-iff W d v q =
-    let row = dominates W (v .past d) q in (
-      λ s. (and-left (held v) row s, covers-standing W (v .past d) q .0 (and-right (held v) row s)),
-      λ h. and-intro (h .0) (covers-standing W (v .past d) q .1 (h .1)),
+    let row = dominates W (v .past d) q in
+    let covers = covers-standing W (v .past d) q in (
+      λ s. (and-left (held v) row s, covers .0 (and-right (held v) row s)),
+      λ h. and-intro (h .0) (covers .1 (h .1)),
     )
 
 -- A smaller need is met too.
