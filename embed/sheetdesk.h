@@ -137,11 +137,12 @@ uint32_t sheetdesk_drop(uint32_t *desk, size_t desk_len, uint32_t run, uint32_t 
 uint32_t sheetdesk_look(const uint32_t *desk, size_t desk_len, uint32_t place, uint32_t number,
                         uint32_t sheet, uint32_t *answer, size_t answer_len);
 
-/* How clock p stands against clock q. Returns an enum sheetdesk_standing. */
+/* How clock p stands against clock q. Returns an enum sheetdesk_standing; two empty clocks (both
+ * lengths 0) are equal. */
 uint32_t sheetdesk_compare(const uint32_t *p, size_t p_len, const uint32_t *q, size_t q_len);
 
 /* Whether clock p covers clock q: every count of p is at least that of q. Returns 1 or 0, and
- * 2 if the lengths differ or exceed 16. */
+ * 2 if the lengths differ or exceed 16; 1 for two empty clocks. */
 uint32_t sheetdesk_covers(const uint32_t *p, size_t p_len, const uint32_t *q, size_t q_len);
 
 /* Each count of the target becomes the larger of the two. Returns 1, or 0 with nothing changed
