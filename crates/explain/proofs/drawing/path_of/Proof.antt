@@ -11,7 +11,9 @@ use Rattle.explain.proofs.drawing.path_of.Tie as tie
 
 led-rows-requires : tie.Need-led-rows-requires
 unfolding RuleArea
-led-rows-requires c κs = c .before .pre .area
+led-rows-requires c κs =
+    let A = c .before .pre .area in
+    record { target-in = A .target-in; first-in = A .first-in; second-in = A .second-in }
 
 lacking-requires : tie.Need-lacking-requires
 lacking-requires c κs = search needs
