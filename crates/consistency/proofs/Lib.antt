@@ -1,4 +1,5 @@
 pub mod Rows
+pub mod Explaining
 pub mod Uses
 pub mod Excluded
 pub mod Simulation

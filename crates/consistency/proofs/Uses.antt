@@ -4,7 +4,7 @@
 -- Assumes nothing.
 use mathlib.Core.Path.{_≡_, refl, sym, ap, _∙_}
 use mathlib.Core.Bool.{false, So}
-use mathlib.Core.Logic.{_⊎_, inl, inr, ⊎-elim, _≢_}
+use mathlib.Core.Logic.{_↔_, _⊎_, inl, inr, ⊎-elim, _≢_}
 use mathlib.Core.List.{List, [], _∷_, _++_, append-nil}
 use Prim.Native.Nat.{ℕ, _≤_, _<_}
 use lib.Dec.{eqb}
@@ -15,9 +15,10 @@ use Rattle.clock.proofs.Standings.{standing-below, standing-self}
 use Rattle.sizes.specs.declared.Counts.{Counts}
 use Rattle.model.specs.Version.{held, dependency, supersedes, versions}
 use Rattle.model.specs.Store.{Run, Store, freeRun, planned}
-use Rattle.model.specs.Outcome.{refused, broken, done, freeState, openState}
+use Rattle.model.specs.Outcome.{refused, broken, done, answer, freeState, openState}
 use Rattle.model.specs.Look.{lookPlace, lookLimit, rowNumbers, lookStanding, lookNumbers}
-use Rattle.model.specs.Calls.{StoreCall, openRun, fetch, evict, step, dropRun, Query, ask}
+use Rattle.model.specs.Explain.{clearWord, pathWord, Answers}
+use Rattle.model.specs.Calls.{StoreCall, openRun, fetch, evict, step, dropRun, Query, explain, ask}
 use Rattle.model.proofs.Cuts.{causalCut-at, overlappingCut-within, overlappingCut-at}
 use Rattle.layout.specs.Reading.{storeOf}
 use Rattle.layout.specs.Buffer.{inForm}
@@ -28,6 +29,7 @@ use Rattle.consistency.specs.Trace.{ReadSet, Trace, start, follow}
 use Rattle.consistency.specs.Claim.{Among, Choice, isRefused, isBroken, HoldsAt, Consistent, Demand3}
 use Rattle.consistency.specs.Roles.{roleOf, isOn, opens, frees}
 use Rattle.consistency.specs.Lasting.{Lasting}
+use Rattle.consistency.proofs.Explaining.{path-broken, clear-ok}
 use Rattle.consistency.proofs.Rows.{after-append, follow-append, follow-buffer}
 
 -- ---- an outcome is refused, broken or done, and one of them alone
@@ -169,6 +171,25 @@ module _ (t : Trace) (H : HoldsAt t) where
   pub none-broken : (r j : ℕ) → isRefused (callOn (on (step r j)) (t .buffer)) ≡ false
       → ¬ (Choice s r j) → So (isBroken (callOn (on (step r j)) (t .buffer)))
   none-broken r j n g = H .breaks r j .exactly n .1 g
+
+  -- Explain of that job: where the step isn't refused, a path exactly if there is no choice,
+  pub path-none : (r j : ℕ) → isRefused (callOn (on (step r j)) (t .buffer)) ≡ false
+      → Answers (callOn (on (ask (explain r j))) (t .buffer)) pathWord ↔ ¬ (Choice s r j)
+  path-none r j n =
+      let p = path-broken (t .buffer) r j form in
+      let b = H .breaks r j .exactly n in
+      (λ a. b .0 (p .0 a), λ g. p .1 (b .1 g))
+
+  -- clear exactly if the step would be ok,
+  pub clear-exactly : (r j : ℕ)
+      → (answer (callOn (on (ask (explain r j))) (t .buffer)) ≡ clearWord ∷ [])
+      ↔ So (isOk (callOn (on (step r j)) (t .buffer)))
+  clear-exactly r j = clear-ok (t .buffer) r j form
+
+  -- and then a choice works.
+  pub clear-works : (r j : ℕ)
+      → answer (callOn (on (ask (explain r j))) (t .buffer)) ≡ clearWord ∷ [] → Choice s r j
+  clear-works r j e = H .breaks r j .works (clear-exactly r j .0 e)
 
 -- ---- lists
 

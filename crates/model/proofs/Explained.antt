@@ -9,7 +9,7 @@ use Prim.Native.Nat.{ℕ, _≤_}
 use native.Mathlib.Omega.{arith}
 use lib.Dec.{eqb}
 use lib.ListN.{length, getD, drop}
-use Rattle.words.specs.Tests.{Within, anyBelow}
+use Rattle.words.specs.Tests.{anyBelow}
 use Rattle.words.proofs.Bools.{clash, and-right, not-elim}
 use Rattle.masks.specs.Mask.{testBit, maskBelow}
 use Rattle.masks.proofs.Sets.{test-mask}
@@ -19,9 +19,11 @@ use Rattle.model.specs.Algebra.{lacking}
 use Rattle.model.specs.Version.{held}
 use Rattle.model.specs.Sets.{drawSet, pullSet}
 use Rattle.model.specs.Store.{Store}
+use Rattle.model.specs.Form.{runFormed}
 use Rattle.model.specs.Outcome.{Outcome, refused, broken, done, told, answer, unless, replied}
 use Rattle.model.specs.Step.{stepBranch, stepReads, stepPull, stepMoved, stepCause, stepBroken, stepDone, stepRule}
 use Rattle.model.specs.Explain.{clearWord, pathWord, explainStart, explainEdge, explainGoal, explainPath, breaks, explainReply, Answers, Explains}
+use Rattle.model.proofs.Plans.{plan-out}
 
 -- ---- the call beside the step
 
@@ -143,14 +145,15 @@ module _ (s : Store) (r j : ℕ) where
   unfolding explainPath
   explain-long = path-long K (explainEdge s r j) (explainGoal s r j) (explainStart s r j)
 
-  -- At least two, where what the run has read is on its card: a read of the job that the card
-  -- lacks isn't one of these.
-  pub explain-two : Within K (testBit (stepBranch s r j .read))
-      (λ k. held (stepBranch s r j .snapshot k)) → (l : List ℕ) → Shown l → 2 ≤ length l
+  -- At least two, where the run is in form: what it has read is on its card, and a read of the
+  -- job that the card lacks isn't one of these.
+  pub explain-two : 1 ≤ s .run r .state → So (runFormed (s .counts) (s .run r))
+      → (l : List ℕ) → Shown l → 2 ≤ length l
   unfolding explainStart explainGoal lacking Path Onward
-  explain-two h [] p = absurd (p .path)
-  explain-two h (t ∷ []) p =
+  explain-two u f [] p = absurd (p .path)
+  explain-two u f (t ∷ []) p =
       let a = stepReads s r j t in
       let b = held (stepBranch s r j .snapshot t) in
-      clash (h t (p .path .0) (p .path .2)) (not-elim (and-right a (not b) (p .path .1)))
-  explain-two h (t ∷ d ∷ l) p = omega arith
+      let has = plan-out (s .counts) (s .run r) u f .snapshot .has in
+      clash (has t (p .path .0) (p .path .2)) (not-elim (and-right a (not b) (p .path .1)))
+  explain-two u f (t ∷ d ∷ l) p = omega arith

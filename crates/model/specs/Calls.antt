@@ -1,4 +1,4 @@
--- The calls of document 01 with their arguments, and the rule of each on a store.
+-- The calls of documents 01 and 02 with their arguments, and the rule of each on a store.
 -- Query, replyOf: those that only answer. StoreCall, ruleOf: all on a store.
 -- New alone needs no store: crate layout has it, and the calls on a buffer.
 -- Assumes nothing.

@@ -8,3 +8,4 @@ pub mod PathExamples
 pub mod Rows
 pub mod Following
 pub mod Layers
+pub mod Items

@@ -36,7 +36,7 @@ Smaller [] m = ⊥
 Smaller (a ∷ l) [] = ⊥
 Smaller (a ∷ l) (b ∷ m) = (a < b) ⊎ ((a ≡ b) × Smaller l m)
 
--- "It is a shortest such path; of equally short ones, the smallest sheet by sheet."
+-- A shortest path; of equally short ones, the smallest item by item.
 pub record ShortestPath (n : ℕ) (edge : ℕ → Items) (start goal : Items) (l : List ℕ) : Type 0 where
   pub path : Path n edge start goal l
   pub shortest : (m : List ℕ) → Path n edge start goal m → length l ≤ length m
