@@ -55,8 +55,14 @@ pub record Computed : Type 0 where
       (fresh (countsOf 5 5 2 2)) ≡ explained.ends-answers
   pub shorter : explained.toldAfter explained.longer-before explained.longer-calls
       (fresh (countsOf 4 5 2 2)) ≡ explained.longer-answers
-  pub carried : explained.toldAfter explained.carried-before explained.carried-calls
-      (fresh (countsOf 4 5 2 2)) ≡ explained.carried-answers
+  pub met : explained.toldAfter explained.met-before explained.met-calls
+      (fresh (countsOf 3 4 2 2)) ≡ explained.met-answers
+  pub carried : explained.toldAfter
+      (explained.carried-before (0 ∷ 1 ∷ 0 ∷ 0 ∷ 8 ∷ 0 ∷ 1 ∷ 4 ∷ 0 ∷ 1 ∷ 2 ∷ 0 ∷ []))
+      explained.carried-calls (fresh (countsOf 4 5 2 2)) ≡ explained.carried-answers
+  pub old-read : explained.toldAfter
+      (explained.carried-before (0 ∷ 1 ∷ 0 ∷ 0 ∷ 8 ∷ 0 ∷ 1 ∷ 6 ∷ 0 ∷ []))
+      explained.old-read-calls (fresh (countsOf 4 5 2 2)) ≡ explained.old-read-answers
   pub refusing : answers explained.refusing-calls (fresh (countsOf 2 2 1 2))
       ≡ explained.refusing-answers
 
@@ -96,6 +102,8 @@ computed = record {
   unplanned = refl;
   ends = refl;
   shorter = refl;
+  met = refl;
   carried = refl;
+  old-read = refl;
   refusing = refl;
 }

@@ -1,5 +1,6 @@
 -- The call explain does what document 02 asks for, on every store.
--- explains: so. explain-two: a path has at least two keys. explain-long: at most all.
+-- explains: so. explains-refused: a refusal by the same one. explain-two: an answered path has at
+-- least two keys. explain-long: at most all.
 -- Assumes nothing.
 use mathlib.Core.Path.{_≡_, refl, sym, ap, _∙_}
 use mathlib.Core.Bool.{Bool, not, true, false, So, cond}
@@ -10,7 +11,7 @@ use native.Mathlib.Omega.{arith}
 use lib.Dec.{eqb}
 use lib.ListN.{length, getD, drop}
 use Rattle.words.specs.Tests.{anyBelow}
-use Rattle.words.proofs.Bools.{clash, and-right, not-elim}
+use Rattle.words.proofs.Bools.{test, clash, and-right, not-elim, eqb-eq, eqb-ne}
 use Rattle.masks.specs.Mask.{testBit, maskBelow}
 use Rattle.masks.proofs.Sets.{test-mask}
 use Rattle.reach.specs.Path.{Path, Onward, ShortestPath, lastOf}
@@ -19,11 +20,14 @@ use Rattle.model.specs.Algebra.{lacking}
 use Rattle.model.specs.Version.{held}
 use Rattle.model.specs.Sets.{drawSet, pullSet}
 use Rattle.model.specs.Store.{Store}
-use Rattle.model.specs.Form.{runFormed}
+use Rattle.model.specs.Form.{runFormed, wellFormed}
 use Rattle.model.specs.Outcome.{Outcome, refused, broken, done, told, answer, unless, replied}
 use Rattle.model.specs.Step.{stepBranch, stepReads, stepPull, stepMoved, stepCause, stepBroken, stepDone, stepRule}
-use Rattle.model.specs.Explain.{clearWord, pathWord, explainStart, explainEdge, explainGoal, explainPath, breaks, explainReply, Answers, Explains}
+use Rattle.model.specs.Explain.{clearWord, pathWord, explainStart, explainEdge, explainGoal, explainPath, breaks, explainReply, Answers, ExplainsOutcome, Explains}
+use Rattle.model.proofs.Outcomes.{replied-refused}
+use Rattle.model.proofs.Formed.{well-out}
 use Rattle.model.proofs.Plans.{plan-out}
+use Rattle.model.proofs.Steps.{accepted, accepted-used}
 
 -- ---- the call beside the step
 
@@ -128,32 +132,61 @@ module _ (s : Store) (r j : ℕ) where
       let e = path-last K (explainEdge s r j) (explainGoal s r j) (explainStart s r j) l p in
       test-mask K (stepMoved s r j) (lastOf l) (e .0) ∙ rw moved-reached (e .1)
 
-  pub explains : Explains s r j (replied (explainReply r j s))
-  explains = record {
-    clear = clear-exactly beside;
-    path = path-exactly beside;
-    shortest = λ l e. let p = path-is beside l e in rw (p .1) (path-shown (p .0));
-    ends = λ l m e f. let p = path-is beside l e in
-        rw (p .1, mask-is beside m f) (path-moved (explainPath s r j) (path-shown (p .0) .path));
-    refused = refused-exactly beside;
+  explains-both : {x y : Outcome} → Both x y → ExplainsOutcome s r j x y
+  explains-both q = record {
+    clear = clear-exactly q;
+    path = path-exactly q;
+    shortest = λ l e. let p = path-is q l e in rw (p .1) (path-shown (p .0));
+    ends = λ l m e f. let p = path-is q l e in
+        rw (p .1, mask-is q m f) (path-moved (explainPath s r j) (path-shown (p .0) .path));
+    refused = refused-exactly q;
   }
+
+  pub explains : Explains s r j (replied (explainReply r j s))
+  explains = explains-both beside
+
+  -- A refusal explains the same refusal.
+  pub explains-refused : (n : ℕ) → ExplainsOutcome s r j (refused n) (refused n)
+  explains-refused n = explains-both (turned n)
 
   -- ---- how long it is
 
+  -- This path is answered.
+  abbrev Told : List ℕ → Type 0
+  Told l = answer (replied (explainReply r j s)) ≡ pathWord ∷ l
+
   -- At most all keys.
-  pub explain-long : length (explainPath s r j) ≤ K
+  pub explain-long : (l : List ℕ) → Told l → length l ≤ K
   unfolding explainPath
-  explain-long = path-long K (explainEdge s r j) (explainGoal s r j) (explainStart s r j)
+  explain-long l e =
+      rw (path-is beside l e .1)
+      (path-long K (explainEdge s r j) (explainGoal s r j) (explainStart s r j))
 
   -- At least two, where the run is in form: what it has read is on its card, and a read of the
   -- job that the card lacks isn't one of these.
-  pub explain-two : 1 ≤ s .run r .state → So (runFormed (s .counts) (s .run r))
+  two-keys : 1 ≤ s .run r .state → So (runFormed (s .counts) (s .run r))
       → (l : List ℕ) → Shown l → 2 ≤ length l
   unfolding explainStart explainGoal lacking Path Onward
-  explain-two u f [] p = absurd (p .path)
-  explain-two u f (t ∷ []) p =
+  two-keys u f [] p = absurd (p .path)
+  two-keys u f (t ∷ []) p =
       let a = stepReads s r j t in
       let b = held (stepBranch s r j .snapshot t) in
       let has = plan-out (s .counts) (s .run r) u f .snapshot .has in
       clash (has t (p .path .0) (p .path .2)) (not-elim (and-right a (not b) (p .path .1)))
-  explain-two u f (t ∷ d ∷ l) p = omega arith
+  two-keys u f (t ∷ d ∷ l) p = omega arith
+
+  -- A path is answered only where the step isn't refused.
+  path-taken : (l : List ℕ) → Told l → stepCause s r j ≡ 0
+  unfolding answer explainReply
+  path-taken l e = test (eqb (stepCause s r j) 0) (λ y. eqb-eq _ 0 y)
+      (λ y. absurd (omega (
+        arith,
+        first
+            (ap answer (sym (replied-refused (explainReply r j s) (eqb-ne _ 0 y))) ∙ e),
+      )))
+
+  -- A path that is answered on a store in form has at least two keys.
+  pub explain-two : So (wellFormed s) → (l : List ℕ) → Told l → 2 ≤ length l
+  explain-two f l e =
+      let a = accepted s r j (path-taken l e) in
+      two-keys (accepted-used a) (well-out s f .run r (a .run-in)) l (explains .shortest l e)

@@ -79,12 +79,26 @@ longer-calls = ask (explain 0 1) ∷ []
 abbrev pub longer-answers : List (List ℕ)
 longer-answers = path (3 ∷ 0 ∷ []) ∷ []
 
+-- ---- after `new 3 4 2 2`: 2 needs 1 and the 0 that was read; that need is met, so 2 0 is no path
+
+abbrev pub met-before : List StoreCall
+met-before =
+    save 1 0 1 ++ openRun 0 (0 ∷ 1 ∷ 0 ∷ 1 ∷ 4 ∷ 0 ∷ 1 ∷ 2 ∷ 0 ∷ []) ∷ step 0 0
+    ∷ (save 1 1 2 ++ edit 1 0 3 2 4 ++ edit 1 0 1 3 3)
+
+abbrev pub met-calls : List StoreCall
+met-calls = ask (explain 0 1) ∷ step 0 1 ∷ []
+
+abbrev pub met-answers : List (List ℕ)
+met-answers = path (2 ∷ 1 ∷ 0 ∷ []) ∷ broke 1 ∷ []
+
 -- ---- after `new 4 5 2 2`: through a key that is carried, unread and too old
 
-abbrev pub carried-before : List StoreCall
-carried-before =
+-- After jobs 0 and 1 of the list.
+abbrev pub carried-before : List ℕ → List StoreCall
+carried-before jobs =
     save 1 0 1 ++ save 1 1 2 ++ edit 1 0 2 2 8
-    ++ openRun 0 (0 ∷ 1 ∷ 0 ∷ 0 ∷ 8 ∷ 0 ∷ 1 ∷ 4 ∷ 0 ∷ 1 ∷ 2 ∷ 0 ∷ []) ∷ step 0 0 ∷ step 0 1
+    ++ openRun 0 jobs ∷ step 0 0 ∷ step 0 1
     ∷ (save 1 1 2 ++ edit 1 1 2 3 4 ++ edit 1 0 1 4 3 ++ fetch 1 1 ∷ [])
 
 abbrev pub carried-calls : List StoreCall
@@ -92,6 +106,13 @@ carried-calls = ask (explain 0 2) ∷ ask (explain 0 3) ∷ step 0 3 ∷ []
 
 abbrev pub carried-answers : List (List ℕ)
 carried-answers = path (2 ∷ 1 ∷ 0 ∷ []) ∷ clear ∷ ok₃ 2 0 0 ∷ []
+
+-- Where job 2 reads that key too, it isn't the first: the card doesn't lack it.
+abbrev pub old-read-calls : List StoreCall
+old-read-calls = ask (explain 0 2) ∷ step 0 2 ∷ []
+
+abbrev pub old-read-answers : List (List ℕ)
+old-read-answers = path (2 ∷ 1 ∷ 0 ∷ []) ∷ broke 1 ∷ []
 
 -- ---- after `new 2 2 1 2`: what step refuses, by the same numbers
 

@@ -45,6 +45,15 @@ module _ (n : ℕ) (edge : ℕ → Items) (goal : Items) where
   length-pathBy (suc m) start =
       ap (λ (i : ℕ). suc i) (length-pathBy m (edge (nearest n edge goal (suc m) start)))
 
+  -- No path of m edges begins lower than the nearest item.
+  first-least : (m : ℕ) (start : Items) (t : ℕ) (l : List ℕ) → Path n edge start goal (t ∷ l)
+      → length l ≡ m → ¬ (t < nearest n edge goal m start)
+  unfolding Path nearest
+  first-least m start t l p e h =
+      let q : So (meets n edge goal m start t) = rw (← e) (path-near start t l p) in
+      let r = lowest-first n (meets n edge goal m start) t (p .0) q in
+      omega (arith, r)
+
   -- The nearest item is one of start, and m edges away.
   pub nearest-meets : (m : ℕ) (start : Items) → So (anyBelow n (meets n edge goal m start))
       → let t = nearest n edge goal m start in (t < n) × So (meets n edge goal m start t)
@@ -70,16 +79,7 @@ module _ (n : ℕ) (edge : ℕ → Items) (goal : Items) where
         go-on t (pathBy n edge goal m (edge t)) (pathBy-path m (edge t) (and-right a b (r .1))),
       )
 
-  -- No path of its length begins lower,
-  first-least : (m : ℕ) (start : Items) (t : ℕ) (l : List ℕ) → Path n edge start goal (t ∷ l)
-      → length l ≡ m → ¬ (t < nearest n edge goal m start)
-  unfolding Path nearest
-  first-least m start t l p e h =
-      let q : So (meets n edge goal m start t) = rw (← e) (path-near start t l p) in
-      let r = lowest-first n (meets n edge goal m start) t (p .0) q in
-      omega (arith, r)
-
-  -- and none is smaller.
+  -- No path of its length is smaller.
   pub pathBy-least : (m : ℕ) (start : Items) (t : ℕ) (l : List ℕ)
       → Path n edge start goal (t ∷ l) → length l ≡ m
       → ¬ Smaller (t ∷ l) (pathBy n edge goal m start)

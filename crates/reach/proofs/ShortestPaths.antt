@@ -1,6 +1,6 @@
--- The computed list is the shortest path, the smallest of these, and there is no other.
+-- The computed list is the shortest path, the smallest of these.
 -- path-some: there is a path exactly if the least set of the start meets the goal. path-last: the
--- last item of a path. path-shortest, -none, -long, -unique: the computed one.
+-- last item of a path. path-shortest, -none, -long: the computed one.
 -- Assumes nothing.
 use mathlib.Core.Path.{_≡_}
 use mathlib.Core.Bool.{false, _&&_, So}
