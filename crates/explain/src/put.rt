@@ -9,6 +9,7 @@ ghost use Prim.Native.Nat.{_≤_};
 ghost use lib.ListN.{length, getD};
 ghost use Rattle.words.specs.Lists.{window};
 ghost use Rattle.words.specs.Words.{put};
+ghost use Rattle.model.specs.Explain.{pathWord};
 ghost use Rattle.answers.specs.Answers.{answerRoom, Lays};
 ghost use Rattle.explain.specs.Answers.{explainedWords, Listed};
 
@@ -30,7 +31,7 @@ fn put_keys(answer: &mut [u32], keys: &[u32], n: usize)
 fn put_path(answer: &mut [u32], keys: &[u32], n: usize) -> usize
     requires { ⌜ (n ≤ length (now keys)) × (n ≤ 32) ⌝ }
     requires { ⌜ answerRoom ≤ length (now answer) ⌝ }
-    ensures { λ r. ⌜ Lays (4 ∷ window (now (keys .entry)) 0 n)
+    ensures { λ r. ⌜ Lays (pathWord ∷ window (now (keys .entry)) 0 n)
         (now (answer .entry)) (now (answer .exit)) r ⌝ }
 {
     let one = put_one(answer, 4);

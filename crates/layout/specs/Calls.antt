@@ -1,4 +1,4 @@
--- The nine calls on a buffer of words: outcome and buffer after it, for any buffer and any
+-- The ten calls on a buffer of words: outcome and buffer after it, for any buffer and any
 -- numbers.
 -- Call, callOn, leaves; after: a list of calls.
 -- Assumes nothing.

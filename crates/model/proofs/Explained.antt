@@ -1,5 +1,6 @@
 -- The call explain does what document 02 asks for, on every store.
--- explains: so. explain-two: an answered path has at least two keys. explain-long: at most all.
+-- explains: so. explains-refused: a refusal by the same one. explain-two: an answered path has at
+-- least two keys. explain-long: at most all.
 -- Assumes nothing.
 use mathlib.Core.Path.{_≡_, refl, sym, ap, _∙_}
 use mathlib.Core.Bool.{Bool, not, true, false, So, cond}
@@ -22,7 +23,7 @@ use Rattle.model.specs.Store.{Store}
 use Rattle.model.specs.Form.{runFormed, wellFormed}
 use Rattle.model.specs.Outcome.{Outcome, refused, broken, done, told, answer, unless, replied}
 use Rattle.model.specs.Step.{stepBranch, stepReads, stepPull, stepMoved, stepCause, stepBroken, stepDone, stepRule}
-use Rattle.model.specs.Explain.{clearWord, pathWord, explainStart, explainEdge, explainGoal, explainPath, breaks, explainReply, Answers, Explains}
+use Rattle.model.specs.Explain.{clearWord, pathWord, explainStart, explainEdge, explainGoal, explainPath, breaks, explainReply, Answers, ExplainsOutcome, Explains}
 use Rattle.model.proofs.Outcomes.{replied-refused}
 use Rattle.model.proofs.Formed.{well-out}
 use Rattle.model.proofs.Plans.{plan-out}
@@ -131,15 +132,22 @@ module _ (s : Store) (r j : ℕ) where
       let e = path-last K (explainEdge s r j) (explainGoal s r j) (explainStart s r j) l p in
       test-mask K (stepMoved s r j) (lastOf l) (e .0) ∙ rw moved-reached (e .1)
 
-  pub explains : Explains s r j (replied (explainReply r j s))
-  explains = record {
-    clear = clear-exactly beside;
-    path = path-exactly beside;
-    shortest = λ l e. let p = path-is beside l e in rw (p .1) (path-shown (p .0));
-    ends = λ l m e f. let p = path-is beside l e in
-        rw (p .1, mask-is beside m f) (path-moved (explainPath s r j) (path-shown (p .0) .path));
-    refused = refused-exactly beside;
+  explains-both : {x y : Outcome} → Both x y → ExplainsOutcome s r j x y
+  explains-both q = record {
+    clear = clear-exactly q;
+    path = path-exactly q;
+    shortest = λ l e. let p = path-is q l e in rw (p .1) (path-shown (p .0));
+    ends = λ l m e f. let p = path-is q l e in
+        rw (p .1, mask-is q m f) (path-moved (explainPath s r j) (path-shown (p .0) .path));
+    refused = refused-exactly q;
   }
+
+  pub explains : Explains s r j (replied (explainReply r j s))
+  explains = explains-both beside
+
+  -- A refusal explains the same refusal.
+  pub explains-refused : (n : ℕ) → ExplainsOutcome s r j (refused n) (refused n)
+  explains-refused n = explains-both (turned n)
 
   -- ---- how long it is
 

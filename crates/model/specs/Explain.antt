@@ -1,7 +1,7 @@
 -- Explain: what a step of a job would draw into the snapshot ("card") such that its run breaks,
 -- found without stepping it.
 -- explainStart, -Edge, -Goal: of which a path is made. explainPath: the path. explainReply: the
--- call. Explains: what the call is for.
+-- call. Explains: what the call is for; ExplainsOutcome: for any outcome of the step.
 -- Assumes nothing.
 use mathlib.Core.Path.{_≡_}
 use mathlib.Core.Bool.{Bool, So, cond}
@@ -66,18 +66,22 @@ explainReply r j s = record {
 abbrev pub Answers : Outcome → ℕ → Type 0
 Answers x w = (l : List ℕ) × (answer x ≡ w ∷ l)
 
--- An outcome that explains the step of job j of run r.
-pub record Explains (s : Store) (r j : ℕ) (x : Outcome) : Type 0 where
+-- An outcome x explains an outcome y of the step of job j of run r.
+pub record ExplainsOutcome (s : Store) (r j : ℕ) (x y : Outcome) : Type 0 where
   -- "The answer is "clear" exactly if the step would be answered `ok`."
-  pub clear : (answer x ≡ clearWord ∷ []) ↔ Answers (stepRule r j s) 0
+  pub clear : (answer x ≡ clearWord ∷ []) ↔ Answers y 0
   -- "If the job would break, it gives a path",
-  pub path : Answers x pathWord ↔ Answers (stepRule r j s) 1
+  pub path : Answers x pathWord ↔ Answers y 1
   -- "a shortest such path; of equally short ones, the smallest sheet by sheet"
   pub shortest : (l : List ℕ) → answer x ≡ pathWord ∷ l
       → ShortestPath (s .counts .keys) (explainEdge s r j) (explainStart s r j)
       (explainGoal s r j) l
   -- Its last sheet is one of those with which the step breaks.
-  pub ends : (l : List ℕ) (m : ℕ) → answer x ≡ pathWord ∷ l → answer (stepRule r j s) ≡ 1 ∷ m ∷ []
+  pub ends : (l : List ℕ) (m : ℕ) → answer x ≡ pathWord ∷ l → answer y ≡ 1 ∷ m ∷ []
       → So (testBit m (lastOf l))
   -- "It turns down what step does, by the same numbers",
-  pub refused : (n : ℕ) → (answer x ≡ 2 ∷ n ∷ []) ↔ (answer (stepRule r j s) ≡ 2 ∷ n ∷ [])
+  pub refused : (n : ℕ) → (answer x ≡ 2 ∷ n ∷ []) ↔ (answer y ≡ 2 ∷ n ∷ [])
+
+-- It explains what the step comes to.
+abbrev pub Explains : Store → ℕ → ℕ → Outcome → Type 0
+Explains s r j x = ExplainsOutcome s r j x (stepRule r j s)
