@@ -11,6 +11,7 @@ use lib.Seq.{sets}
 use Rattle.words.specs.Lists.{window}
 use Rattle.words.proofs.Lists.{length-window}
 use Rattle.words.proofs.Words.{put-same}
+use Rattle.model.specs.Explain.{pathWord}
 use Rattle.layout.proofs.Merges.{put-window}
 use Rattle.answers.proofs.Fronts.{over-more}
 use Rattle.explain.proofs.put.put_path.Statement.{statement}
@@ -43,7 +44,7 @@ returns c =
           (λ i _. ap (λ (k : ℕ). getD (a .keys .now) k 0) (sym (zero-add i)))
           ∙ put-window (t .last .0) (a .keys .now) 1 0 (a .n)
           ∙ ap (λ (l : List ℕ). sets l 1 keys) (t .ensures .laid)
-          ∙ over-more (4 ∷ []) keys (a .answer .now)
+          ∙ over-more (pathWord ∷ []) keys (a .answer .now)
           (omega (arith, long, s .pre .0 .1, s .pre .1));
       count = rw (t .ensures .count) (omega (arith, long));
     }
