@@ -1,7 +1,7 @@
 #!/usr/bin/env python3
 """How the sources must look: lines under 100 columns (use lists aside), files of up to 250 lines (300 where the prover
-asks for the answers of one function in one file), definitions without proofs; and that each must-fail edit still fits
-the file that it edits. Prints what is wrong and exits 1, or prints nothing."""
+asks for the answers of one function in one file), definitions without proofs; and that each must-fail edit, and each
+fault that tests/faults.sh plants, still fits its file. Prints what is wrong and exits 1, or prints nothing."""
 import glob
 import os
 import re
@@ -55,10 +55,25 @@ def misfits(path):
         yield "%s: it replaces nothing" % path
 
 
+def strays(path, folder):
+    """Faults of a list of tests/faults/ whose text doesn't stand on one line of its file alone."""
+    with open(path, encoding="utf-8") as source:
+        blocks = source.read().strip().split("\n\n")
+    for number, block in enumerate(blocks, 1):
+        said = dict(line.split(": ", 1) for line in block.split("\n")[1:] if ": " in line)
+        file = os.path.join(folder, said.get("file", ""))
+        lines = open(file, encoding="utf-8").read().split("\n") if os.path.isfile(file) else []
+        count = sum(said.get("old", "\n") in line for line in lines)
+        if count != 1:
+            yield "%s: fault %d stands on %d lines of %s" % (path, number, count, file)
+
+
 def main():
     paths = sorted(glob.glob("crates/**/*.antt", recursive=True) + glob.glob("crates/**/*.rt", recursive=True))
     edits = sorted(glob.glob("crates/*/must-fail/*.edit"))
     found = [fault for path in paths for fault in faults(path)] + [fault for path in edits for fault in misfits(path)]
+    found += strays("tests/faults/program.txt", "")
+    found += strays("tests/faults/library.txt", "reference")
     for fault in found:
         print(fault)
     return 1 if found else 0
