@@ -1,4 +1,4 @@
-//! What each of the nine calls costs: the static library against the reference, on the same
+//! What each of the ten calls costs: the static library against the reference, on the same
 //! desks, in one run, in turns.
 //!
 //! `calls`: a row for each call and size: median nanoseconds of both, and the ratio's least,
@@ -61,7 +61,7 @@ fn growth() {
     println!("| Call | Count | Values | Library ns | Reference ns |");
     println!("|---|---|---|---|---|");
     let steps = [[4, 8, 16, 32], [2, 4, 8, 16], [1, 2, 4, 8], [1, 2, 4, 8]];
-    let names = ["new", "open", "fetch", "evict", "prepare", "step", "issue", "drop", "look"];
+    let names = ["new", "open", "fetch", "evict", "prepare", "step", "explain", "issue", "drop", "look"];
     for (call, name) in names.iter().enumerate() {
         for (count, values) in steps.iter().enumerate() {
             let costs = values.map(|value| {
@@ -83,6 +83,7 @@ fn growth() {
 /// One call on each side for each case; the names of the cases in order.
 fn count(sizes: [u32; 4]) {
     for case in desks::cases(sizes) {
+        rounds::check(&case);
         let (mut mine, mut theirs) = (case.words.clone(), case.words.clone());
         let mut answer = [0; 40];
         counted_library(&mut mine, &case.call, &mut answer);

@@ -1,4 +1,5 @@
-/* Case A of the specification through the C header; ends with 1 if an answer is not as written. */
+/* Case A of the specification and an explained break through the C header; ends with 1 if an
+ * answer is not as written. */
 #include <stdio.h>
 #include <string.h>
 
@@ -72,10 +73,34 @@ static void besides(void)
     wrong |= sheetdesk_covers(target, 2, source, 2) != 1;
 }
 
+/* A run has read sheet 0, both sheets are saved together, and its next job reads sheet 1. */
+static void explained(void)
+{
+    static uint32_t other[SHEETDESK_WORDS(2, 2, 2, 2)];
+    static const uint32_t empty[] = {0, 0, 0};
+    static const uint32_t two[] = {0, 1, 0, 1, 2, 0};
+
+    sheetdesk_new(other, LEN(other), 2, 2, 2, 2, ANSWER);
+    sheetdesk_open(other, LEN(other), 1, empty, LEN(empty), ANSWER);
+    sheetdesk_step(other, LEN(other), 1, 0, ANSWER);
+    sheetdesk_issue(other, LEN(other), 1, 0, 1, ANSWER);
+    sheetdesk_open(other, LEN(other), 0, two, LEN(two), ANSWER);
+    DUE("explain 0 0", sheetdesk_explain(other, LEN(other), 0, 0, ANSWER), SHEETDESK_CLEAR);
+    sheetdesk_step(other, LEN(other), 0, 0, ANSWER);
+    sheetdesk_open(other, LEN(other), 1, empty, LEN(empty), ANSWER);
+    sheetdesk_step(other, LEN(other), 1, 0, ANSWER);
+    sheetdesk_issue(other, LEN(other), 1, 0, 3, ANSWER);
+    DUE("explain 0 1", sheetdesk_explain(other, LEN(other), 0, 1, ANSWER), SHEETDESK_PATH, 1, 0);
+    DUE("step 0 1", sheetdesk_step(other, LEN(other), 0, 1, ANSWER), SHEETDESK_BROKEN, 1);
+    DUE("explain 0 1", sheetdesk_explain(other, LEN(other), 0, 1, ANSWER), SHEETDESK_REFUSED,
+        SHEETDESK_WRONG_STATE);
+}
+
 int main(void)
 {
     case_a();
     besides();
+    explained();
     puts(wrong ? "example.c: wrong answers" : "example.c: case A answered as written");
     return wrong;
 }

@@ -1,4 +1,4 @@
-"""Case A of the specification through the Python module; ends with 1 if an answer is not as written."""
+"""Case A of the specification and an explained break through the Python module; ends with 1 if an answer is not as written."""
 import sys
 
 import sheetdesk
@@ -31,6 +31,25 @@ def case_a(desk):
     ]
 
 
+def explained(desk):
+    """A run has read sheet 0, both sheets are saved together, and its next job reads sheet 1."""
+    return [
+        (desk.new(2, 2, 2, 2), "ok 126"),
+        (desk.open(1, [Job(0, 0, 0)]), "ok 1"),
+        (desk.step(1, 0), "ok 0 0 0"),
+        (desk.issue(1, 0, 1), "ok 1"),
+        (desk.open(0, [Job(0, 1, 0), Job(1, 2, 0)]), "ok 2"),
+        (desk.explain(0, 0), "clear"),
+        (desk.step(0, 0), "ok 0 0 1"),
+        (desk.open(1, [Job(0, 0, 0)]), "ok 1"),
+        (desk.step(1, 0), "ok 0 0 0"),
+        (desk.issue(1, 0, 3), "ok 2"),
+        (desk.explain(0, 1), "path 1 0"),
+        (desk.step(0, 1), "broken 1"),
+        (desk.explain(0, 1), "refused 4"),
+    ]
+
+
 def refuses(error, call, *arguments):
     """Whether the module refuses the arguments itself."""
     try:
@@ -43,7 +62,7 @@ def refuses(error, call, *arguments):
 def main():
     desk = Desk(words(2, 2, 2, 1))
     good = desk.look(MASTER, 0).refusal is Refusal.NOT_IN_FORM
-    for answer, due in case_a(desk):
+    for answer, due in case_a(desk) + explained(Desk(words(2, 2, 2, 2))):
         if str(answer) != due:
             print("wrong: %s for %s" % (answer, due))
             good = False

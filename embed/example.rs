@@ -1,5 +1,5 @@
-//! Case A of the specification through the Rust wrapper; ends with 1 if an answer is not as
-//! written.
+//! Case A of the specification and an explained break through the Rust wrapper; ends with 1 if an
+//! answer is not as written.
 
 mod sheetdesk;
 
@@ -35,6 +35,25 @@ fn case_a(desk: &mut Desk) -> Vec<(Answer, &'static str)> {
     ]
 }
 
+/// A run has read sheet 0, both sheets are saved together, and its next job reads sheet 1.
+fn explained(desk: &mut Desk) -> Vec<(Answer, &'static str)> {
+    vec![
+        (desk.new(2, 2, 2, 2), "ok 126"),
+        (desk.open(1, &[job(0, 0, 0)]), "ok 1"),
+        (desk.step(1, 0), "ok 0 0 0"),
+        (desk.issue(1, 0, 1), "ok 1"),
+        (desk.open(0, &[job(0, 1, 0), job(1, 2, 0)]), "ok 2"),
+        (desk.explain(0, 0), "clear"),
+        (desk.step(0, 0), "ok 0 0 1"),
+        (desk.open(1, &[job(0, 0, 0)]), "ok 1"),
+        (desk.step(1, 0), "ok 0 0 0"),
+        (desk.issue(1, 0, 3), "ok 2"),
+        (desk.explain(0, 1), "path 1 0"),
+        (desk.step(0, 1), "broken 1"),
+        (desk.explain(0, 1), "refused 4"),
+    ]
+}
+
 /// Rows (2,0) and (1,3) are rivals, and their merge is (2,3), which is newer than (1,3).
 fn clocks() -> bool {
     let mut target = [2, 0];
@@ -49,19 +68,27 @@ fn clocks() -> bool {
         && covers(&target, &[1, 3]) == Some(true)
 }
 
-fn main() {
-    let mut lent = [0; words(2, 2, 2, 1)];
-    let mut desk = Desk::lend(&mut lent);
-    let mut good = clocks();
-    good &= desk.look(Place::Master, 0) == Answer::Refused(Refusal::NotInForm);
-    for (answer, due) in case_a(&mut desk) {
+/// Whether each answer is as written behind it.
+fn as_written(answers: Vec<(Answer, &'static str)>) -> bool {
+    let mut good = true;
+    for (answer, due) in answers {
         let given = answer.to_string();
         if given != due {
             println!("wrong: {given} for {due}");
             good = false;
         }
     }
+    good
+}
+
+fn main() {
+    let mut lent = [0; words(2, 2, 2, 1)];
+    let mut desk = Desk::lend(&mut lent);
+    let mut good = clocks();
+    good &= desk.look(Place::Master, 0) == Answer::Refused(Refusal::NotInForm);
+    good &= as_written(case_a(&mut desk));
     good &= desk.look(Place::Master, 1).standing() == Some(Standing::Equal);
+    good &= as_written(explained(&mut Desk::lend(&mut [0; words(2, 2, 2, 2)])));
     println!("example.rs: {}", if good { "case A answered as written" } else { "wrong answers" });
     std::process::exit(if good { 0 } else { 1 });
 }

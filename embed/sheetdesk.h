@@ -1,4 +1,4 @@
-/* The sheet desk for C: its nine calls over one lent buffer of 32-bit words, and three calls on
+/* The sheet desk for C: its ten calls over one lent buffer of 32-bit words, and three calls on
  * clocks. Link with -lsheetdesk_c, the static library or the shared one (x86-64 Linux); README.md
  * shows the lines.
  *
@@ -9,16 +9,17 @@
  *
  * Whose memory it is: the caller owns both buffers, desk and answer, always; a call borrows them
  * and keeps no pointer. During a call nobody else may write the desk, and nobody may read it
- * unless all calls on it are ones that only answer (those whose desk is const: look). Calls on
- * different buffers may run at the same time. The words hold no pointer: they may be copied,
- * moved, and saved to a file, SHEETDESK_WORDS of them, in the machine's byte order (little-endian
- * on x86-64; swap the bytes of each word elsewhere). Nothing in the words says which layout they
- * have, so save SHEETDESK_LAYOUT with them. Whoever lends words of another layout gets a refusal,
- * SHEETDESK_NOT_IN_FORM, from every call but new, for their offsets and total don't follow from
- * their counts; no word is changed.
+ * unless all calls on it are ones that only answer (those whose desk is const: look, explain).
+ * Calls on different buffers may run at the same time. The words hold no pointer: they may be
+ * copied, moved, and saved to a file, SHEETDESK_WORDS of them, in the machine's byte order
+ * (little-endian on x86-64; swap the bytes of each word elsewhere). Nothing in the words says
+ * which layout they have, so save SHEETDESK_LAYOUT with them. Whoever lends words of another
+ * layout gets a refusal, SHEETDESK_NOT_IN_FORM, from every call but new, for their offsets and
+ * total don't follow from their counts; no word is changed.
  *
  * Every call writes its answer's words and returns how many it wrote:
- *   0 and the answer's numbers (ok), 1 and a mask (broken, step alone), 2 and a number (refused).
+ *   0 and the answer's numbers (ok), 1 and a mask (broken, step alone), 2 and a number (refused),
+ *   3 (clear) or 4 and sheets (path), explain alone.
  * An answer_len below SHEETDESK_ANSWER_WORDS returns 0, and nothing is changed. Words of the
  * answer's slice behind the written ones stay as they were. A refused call leaves every word of
  * the desk; words past the desk's total are never touched.
@@ -36,7 +37,7 @@ extern "C" {
 #endif
 
 /* The version of the calls: rises when one is added or changes what it takes, does or answers. */
-#define SHEETDESK_VERSION 2
+#define SHEETDESK_VERSION 3
 /* The version of the desk's words: rises when a desk of the same counts has other words. */
 #define SHEETDESK_LAYOUT 1
 /* The same two of the library that is linked: compare them with these. */
@@ -63,7 +64,9 @@ uint32_t sheetdesk_layout(void);
 enum sheetdesk_outcome {
     SHEETDESK_OK = 0,
     SHEETDESK_BROKEN = 1,
-    SHEETDESK_REFUSED = 2
+    SHEETDESK_REFUSED = 2,
+    SHEETDESK_CLEAR = 3,
+    SHEETDESK_PATH = 4
 };
 
 /* The second word of a refusal. */
@@ -120,6 +123,15 @@ uint32_t sheetdesk_prepare(uint32_t *desk, size_t desk_len, uint32_t run, uint32
  * mask of the sheets that the run had read otherwise; returns 2 words. */
 uint32_t sheetdesk_step(uint32_t *desk, size_t desk_len, uint32_t run, uint32_t job,
                         uint32_t *answer, size_t answer_len);
+
+/* Explains what a step of the job would come to. Clear: it would be ok; returns 1 word. Path: it
+ * would break the run, by these sheets, up to 32: the first is a read of the job that the card
+ * lacks; each next one is needed by the version before it, as the step would find it on the
+ * shelf; the last was read already. A shortest such path; of equally short ones the smallest,
+ * sheet by sheet. Returns 1 word more than it has sheets. Refused as step is: 2 words. Changes
+ * nothing. */
+uint32_t sheetdesk_explain(const uint32_t *desk, size_t desk_len, uint32_t run, uint32_t job,
+                           uint32_t *answer, size_t answer_len);
 
 /* Issues the sheets of the mask by a writer, when all jobs of the run are done, and frees the
  * run. Ok: the issue number, or 0 for an empty mask. Returns 2 words. */

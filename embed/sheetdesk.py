@@ -16,7 +16,7 @@ import enum
 import os
 from typing import NamedTuple
 
-VERSION = 2
+VERSION = 3
 LAYOUT = 1
 ANSWER_WORDS = 40
 MOST_WORDS = 287514
@@ -47,7 +47,7 @@ class Standing(enum.IntEnum):
 
 
 class Answer(NamedTuple):
-    """What a call gives back: outcome "ok", "broken" or "refused", and its numbers."""
+    """What a call gives back: outcome "ok", "broken" or "refused", of explain "clear" or "path"; and its numbers."""
 
     outcome: str
     numbers: tuple
@@ -78,6 +78,9 @@ class Job(NamedTuple):
 
 
 MASTER = (0, 0)
+
+# By an answer's first word.
+_OUTCOMES = ("ok", "broken", "refused", "clear", "path")
 
 
 def shelf(office):
@@ -117,7 +120,7 @@ def _library():
     places = [os.path.join(here, "..", "..", "lib", name), os.path.join(here, "..", "target", "shared", name)]
     path = os.environ.get("SHEETDESK_LIBRARY") or next(filter(os.path.exists, places), name)
     library = ctypes.CDLL(path)
-    for call in "new open fetch evict prepare step issue drop look compare covers merge version layout".split():
+    for call in "new open fetch evict prepare step explain issue drop look compare covers merge version layout".split():
         getattr(library, "sheetdesk_" + call).restype = ctypes.c_uint32
     if (library.sheetdesk_version(), library.sheetdesk_layout()) != (VERSION, LAYOUT):
         raise ImportError("%s has other calls or another layout than this module" % path)
@@ -142,7 +145,7 @@ class Desk:
         checked = [a if isinstance(a, (ctypes.Array, ctypes.c_size_t)) else ctypes.c_uint32(_word(a)) for a in arguments]
         call = getattr(_calls, "sheetdesk_" + name)
         count = call(self._words, self._len, *checked, answer, ctypes.c_size_t(ANSWER_WORDS))
-        return Answer(("ok", "broken", "refused")[answer[0]], tuple(answer[1:count]))
+        return Answer(_OUTCOMES[answer[0]], tuple(answer[1:count]))
 
     def new(self, sheets, writers, offices, runs):
         return self._call("new", sheets, writers, offices, runs)
@@ -161,6 +164,10 @@ class Desk:
 
     def step(self, run, job):
         return self._call("step", run, job)
+
+    def explain(self, run, job):
+        """What a step of the job would come to: clear, or the path behind the break."""
+        return self._call("explain", run, job)
 
     def issue(self, run, writer, mask):
         return self._call("issue", run, writer, mask)

@@ -9,7 +9,7 @@
 use std::fmt;
 
 /// The version of the calls: `SHEETDESK_VERSION` of the header.
-pub const VERSION: u32 = 2;
+pub const VERSION: u32 = 3;
 
 /// The version of the desk's words: `SHEETDESK_LAYOUT` of the header. Save it with the words.
 pub const LAYOUT: u32 = 1;
@@ -68,6 +68,10 @@ pub mod exports {
             desk: *const u32, desk_len: usize, place: u32, number: u32, sheet: u32,
             answer: *mut u32, answer_len: usize,
         ) -> u32;
+        pub fn sheetdesk_explain(
+            desk: *const u32, desk_len: usize, run: u32, job: u32,
+            answer: *mut u32, answer_len: usize,
+        ) -> u32;
         pub fn sheetdesk_compare(p: *const u32, p_len: usize, q: *const u32, q_len: usize) -> u32;
         pub fn sheetdesk_covers(p: *const u32, p_len: usize, q: *const u32, q_len: usize) -> u32;
         pub fn sheetdesk_merge(
@@ -102,6 +106,10 @@ pub enum Answer {
     Broken(u32),
     /// Nothing was changed; why.
     Refused(Refusal),
+    /// Explain alone: the step would be ok.
+    Clear,
+    /// Explain alone: the step would break the run, by these sheets.
+    Path(Numbers),
 }
 
 /// Why a call is refused, by the header's names.
@@ -174,18 +182,32 @@ impl Answer {
             _ => None,
         }
     }
+
+    /// The sheets of a path, from the first on.
+    pub fn path(&self) -> Option<&[u32]> {
+        match self {
+            Answer::Path(sheets) => Some(sheets.as_slice()),
+            _ => None,
+        }
+    }
+}
+
+/// Each number behind a space.
+impl fmt::Display for Numbers {
+    fn fmt(&self, out: &mut fmt::Formatter) -> fmt::Result {
+        self.as_slice().iter().try_for_each(|number| write!(out, " {number}"))
+    }
 }
 
 /// The line that the program prints.
 impl fmt::Display for Answer {
     fn fmt(&self, out: &mut fmt::Formatter) -> fmt::Result {
         match self {
-            Answer::Ok(numbers) => {
-                out.write_str("ok")?;
-                numbers.as_slice().iter().try_for_each(|number| write!(out, " {number}"))
-            }
+            Answer::Ok(numbers) => write!(out, "ok{numbers}"),
             Answer::Broken(mask) => write!(out, "broken {mask}"),
             Answer::Refused(refusal) => write!(out, "refused {}", refusal.number()),
+            Answer::Clear => out.write_str("clear"),
+            Answer::Path(sheets) => write!(out, "path{sheets}"),
         }
     }
 }
@@ -245,6 +267,8 @@ fn answer(call: impl FnOnce(*mut u32, usize) -> u32) -> Answer {
     match words {
         [0, ..] => Answer::Ok(Numbers { words, count }),
         [1, mask, ..] => Answer::Broken(mask),
+        [3, ..] => Answer::Clear,
+        [4, ..] => Answer::Path(Numbers { words, count }),
         [_, number, ..] => Answer::Refused(Refusal::of(number)),
     }
 }
@@ -296,6 +320,12 @@ impl<'a> Desk<'a> {
     pub fn step(&mut self, run: u32, job: u32) -> Answer {
         let (desk, len) = self.lent();
         answer(|a, n| unsafe { sheetdesk_step(desk, len, run, job, a, n) })
+    }
+
+    /// What a step of the job would come to: clear, or the path behind the break.
+    pub fn explain(&self, run: u32, job: u32) -> Answer {
+        let (desk, len) = (self.words.as_ptr(), self.words.len());
+        answer(|a, n| unsafe { sheetdesk_explain(desk, len, run, job, a, n) })
     }
 
     pub fn issue(&mut self, run: u32, writer: u32, mask: u32) -> Answer {

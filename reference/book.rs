@@ -4,6 +4,7 @@
 //! set too. `feed` gives back what the rules on copies would answer, for a comparison.
 
 pub mod checks;
+mod paths;
 pub mod runs;
 pub mod saves;
 
@@ -20,8 +21,10 @@ pub struct Book {
     pub runs: Vec<Run>,
 }
 
-/// What a step finds: T of its fetch, C, and the shelf after the fetch.
+/// What a step finds: its reads that the card lacks, T of its fetch, C, and the shelf after the
+/// fetch.
 pub struct StepFound {
+    pub off_card: u32,
     pub fetched: u32,
     pub set: u32,
     pub shelf: Vec<Saves>,
@@ -75,6 +78,8 @@ impl Book {
                 vec![0]
             }
             Call::Look(place, number, sheet) => self.look(*place, *number as usize, *sheet),
+            // Answered `clear`, `path` or `refused`, and never `ok`.
+            Call::Explain(..) => Vec::new(),
         }
     }
 
@@ -165,14 +170,18 @@ impl Book {
         for k in (0..self.k).filter(|k| has(fetched, *k)) {
             shelf[k] = self.master[k].clone();
         }
-        let set = self.least(off_card, |c, d| {
-            let need = self.ledger.need(&shelf[c], d);
-            has(run.plan(), d)
-                && !need.is_empty()
-                && !run.card[d].includes(&need)
-                && !shelf[d].is_empty()
-        });
-        StepFound { fetched, set, shelf }
+        let set = self.least(off_card, |c, d| self.leads(run, &shelf, c, d));
+        StepFound { off_card, fetched, set, shelf }
+    }
+
+    /// C's rule on copies: "d is a plan's sheet needed by the shelf's c, the card doesn't meet
+    /// that need and the shelf holds d".
+    pub fn leads(&self, run: &Run, shelf: &[Saves], c: usize, d: usize) -> bool {
+        let need = self.ledger.need(&shelf[c], d);
+        has(run.plan(), d)
+            && !need.is_empty()
+            && !run.card[d].includes(&need)
+            && !shelf[d].is_empty()
     }
 
     /// A step that was answered `ok`.

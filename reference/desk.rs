@@ -1,19 +1,21 @@
 //! Document 01's sheet desk over lent words, written the plainest way.
 //!
 //! Every call takes a buffer of any length and content and any numbers. It answers `Ok`
-//! with the answer's numbers, `Broken` (step alone) or `Refused` with the table's number;
-//! a refused call leaves every word.
+//! with the answer's numbers, `Broken` (step alone), `Clear` or `Path` (explain alone) or
+//! `Refused` with the table's number; a refused call leaves every word.
 
 mod calls;
+pub mod explain;
 mod form;
 pub mod layout;
-mod reads;
+pub mod reads;
 pub mod sets;
 pub mod version;
 
 // Not every program that is built from this file calls all of them.
 #[allow(unused_imports)]
 pub use calls::{drop_run, issue, look, new, open};
+pub use explain::explain;
 #[allow(unused_imports)]
 pub use form::in_form;
 #[allow(unused_imports)]
@@ -26,6 +28,10 @@ pub enum Answer {
     Ok(Vec<u32>),
     Broken(u32),
     Refused(u32),
+    /// The step would be answered `Ok`.
+    Clear,
+    /// The step would be answered `Broken`; the sheets of the path.
+    Path(Vec<u32>),
 }
 
 // The numbers of the table "When a call is turned down".

@@ -1,9 +1,12 @@
 //! Prints a script of calls for a seed: `generate SEED LINES [--count]`.
 //!
 //! It keeps a desk of its own, so that it can steer towards merges of rivals, evictions,
-//! prepares and breaks. With `--count` it says on standard error what the script meets.
+//! prepares, breaks and paths behind breaks. With `--count` it says on standard error what the
+//! script meets.
 #![allow(dead_code)]
 
+#[path = "generate/chains.rs"]
+mod chains;
 mod desk;
 #[path = "generate/everyday.rs"]
 mod everyday;

@@ -1,16 +1,20 @@
 //! Checks on lent buffers: the paper's numbers, the ten marked readings, the form, refusals
-//! 9 and 10, how clocks stand, what stands behind a save, and random buffers. Panics at the first
-//! check that fails.
+//! 9 and 10, how clocks stand, paths behind a break, what stands behind a save, and random
+//! buffers. Panics at the first check that fails.
 #![allow(dead_code)]
 
 #[path = "selftest/behind.rs"]
 mod behind;
 mod book;
 mod desk;
+#[path = "selftest/explained.rs"]
+mod explained;
 #[path = "selftest/forms.rs"]
 mod forms;
 #[path = "selftest/marked.rs"]
 mod marked;
+#[path = "selftest/paths.rs"]
+mod paths;
 #[path = "selftest/random.rs"]
 mod random;
 #[path = "selftest/standing.rs"]
@@ -32,10 +36,18 @@ fn main() {
     standing::compared();
     standing::looked();
     standing::looked_at_card();
+    explained::through_newer();
+    explained::smallest();
+    explained::shortest();
+    explained::over_carried();
+    explained::refusals();
+    explained::all_sheets();
     let seed: u64 = std::env::args().nth(1).and_then(|word| word.parse().ok()).unwrap_or(1);
     for history in 0..200 {
         behind::compare(seed + history);
     }
+    println!("selftest: explained on graphs: {}", paths::on_graphs(seed, 20_000).print());
+    println!("selftest: explained on desks: {}", paths::on_desks(seed, 20_000).print());
     let (calls, accepted) = random::damaged(seed, 60_000);
     println!("selftest: all checks hold; {calls} random calls, {accepted} of them accepted");
 }

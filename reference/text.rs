@@ -6,7 +6,7 @@ use crate::desk::{self, Answer};
 pub const LENT: usize = 16_384;
 const LONGEST: usize = 400;
 
-/// One of the nine calls with its numbers.
+/// One of the ten calls with its numbers.
 #[derive(Clone, PartialEq, Eq, Debug)]
 pub enum Call {
     New([u32; 4]),
@@ -18,6 +18,7 @@ pub enum Call {
     Issue(u32, u32, u32),
     Drop(u32),
     Look(u32, u32, u32),
+    Explain(u32, u32),
 }
 
 /// The call that a line holds (without its line end), or nothing if it is unread.
@@ -38,6 +39,7 @@ pub fn read_line(line: &[u8]) -> Option<Call> {
         (b"issue", [run, writer, mask]) => Some(Call::Issue(*run, *writer, *mask)),
         (b"drop", [run]) => Some(Call::Drop(*run)),
         (b"look", [place, number, sheet]) => Some(Call::Look(*place, *number, *sheet)),
+        (b"explain", [run, job]) => Some(Call::Explain(*run, *job)),
         _ => None,
     }
 }
@@ -69,23 +71,29 @@ pub fn run(words: &mut [u32], call: &Call) -> Answer {
         Call::Issue(run, writer, mask) => desk::issue(words, *run, *writer, *mask),
         Call::Drop(run) => desk::drop_run(words, *run),
         Call::Look(place, number, sheet) => desk::look(words, *place, *number, *sheet),
+        Call::Explain(run, job) => desk::explain(words, *run, *job),
     }
 }
 
 /// The line that is printed for an answer, without its line end.
 pub fn print(answer: &Answer) -> String {
     match answer {
-        Answer::Ok(numbers) => {
-            let mut line = String::from("ok");
-            for number in numbers {
-                line.push(' ');
-                line.push_str(&number.to_string());
-            }
-            line
-        }
+        Answer::Ok(numbers) => listed("ok", numbers),
         Answer::Broken(mask) => format!("broken {mask}"),
         Answer::Refused(number) => format!("refused {number}"),
+        Answer::Clear => String::from("clear"),
+        Answer::Path(sheets) => listed("path", sheets),
     }
+}
+
+/// A word and numbers, one space apart.
+fn listed(word: &str, numbers: &[u32]) -> String {
+    let mut line = String::from(word);
+    for number in numbers {
+        line.push(' ');
+        line.push_str(&number.to_string());
+    }
+    line
 }
 
 /// Takes the line end off, if there is one.

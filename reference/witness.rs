@@ -18,6 +18,7 @@ struct Seen {
     snapshots: usize,
     tried: usize,
     broken: usize,
+    paths: usize,
 }
 
 fn main() {
@@ -39,8 +40,9 @@ fn main() {
         }
     }
     println!(
-        "{} calls, {} steps tried against all choices, {} broken, {} pairs of finished jobs",
-        seen.calls, seen.tried, seen.broken, seen.snapshots
+        "{} calls, {} steps tried against all choices, {} broken, {} pairs of finished jobs, \
+         {} paths",
+        seen.calls, seen.tried, seen.broken, seen.snapshots, seen.paths
     );
 }
 
@@ -55,8 +57,11 @@ fn one_call(
     let answer = text::run(words, call);
     seen.calls += 1;
     let refused = matches!(answer, Answer::Refused(_));
-    if refused && before != words {
-        return Err("a refused call changed the desk".into());
+    if (refused || matches!(call, Call::Look(..) | Call::Explain(..))) && before != words {
+        return Err("a call that is refused or only answers changed the desk".into());
+    }
+    if let Call::Explain(run, job) = call {
+        check_explain(before, *run, *job, &answer)?;
     }
     if let (Call::New(sizes), false) = (call, refused) {
         // "The list starts on what an accepted new left."
@@ -67,6 +72,9 @@ fn one_call(
     };
     if let (Call::Step(run, job), false) = (call, refused) {
         check_step(book, *run as usize, *job as usize, &answer, seen)?;
+    }
+    if let (Call::Explain(run, job), false) = (call, refused) {
+        check_path(book, *run as usize, *job as usize, &answer, seen)?;
     }
     check_answer(book, call, &answer)?;
     let s = desk::in_form(words).ok_or("the desk is not in form")?;
@@ -103,7 +111,53 @@ fn check_step(
     Ok(())
 }
 
-/// Feeds the book and compares what the rules on copies answer.
+/// "The answer is "clear" exactly if the step would be answered `ok`. It turns down what step
+/// does, by the same numbers": the step is made on a copy of the desk. The path ends with a
+/// sheet of the broken mask.
+fn check_explain(
+    mut words: Vec<u32>,
+    run: u32,
+    job: u32,
+    answer: &Answer,
+) -> Result<(), String> {
+    let step = desk::step(&mut words, run, job);
+    let agree = match (answer, &step) {
+        (Answer::Clear, Answer::Ok(_)) => true,
+        (Answer::Path(sheets), Answer::Broken(mask)) => {
+            sheets.last().is_some_and(|last| book::has(*mask, *last as usize))
+        }
+        (Answer::Refused(number), Answer::Refused(other)) => number == other,
+        _ => false,
+    };
+    if !agree {
+        return Err(format!("explain answered {answer:?}, the step {step:?}"));
+    }
+    Ok(())
+}
+
+/// The path is the one on copies, and there is one exactly if no choice of 3d stands.
+fn check_path(
+    book: &Book,
+    run: usize,
+    job: usize,
+    answer: &Answer,
+    seen: &mut Seen,
+) -> Result<(), String> {
+    let due = book.find_path(run, job).map_or(Answer::Clear, Answer::Path);
+    if *answer != due {
+        return Err(format!("explain answered {answer:?}, the book has {due:?}"));
+    }
+    seen.paths += usize::from(due != Answer::Clear);
+    match book.goes_through(run, job) {
+        Some(goes) if goes != (due == Answer::Clear) => {
+            Err(format!("explain answered {answer:?}, some choice stands: {goes}"))
+        }
+        _ => Ok(()),
+    }
+}
+
+/// Feeds the book and compares what the rules on copies answer. `Clear` and `Path` are not `ok`:
+/// nothing changes.
 fn check_answer(book: &mut Book, call: &Call, answer: &Answer) -> Result<(), String> {
     let Answer::Ok(numbers) = answer else {
         book.feed(call, false);

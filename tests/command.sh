@@ -111,6 +111,8 @@ trial_strict() {
   said "line 10: refused 6"
   want 0 "--strict without" ./sheetdesk --strict "$work/good"
   [ ! -s "$work/err" ] || bad "--strict without: a word"
+  head -n 17 scripts/explain-path.txt >"$work/paths"
+  want 0 "--strict with a path" ./sheetdesk --strict "$work/paths"
   want 1 "--strict with an unread line" ./sheetdesk --strict "$work/unread"
   said "line 2: new -> unread"
 }
@@ -125,12 +127,12 @@ trial_speed() {
 
 # Each line of --echo is its number, the script's line, and the answer, with words behind what isn't ok.
 trial_echo() {
-  for script in case-a refused-1 refused-2 refused-3 refused-4 refused-5 refused-6 refused-7 refused-8 break-several; do
+  for script in case-a refused-1 refused-2 refused-3 refused-4 refused-5 refused-6 refused-7 refused-8 break-several explain-path explain-refused; do
     want 0 "--echo $script" ./sheetdesk --echo "scripts/$script.txt"
-    sed -E 's/((refused|broken) [0-9]+|unread): .*/\1/' "$work/out" >"$work/plain"
+    sed -E 's/((refused|broken) [0-9]+|unread|clear|path [0-9 ]+): .*/\1/' "$work/out" >"$work/plain"
     paste -d '|' "scripts/$script.txt" "scripts/$script.out" | sed 's/|/ -> /' | awk '{ print NR ": " $0 }' |
       cmp -s - "$work/plain" || bad "--echo $script: not each answer behind its call"
-    if grep -q -E '(refused|broken) [0-9]+$' "$work/out"; then bad "--echo $script: an answer without words"; fi
+    if grep -q -E '((refused|broken) [0-9]+|clear|path [0-9 ]+)$' "$work/out"; then bad "--echo $script: an answer without words"; fi
   done
   printf 'new 2 2 2 1\nfetch 0 0\nlook 2 0 1\nlook 01 0 1\nlook 0 0 1\nevict 0 0\nstep 0 8\n\na\001\nlast' >"$work/words"
   want 0 "--echo in words" ./sheetdesk --echo "$work/words"
@@ -209,6 +211,14 @@ trial_broken() {
   [ "$(tail -n 1 "$work/out")" = "ok 2 0 0" ] || bad "fetching what is behind doesn't cure"
 }
 
+# And of a step that is explained.
+trial_explained() {
+  { head -n 15 scripts/explain-path.txt; sed -n '/^## EXPLAINED STEPS/,/^## BROKEN RUNS/s/^    //p' "$page"; } >"$work/explained"
+  want 0 "the page's explain" ./sheetdesk "$work/explained"
+  tail -n +16 "$work/out" | paste -sd ',' | sed 's/,/` and `/; s/^/`/; s/$/`/' >"$work/due"
+  grep -qF -f "$work/due" "$page" || bad "the page's explain answers $(cat "$work/due"), the page says otherwise"
+}
+
 trial_refusals() {
   for words in "nothing to do" "counts that you gave to new" "step a$" "prepare the run"; do
     sed -n '/^## REFUSALS/,/^## LIMITS/p' "$page" | grep -q -e "$words" || bad "the page's refusals lack '$words'"
@@ -245,7 +255,7 @@ trial_readme() {
 }
 
 trials=("$@")
-[ $# -gt 0 ] || trials=(files options lost strict speed echo prompt terminal signal broken refusals line_ends examples readme)
+[ $# -gt 0 ] || trials=(files options lost strict speed echo prompt terminal signal broken explained refusals line_ends examples readme)
 for trial in "${trials[@]}"; do
   (trial_"$trial") || exit 1
 done

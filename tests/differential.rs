@@ -19,6 +19,7 @@ mod reference {
 // What steers the generated scripts steers the stories too.
 #[path = "../reference/generate"]
 mod generate {
+    pub mod chains;
     pub mod everyday;
     pub mod odd;
     pub mod plots;
@@ -39,7 +40,7 @@ mod parts {
     pub mod stories;
 }
 
-use generate::{everyday, odd, plots, teller};
+use generate::{chains, everyday, odd, plots, teller};
 use parts::{arguments, built, clocks, library, met, pair, random, script, stories};
 use reference::{desk, text};
 

@@ -57,6 +57,7 @@ static int other_layout_refused(void)
         && refused(sheetdesk_evict(other, 100, 0, 0, ANSWER), SHEETDESK_NOT_IN_FORM)
         && refused(sheetdesk_prepare(other, 100, 0, ANSWER), SHEETDESK_NOT_IN_FORM)
         && refused(sheetdesk_step(other, 100, 0, 0, ANSWER), SHEETDESK_NOT_IN_FORM)
+        && refused(sheetdesk_explain(other, 100, 0, 0, ANSWER), SHEETDESK_NOT_IN_FORM)
         && refused(sheetdesk_issue(other, 100, 0, 0, 0, ANSWER), SHEETDESK_NOT_IN_FORM)
         && refused(sheetdesk_drop(other, 100, 0, ANSWER), SHEETDESK_NOT_IN_FORM)
         && refused(sheetdesk_look(other, 100, 0, 0, 0, ANSWER), SHEETDESK_NOT_IN_FORM);

@@ -41,8 +41,11 @@ without() {
 PATH=$prefix/bin:$(without)
 sheetdesk --strict scripts/case-a.txt >"$work/out" 2>"$work/log"
 [ $? -eq 1 ] && cmp -s "$work/out" scripts/case-a.out || bad "the installed command doesn't answer case A"
-said=$(sed -n 's/^#define SHEETDESK_VERSION //p; s/^#define SHEETDESK_LAYOUT //p' embed/sheetdesk.h | paste -sd ' ')
-[ "$(sheetdesk --version)" = "sheetdesk ${said% *}, layout ${said#* }, toolchain fake-kit" ] || bad "the installed command's version: $(sheetdesk --version)"
+defined() {
+  sed -n "s/^#define SHEETDESK_$1 //p" embed/sheetdesk.h
+}
+due="sheetdesk $(defined VERSION), layout $(defined LAYOUT), toolchain fake-kit"
+[ "$(sheetdesk --version)" = "$due" ] || bad "the installed command's version: $(sheetdesk --version)"
 sheetdesk --man | grep -q "^REFUSALS" || bad "the installed command has no page"
 
 # link WORD EXAMPLE: README's line that starts with the word, on the example, which must answer case A.

@@ -26,6 +26,18 @@ trial_versions() {
   done
 }
 
+# An answer's first words are the same in the program's definitions, header and Python; the wrapper's are in the golden scripts.
+trial_words() {
+  local due header python
+  due=$(sed -n '/^answerWords =/,/\[\]/p' crates/print/specs/Print.antt | grep -o '"[a-z]*"' | tr -d '"' | paste -sd ' ')
+  header=$(sed -n '/^enum sheetdesk_outcome/,/^}/s/^ *SHEETDESK_\([A-Z]*\) = \([0-9]*\),*$/\2 \1/p' embed/sheetdesk.h | sort -n |
+    cut -d ' ' -f 2 | tr A-Z a-z | paste -sd ' ')
+  python=$(sed -n 's/^_OUTCOMES = (\(.*\))/\1/p' embed/sheetdesk.py | tr -d '",')
+  case $due in "ok broken refused"*) ;; *) bad "the definitions have no words" ;; esac
+  [ "$header" = "$due" ] || bad "the header's first words: $header, due $due"
+  [ "$python" = "$due" ] || bad "sheetdesk.py's first words: $python, due $due"
+}
+
 # The header says it all in one paragraph.
 trial_memory() {
   local text
@@ -60,8 +72,8 @@ END
 }
 
 trials=("$@")
-[ $# -gt 0 ] || trials=(versions memory header wrapper python)
+[ $# -gt 0 ] || trials=(versions words memory header wrapper python)
 for trial in "${trials[@]}"; do
   (trial_"$trial") || exit 1
 done
-echo "library: versions, sizes of all counts, memory, refusals' names and printed answers as header and wrappers say"
+echo "library: versions, first words, sizes of all counts, memory, refusals' names and printed answers as header and wrappers say"

@@ -1,6 +1,6 @@
-// Every refusal that new, open, drop, look, fetch and evict can give, tried on lent buffers through the exported library:
-// answer as expected, every word as it was, guard words untouched. Besides them: the largest store, looks at desks that no
-// list of calls from new leaves, and clocks compared.
+// Every refusal that new, open, drop, look, explain, fetch and evict can give, tried on lent buffers through the exported
+// library: answer as expected, every word as it was, guard words untouched. Besides them: the largest store, looks at desks
+// that no list of calls from new leaves, the longest path, and clocks compared.
 // Usage: refusals. Prints what went wrong and exits 1, or how many trials there were.
 
 extern "C" {
@@ -9,6 +9,9 @@ extern "C" {
     fn sheetdesk_drop(d: *mut u32, dn: usize, r: u32, a: *mut u32, an: usize) -> u32;
     fn sheetdesk_fetch(d: *mut u32, dn: usize, o: u32, k: u32, a: *mut u32, an: usize) -> u32;
     fn sheetdesk_evict(d: *mut u32, dn: usize, o: u32, k: u32, a: *mut u32, an: usize) -> u32;
+    fn sheetdesk_step(d: *mut u32, dn: usize, r: u32, j: u32, a: *mut u32, an: usize) -> u32;
+    fn sheetdesk_explain(d: *const u32, dn: usize, r: u32, j: u32, a: *mut u32, an: usize) -> u32;
+    fn sheetdesk_issue(d: *mut u32, dn: usize, r: u32, w: u32, m: u32, a: *mut u32, an: usize) -> u32;
     fn sheetdesk_look(d: *const u32, dn: usize, p: u32, i: u32, k: u32, a: *mut u32, an: usize) -> u32;
     fn sheetdesk_compare(p: *const u32, pn: usize, q: *const u32, qn: usize) -> u32;
     fn sheetdesk_covers(p: *const u32, pn: usize, q: *const u32, qn: usize) -> u32;
@@ -25,6 +28,9 @@ enum Call<'a> {
     Drop(u32),
     Fetch(u32, u32),
     Evict(u32, u32),
+    Step(u32, u32),
+    Explain(u32, u32),
+    Issue(u32, u32, u32),
     Look(u32, u32, u32),
 }
 
@@ -42,7 +48,12 @@ impl Desk {
     }
 
     fn call(&mut self, c: &Call) -> Vec<u32> {
-        let mut answer = [MARK; ANSWER];
+        self.call_with(c, ANSWER)
+    }
+
+    // The call with an answer slice of so many words.
+    fn call_with(&mut self, c: &Call, room: usize) -> Vec<u32> {
+        let mut answer = vec![MARK; room];
         let (d, n) = (self.words.as_mut_ptr(), self.len);
         let (a, an) = (answer.as_mut_ptr(), answer.len());
         // Each pointer comes with the length of what it points to.
@@ -53,6 +64,9 @@ impl Desk {
                 Call::Drop(r) => sheetdesk_drop(d, n, r, a, an),
                 Call::Fetch(o, k) => sheetdesk_fetch(d, n, o, k, a, an),
                 Call::Evict(o, k) => sheetdesk_evict(d, n, o, k, a, an),
+                Call::Step(r, j) => sheetdesk_step(d, n, r, j, a, an),
+                Call::Explain(r, j) => sheetdesk_explain(d, n, r, j, a, an),
+                Call::Issue(r, w, m) => sheetdesk_issue(d, n, r, w, m, a, an),
                 Call::Look(p, i, k) => sheetdesk_look(d, n, p, i, k, a, an),
             }
         };
@@ -81,6 +95,16 @@ impl Trials {
         let before = desk.words.clone();
         let answer = desk.call(&c);
         self.check(what, answer == [2, number] && desk.words == before);
+    }
+
+    // Answered with these words, and every word of the desk as it was.
+    fn told(&mut self, what: &str, desk: &mut Desk, c: Call, words: &[u32]) {
+        let before = desk.words.clone();
+        let answer = desk.call(&c);
+        if answer != words {
+            println!("  {answer:?}");
+        }
+        self.check(what, answer == words && desk.words == before);
     }
 
     // Answered ok with these numbers, the guard untouched.
@@ -140,6 +164,7 @@ fn of_form(t: &mut Trials) {
         t.refused("fetch 1", d, Call::Fetch(9, 9), 1);
         t.refused("evict 1", d, Call::Evict(9, 9), 1);
         t.refused("look 1", d, Call::Look(9, 9, 9), 1);
+        t.refused("explain 1", d, Call::Explain(9, 9), 1);
     }
 }
 
@@ -183,6 +208,60 @@ fn of_caches(t: &mut Trials) {
     t.ok("look", &mut d, Call::Look(1, 1, 1), &[1, 1, 0, 0]);
     t.ok("evict 0 takes 1", &mut d, Call::Evict(1, 0), &[3]);
     t.refused("evict 8 again", &mut d, Call::Evict(1, 0), 8);
+}
+
+// The refusals of explain are those of the step, and clear is answered exactly where the step is ok.
+fn of_explain(t: &mut Trials) {
+    let mut d = Desk::of(130, 0);
+    d.call(&Call::New(2, 2, 1, 2));
+    t.refused("explain 3, run", &mut d, Call::Explain(2, 0), 3);
+    t.refused("explain 3, job", &mut d, Call::Explain(0, 8), 3);
+    t.refused("explain 3, both", &mut d, Call::Explain(u32::MAX, u32::MAX), 3);
+    t.refused("explain 4, free", &mut d, Call::Explain(0, 7), 4);
+    d.call(&Call::Open(0, &[0, 1, 0, 0, 2, 1]));
+    t.refused("explain 3, no such job", &mut d, Call::Explain(0, 2), 3);
+    t.refused("explain 6, waits", &mut d, Call::Explain(0, 1), 6);
+    t.refused("explain 7", &mut d, Call::Explain(0, 0), 7);
+    d.call(&Call::Open(1, &[0, 0, 0]));
+    t.told("explain, nothing read", &mut d, Call::Explain(1, 0), &[3]);
+    t.ok("step, nothing read", &mut d, Call::Step(1, 0), &[0, 0, 0]);
+    d.call(&Call::Issue(1, 0, 1));
+    t.told("explain, from the master", &mut d, Call::Explain(0, 0), &[3]);
+    t.ok("step, from the master", &mut d, Call::Step(0, 0), &[0, 0, 1]);
+    t.refused("explain 6, done", &mut d, Call::Explain(0, 0), 6);
+    t.refused("explain 7, the next", &mut d, Call::Explain(0, 1), 7);
+    d.call(&Call::Open(1, &[0, 0, 0]));
+    d.call(&Call::Step(1, 0));
+    d.call(&Call::Issue(1, 0, 3));
+    t.told("explain, a path", &mut d, Call::Explain(0, 1), &[4, 1, 0]);
+    t.check("step, broken", d.call(&Call::Step(0, 1)) == [1, 1]);
+    t.refused("explain 4, broken", &mut d, Call::Explain(0, 1), 4);
+}
+
+// A desk 32 1 1 1 on whose shelf each sheet needs the next one, and sheet 31 was read at an older count: the path has all.
+fn of_the_longest_path(t: &mut Trials) {
+    let mut d = Desk::of(3300, 0);
+    d.call(&Call::New(32, 1, 1, 1));
+    d.words[4] = 9;
+    let (shelf, run) = (d.words[6] as usize, d.words[8] as usize);
+    for k in 0..32 {
+        let at = shelf + 33 * k;
+        d.words[at] = 2;
+        d.words[at + 1 + k..].iter_mut().take(if k < 31 { 2 } else { 1 }).for_each(|count| *count = 2);
+    }
+    let last = 1 << 31;
+    d.words[run..run + 4].copy_from_slice(&[1, 3, 1, last]);
+    d.words[run + 4..run + 13].copy_from_slice(&[0, last, 0, 0, 1, 0, 0, !last & !1, 0]);
+    let card = run + 28 + 33 * 31;
+    (d.words[card], d.words[card + 32]) = (1, 1);
+    let path: Vec<u32> = [4].into_iter().chain(0..32).collect();
+    t.told("the longest path", &mut d, Call::Explain(0, 1), &path);
+    t.told("the last two of it", &mut d, Call::Explain(0, 2), &[4, 30, 31]);
+    let before = d.words.clone();
+    t.check("the longest path, 39 words", d.call_with(&Call::Explain(0, 1), 39).is_empty() && d.words == before);
+    t.check("the longest path, 40 words", d.call_with(&Call::Explain(0, 1), 40) == path && d.words == before);
+    t.check("the longest path's step", d.call(&Call::Step(0, 1)) == [1, 2_147_483_648]);
+    t.refused("the longest path, broken", &mut d, Call::Explain(0, 1), 4);
 }
 
 fn of_the_largest(t: &mut Trials) {
@@ -257,6 +336,8 @@ fn main() {
     of_caches(&mut t);
     of_the_largest(&mut t);
     of_looks(&mut t);
+    of_explain(&mut t);
+    of_the_longest_path(&mut t);
     of_clocks(&mut t);
     println!("refusals: {} trials, {} wrong", t.tried, t.wrong);
     std::process::exit(if t.wrong == 0 { 0 } else { 1 });

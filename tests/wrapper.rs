@@ -37,6 +37,17 @@ fn standings() -> bool {
         && compare(&[1; 17], &[1; 17]).is_none()
 }
 
+/// A job that reads nothing is clear, which has no numbers; before there is a desk, explain is refused.
+fn explanations() -> bool {
+    let mut room = [0; words(1, 1, 1, 1)];
+    let mut desk = Desk::lend(&mut room);
+    let none = desk.explain(0, 0);
+    desk.new(1, 1, 1, 1);
+    desk.open(0, &[Job { office: 0, reads: 0, upstream: 0 }]);
+    let clear = desk.explain(0, 0);
+    none == Answer::Refused(Refusal::NotInForm) && clear == Answer::Clear && clear.ok().or(clear.path()).is_none()
+}
+
 /// Makes the call of a line; nothing for a line that the wrapper has no form for.
 fn call(desk: &mut Desk, line: &str) -> Option<Answer> {
     let (name, rest) = line.split_once(' ')?;
@@ -51,6 +62,7 @@ fn call(desk: &mut Desk, line: &str) -> Option<Answer> {
         ("evict", &[office, sheet]) => desk.evict(office, sheet),
         ("prepare", &[run]) => desk.prepare(run),
         ("step", &[run, job]) => desk.step(run, job),
+        ("explain", &[run, job]) => desk.explain(run, job),
         ("issue", &[run, writer, mask]) => desk.issue(run, writer, mask),
         ("drop", &[run]) => desk.drop(run),
         ("look", &[0, 0, sheet]) => desk.look(Place::Master, sheet),
@@ -75,7 +87,7 @@ fn golden() -> Option<usize> {
         let mut desk = Desk::lend(&mut room);
         for (line, due) in script.lines().zip(due.lines()).filter(|pair| pair.1 != "unread") {
             let Some(answer) = call(&mut desk, line) else { continue };
-            if answer.to_string() != due {
+            if answer.to_string() != due || answer.path().is_some() != due.starts_with("path ") {
                 println!("wrapper: {}: {line}: {answer}, due {due}", path.display());
                 return None;
             }
@@ -87,7 +99,7 @@ fn golden() -> Option<usize> {
 
 fn main() {
     let lines = golden().unwrap_or(0);
-    if lines < 500 || !is_linked_right() || !sizes() || !refusals() || !standings() {
+    if lines < 500 || !is_linked_right() || !sizes() || !refusals() || !standings() || !explanations() {
         println!("wrapper: a promise of sheetdesk.rs isn't kept ({lines} golden lines answered)");
         exit(1);
     }

@@ -11,7 +11,12 @@ import subprocess
 import sys
 import tempfile
 
-EXAMPLES = {"model": ["Scripts", "Readings", "Looks", "Computed"], "layout": ["Scripted"], "history": ["Scripted"]}
+EXAMPLES = {
+    "reach": ["PathExamples"],
+    "model": ["Scripts", "Readings", "Looks", "Explanations", "Computed"],
+    "layout": ["Scripted"],
+    "history": ["Scripted"],
+}
 
 
 def read_edit(path):

@@ -4,7 +4,7 @@
 out_of_range() {
   case $1 in
     fetch* | evict*) said="there is no such office or sheet" ;;
-    step*) said="there is no such run or job" ;;
+    step* | explain*) said="there is no such run or job" ;;
     issue*) said="there is no such run or writer, or the mask names a sheet that there isn't" ;;
     look*) said="there is no such place, number or sheet (the master's number is 0)" ;;
     *) said="there is no such run" ;;
@@ -75,6 +75,8 @@ report() {
   case $3 in
     refused*) refusal "$call" "${3#* }" ;;
     broken*) said="the run has read these sheets, and the step would move them: drop it, open it, prepare it" ;;
+    clear*) said="the step would be ok" ;;
+    path*) said="the step would break the run: each sheet draws in the next, and the last was read already" ;;
     unread*) unread "$call" ;;
   esac
   [ ${#call} -le 400 ] || call="${call:0:60}.."

@@ -48,6 +48,28 @@ fn after(full: &[u32], calls: &[Call]) -> Vec<u32> {
     words
 }
 
+/// A full desk on whose master each sheet needs the next one alone. Run 0 has read the last sheet
+/// at an older count, and its next job reads the first: T, C and the path have every sheet.
+fn chained(full: &[u32], [k, w, _, _]: [u32; 4]) -> Vec<u32> {
+    let mut words = full.to_vec();
+    let size = (1 + k * w) as usize;
+    let row = |at: usize, sheet: u32| at + 1 + (sheet * w) as usize;
+    for sheet in 0..k {
+        let at = words[5] as usize + sheet as usize * size;
+        words[at + 1..at + size].fill(0);
+        words[row(at, sheet)] = 2;
+        if sheet + 1 < k {
+            words[row(at, sheet + 1)] = 2;
+        }
+    }
+    run(&mut words, &Call::Open(0, vec![0, 1 << (k - 1), 0, 0, 1, 0, 0, all(k), 0]));
+    run(&mut words, &Call::Step(0, 0));
+    let card = words[8] as usize + 28 + (k - 1) as usize * size;
+    words[row(card, k - 1)] = 1;
+    run(&mut words, &Call::Evict(0, k - 1));
+    words
+}
+
 /// Eight jobs over all offices that read all sheets, each after all lower ones.
 fn eight_jobs(k: u32, n: u32) -> Vec<u32> {
     (0..8).flat_map(|job| [job % n, all(k), (1 << job) - 1]).collect()
@@ -67,6 +89,7 @@ pub fn cases(sizes: [u32; 4]) -> Vec<Case> {
         case("evict", after(&full, &filled), Call::Evict(0, 0)),
         case("prepare", after(&full, &[open]), Call::Prepare(0)),
         case("step", after(&full, &reader[..1]), Call::Step(0, 0)),
+        case("explain", chained(&full, sizes), Call::Explain(0, 1)),
         case("issue", after(&full, &reader), Call::Issue(0, 0, all(k))),
         case("drop", after(&full, &reader), Call::Drop(0)),
         case("look", full.clone(), Call::Look(0, 0, k - 1)),

@@ -121,10 +121,8 @@ pub fn step(desk: &mut [u32], run: u32, job: u32) -> Answer {
     };
     let (run, job) = (run as usize, job as usize);
     let (office, reads, _) = job_words(desk, s, run, job);
-    let off_card = reads & !carried(desk, s, run);
-    let fetched = fetch_set(desk, s, office, lacking(desk, s, office, off_card));
-    let view = StepView { run, office, fetched, plan: plan(desk, s, run) };
-    let set = card_set(desk, s, &view, off_card);
+    let view = step_view(desk, s, run, job);
+    let (fetched, set) = (view.fetched, card_set(desk, s, &view));
     let at = s.run_at(run);
     if set & desk[at + READ] != 0 {
         // "Its state becomes 2, nothing else changes."
@@ -144,7 +142,17 @@ pub fn step(desk: &mut [u32], run: u32, job: u32) -> Answer {
     Answer::Ok(vec![reads & !set, reads & set & !fetched, reads & set & fetched])
 }
 
-fn step_refusal(desk: &[u32], run: u32, job: u32) -> Result<Sizes, u32> {
+/// Of a step that isn't refused: "reads R that the card lacks and the shelf lacks are fetched
+/// together".
+pub fn step_view(desk: &[u32], s: Sizes, run: usize, job: usize) -> StepView {
+    let (office, reads, _) = job_words(desk, s, run, job);
+    let off_card = reads & !carried(desk, s, run);
+    let fetched = fetch_set(desk, s, office, lacking(desk, s, office, off_card));
+    StepView { run, office, off_card, fetched, plan: plan(desk, s, run) }
+}
+
+/// What turns a step down; explain too.
+pub fn step_refusal(desk: &[u32], run: u32, job: u32) -> Result<Sizes, u32> {
     let s = in_form(desk).ok_or(NOT_IN_FORM)?;
     if u64::from(run) >= s.p as u64 {
         return Err(OUT_OF_RANGE);

@@ -51,22 +51,28 @@ pub fn shelf_after(desk: &[u32], s: Sizes, office: usize, fetched: u32, k: usize
     }
 }
 
-/// What step reads from: its run, its office, T of its fetch and the plan's sheets.
+/// What step works from: its run, its office, those of its reads that the card lacks, T of its
+/// fetch and the plan's sheets.
 pub struct StepView {
     pub run: usize,
     pub office: usize,
+    pub off_card: u32,
     pub fetched: u32,
     pub plan: u32,
 }
 
-/// C: "if c is in C, d is a plan's sheet needed by the shelf's c, the card doesn't meet that
-/// need and the shelf holds d, then d is in C".
-pub fn card_set(desk: &[u32], s: Sizes, view: &StepView, lacking: u32) -> u32 {
-    least(s.k, lacking, |c, d| {
-        let version = shelf_after(desk, s, view.office, view.fetched, c);
-        has(view.plan, d)
-            && needs(version, s.w, c, d)
-            && !meets(s.words(desk, s.card_at(view.run, d)), s.w, d, row(version, s.w, d))
-            && held(shelf_after(desk, s, view.office, view.fetched, d))
-    })
+/// "d is a plan's sheet needed by the shelf's c, the card doesn't meet that need and the shelf
+/// holds d".
+pub fn leads(desk: &[u32], s: Sizes, view: &StepView, c: usize, d: usize) -> bool {
+    let version = shelf_after(desk, s, view.office, view.fetched, c);
+    has(view.plan, d)
+        && needs(version, s.w, c, d)
+        && !meets(s.words(desk, s.card_at(view.run, d)), s.w, d, row(version, s.w, d))
+        && held(shelf_after(desk, s, view.office, view.fetched, d))
+}
+
+/// C: "the least set with every sheet of R that the card lacks" that has each d to which a c of
+/// it leads.
+pub fn card_set(desk: &[u32], s: Sizes, view: &StepView) -> u32 {
+    least(s.k, view.off_card, |c, d| leads(desk, s, view, c, d))
 }

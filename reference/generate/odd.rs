@@ -6,10 +6,11 @@ use crate::teller::Teller;
 /// "Before any new, the buffer is all zero": every call but new is refused.
 pub fn before_new(t: &mut Teller) {
     for _ in 0..t.below(3) {
-        match t.below(4) {
+        match t.below(5) {
             0 => t.tell("fetch", &[0, 0]),
             1 => t.tell("open", &[0]),
-            2 => t.tell("look", &[9, 9, 9]),
+            2 => t.tell("explain", &[0, 0]),
+            3 => t.tell("look", &[9, 9, 9]),
             _ => t.tell("new", &[32, 16, 8, 8]),
         };
     }
@@ -152,7 +153,7 @@ fn not_held(t: &mut Teller) {
 
 /// Lines that are none of the forms.
 pub fn unread(t: &mut Teller) {
-    const LINES: [&[u8]; 26] = [
+    const LINES: [&[u8]; 29] = [
         b"",
         b" ",
         b"new",
@@ -179,6 +180,9 @@ pub fn unread(t: &mut Teller) {
         b"\xef\xbb\xbfdrop 0",
         b"prepare 0,0",
         b"evict 0 1e1",
+        b"explain",
+        b"explain 0",
+        b"explain 0 0 0",
     ];
     if t.chance(80) {
         let line = LINES[t.below(LINES.len())];

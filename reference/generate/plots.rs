@@ -1,5 +1,6 @@
 //! Plots that steer: each is a short list of calls with a likely end.
 
+use crate::chains;
 use crate::desk::layout::has;
 use crate::desk::version::needs;
 use crate::desk::{Answer, FREE};
@@ -9,9 +10,10 @@ use crate::teller::Teller;
 /// A plot of runs, by a number below 58.
 pub fn of_runs(t: &mut Teller, number: usize) {
     match number {
-        0..=24 => break_a_run(t),
-        25..=36 => issue_rivals(t),
-        37..=49 => everyday::prepared_run(t),
+        0..=19 => break_a_run(t),
+        20..=22 => chains::explain_a_break(t),
+        23..=38 => issue_rivals(t),
+        39..=49 => everyday::prepared_run(t),
         50..=53 => everyday::prepare_again(t),
         _ => everyday::plain_run(t),
     }
@@ -65,7 +67,7 @@ pub fn publish(t: &mut Teller, sheet: usize, reads: u32) {
     publish_by(t, run, writer, 1 << sheet, reads);
 }
 
-fn publish_by(t: &mut Teller, run: usize, writer: usize, sheets: u32, reads: u32) {
+pub fn publish_by(t: &mut Teller, run: usize, writer: usize, sheets: u32, reads: u32) {
     let office = t.below(t.sizes().n);
     let can = (0..t.sizes().k).filter(|k| has(reads, *k) && t.on_master(*k));
     let reads = can.fold(0, |mask, k| mask | 1 << k);
@@ -135,6 +137,9 @@ pub fn break_a_run(t: &mut Teller) {
         t.tell("fetch", &[there, b as u32]);
     }
     for job in 1..jobs as u32 {
+        if t.chance(40) {
+            t.tell("explain", &[run, job]);
+        }
         t.tell("step", &[run, job]);
     }
     end_run(t, run as usize);

@@ -1,5 +1,6 @@
 //! The script so far, the desk that it leads to, and the counts.
 
+use crate::chains::tied_and_carried;
 use crate::desk::layout::{has, DONE, JOBS, JOB_LIST, READ, STATE};
 use crate::desk::version::{compare, covers, held, row, Standing};
 use crate::desk::{in_form, Answer, Sizes};
@@ -19,6 +20,11 @@ pub struct Counts {
     pub issues: u64,
     pub looks: u64,
     pub looks_older: u64,
+    pub clear: u64,
+    pub paths: u64,
+    pub long_paths: u64,
+    pub tied_paths: u64,
+    pub carried_paths: u64,
     pub refused: [u64; 11],
 }
 
@@ -40,6 +46,15 @@ impl Counts {
             self.looks,
             self.looks_older
         );
+        for (name, count) in [
+            ("clear", self.clear),
+            ("paths", self.paths),
+            ("paths-of-3", self.long_paths),
+            ("paths-tied", self.tied_paths),
+            ("paths-carried", self.carried_paths),
+        ] {
+            line.push_str(&format!(" {name} {count}"));
+        }
         for number in 1..=8 {
             line.push_str(&format!(" refused-{number} {}", self.refused[number]));
         }
@@ -92,8 +107,11 @@ impl Teller {
         Some(answer)
     }
 
-    /// A call's word and its numbers, as a line.
+    /// A call's word and its numbers, as a line. Some steps are explained before.
     pub fn tell(&mut self, name: &str, numbers: &[u32]) -> Option<Answer> {
+        if name == "step" && self.chance(25) {
+            self.tell("explain", numbers);
+        }
         let mut line = name.to_string();
         for number in numbers {
             line.push_str(&format!(" {number}"));
@@ -174,6 +192,14 @@ impl Teller {
             (Call::Look(..), Answer::Ok(numbers)) => {
                 counts.looks += 1;
                 counts.looks_older += u64::from(numbers.last() == Some(&1));
+            }
+            (_, Answer::Clear) => counts.clear += 1,
+            (Call::Explain(run, job), Answer::Path(path)) => {
+                let (tied, carried) = tied_and_carried(before, [*run, *job], path);
+                counts.paths += 1;
+                counts.long_paths += u64::from(path.len() > 2);
+                counts.tied_paths += u64::from(tied);
+                counts.carried_paths += u64::from(carried);
             }
             _ => {}
         }

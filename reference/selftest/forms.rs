@@ -75,6 +75,7 @@ fn all_refuse(words: &mut [u32], number: u32) {
         assert_eq!(issue(words, x, x, x), Answer::Refused(number));
         assert_eq!(drop_run(words, x), Answer::Refused(number));
         assert_eq!(look(words, x, x, x), Answer::Refused(number));
+        assert_eq!(explain(words, x, x), Answer::Refused(number));
     }
     assert_eq!(words, before);
 }

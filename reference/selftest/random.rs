@@ -69,7 +69,7 @@ fn one(words: &mut [u32], call: &Call) -> bool {
     }
     let s = in_form(words).expect("an accepted call leaves the form");
     assert_eq!(words[s.total()..], before[s.total()..]);
-    assert!(!matches!(call, Call::Look(..)) || words == before);
+    assert!(!matches!(call, Call::Look(..) | Call::Explain(..)) || words == before);
     true
 }
 
@@ -86,7 +86,7 @@ fn start(draw: &mut Draw) -> Vec<u32> {
 
 fn any_call(draw: &mut Draw) -> Call {
     let [a, b, c] = [draw.number(), draw.number(), draw.number()];
-    match draw.below(40) {
+    match draw.below(43) {
         0 => Call::New([a, b, c, draw.number()]),
         1..=6 => {
             let length = if draw.below(8) == 0 { draw.below(30) } else { 3 + 3 * draw.below(3) };
@@ -102,6 +102,7 @@ fn any_call(draw: &mut Draw) -> Call {
         19..=28 => Call::Step(a, b),
         29..=35 => Call::Issue(a, b, c),
         36 => Call::Drop(a),
+        37..=39 => Call::Explain(a, b),
         _ => Call::Look(a, b, c),
     }
 }

@@ -15,6 +15,7 @@ pub enum Source {
 }
 
 const SOURCES: [&str; 6] = ["story", "reached", "damaged", "short", "built", "noise"];
+/// The calls that are answered `ok`: explain, the tenth, never is.
 const CALLS: [&str; 9] =
     ["new", "open", "fetch", "evict", "prepare", "step", "issue", "drop", "look"];
 
@@ -37,6 +38,9 @@ pub struct Met {
     ok: [u64; 9],
     refused: [u64; 11],
     breaks: u64,
+    clear: u64,
+    paths: u64,
+    long_paths: u64,
     evicts_of_more: u64,
     fetches_of_more: u64,
     no_room: u64,
@@ -53,6 +57,7 @@ fn index(call: &Call) -> usize {
         Call::Issue(..) => 6,
         Call::Drop(..) => 7,
         Call::Look(..) => 8,
+        Call::Explain(..) => 9,
     }
 }
 
@@ -62,6 +67,11 @@ impl Met {
         match answer {
             None => self.no_room += 1,
             Some(Answer::Broken(_)) => self.breaks += 1,
+            Some(Answer::Clear) => self.clear += 1,
+            Some(Answer::Path(sheets)) => {
+                self.paths += 1;
+                self.long_paths += u64::from(sheets.len() > 2);
+            }
             Some(Answer::Refused(number)) => self.refused[*number as usize] += 1,
             Some(Answer::Ok(numbers)) => {
                 self.by_source[source as usize] += 1;
@@ -82,6 +92,9 @@ impl Met {
         let mut table = vec![
             ("merges of rivals".into(), self.rivals, 4000),
             ("breaks".into(), self.breaks, 1000),
+            ("explained as clear".into(), self.clear, 1000),
+            ("paths".into(), self.paths, 500),
+            ("paths of three sheets or more".into(), self.long_paths, 100),
             ("fetches of several sheets".into(), self.fetches_of_more, 1000),
             ("evictions of several sheets".into(), self.evicts_of_more, 1000),
             ("answers without room".into(), self.no_room, 500),

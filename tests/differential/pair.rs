@@ -29,12 +29,15 @@ pub struct Pair {
     events: Vec<Event>,
 }
 
-/// The answer's words: "the outcome (0 ok, 1 broken, 2 refused) and then the numbers".
+/// The answer's words: the outcome (0 ok, 1 broken, 2 refused, 3 clear, 4 path) and then the
+/// numbers.
 pub fn answer_words(answer: &Answer) -> Vec<u32> {
     match answer {
         Answer::Ok(numbers) => [&[0][..], numbers].concat(),
         Answer::Broken(mask) => vec![1, *mask],
         Answer::Refused(number) => vec![2, *number],
+        Answer::Clear => vec![3],
+        Answer::Path(sheets) => [&[4][..], sheets].concat(),
     }
 }
 
@@ -135,6 +138,7 @@ pub fn print_call(call: &Call) -> String {
         Call::Issue(run, writer, mask) => ("issue", vec![*run, *writer, *mask]),
         Call::Drop(run) => ("drop", vec![*run]),
         Call::Look(place, number, sheet) => ("look", vec![*place, *number, *sheet]),
+        Call::Explain(run, job) => ("explain", vec![*run, *job]),
     };
     numbers.iter().fold(name.to_string(), |line, number| format!("{line} {number}"))
 }

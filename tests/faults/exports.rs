@@ -1,4 +1,4 @@
-//! The reference's nine calls under the library's names, so that the differential test can be
+//! The reference's ten calls under the library's names, so that the differential test can be
 //! tried on a copy of the reference with a fault in it. Copied next to that copy and built as
 //! a shared library.
 #![allow(dead_code)]
@@ -21,6 +21,8 @@ fn answer(out: &mut [u32], call: impl FnOnce() -> Answer) -> u32 {
         Answer::Ok(numbers) => [&[0][..], &numbers].concat(),
         Answer::Broken(mask) => vec![1, mask],
         Answer::Refused(number) => vec![2, number],
+        Answer::Clear => vec![3],
+        Answer::Path(sheets) => [&[4][..], &sheets].concat(),
     };
     out[..words.len()].copy_from_slice(&words);
     words.len() as u32
@@ -45,6 +47,7 @@ export!(sheetdesk_step, desk::step, run, job);
 export!(sheetdesk_issue, desk::issue, run, writer, mask);
 export!(sheetdesk_drop, desk::drop_run, run);
 export!(sheetdesk_look, desk::look, place, number, sheet);
+export!(sheetdesk_explain, desk::explain, run, job);
 
 #[no_mangle]
 pub unsafe extern "C" fn sheetdesk_open(

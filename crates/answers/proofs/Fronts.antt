@@ -1,5 +1,5 @@
 -- Words laid over the front of a list.
--- over-two, over-four: some of them stored one by one. over-more: further words behind them;
+-- over-one, -two, -four: some of them stored one by one. over-more: further words behind them;
 -- over-last: one.
 -- over-length, over-front, over-behind: the list after it.
 -- Assumes nothing.
@@ -10,6 +10,11 @@ use native.Mathlib.Omega.{arith}
 use lib.ListN.{length, take, drop, set, length-append, length-drop}
 use lib.Seq.{sets, sets-eq, take-append-seam, drop-append-seam, drop-append-add, drop-drop}
 use Rattle.answers.specs.Answers.{over}
+
+pub over-one : (l : List ℕ) (a : ℕ) → 1 ≤ length l → set l 0 a ≡ over (a ∷ []) l
+unfolding over
+over-one [] a h = absurd (omega arith)
+over-one (x ∷ l) a h = refl
 
 pub over-two : (l : List ℕ) (a b : ℕ) → 2 ≤ length l → set (set l 0 a) 1 b ≡ over (a ∷ b ∷ []) l
 unfolding over

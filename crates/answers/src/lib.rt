@@ -26,6 +26,15 @@ impl Room {
     {}
 }
 
+// A first word alone.
+pub fn put_one(answer: &mut [u32], word: u32) -> usize
+    requires { ⌜ answerRoom ≤ length (now answer) ⌝ }
+    ensures { λ n. ⌜ Lays (word ∷ []) (now (answer .entry)) (now (answer .exit)) n ⌝ }
+{
+    answer[0] = word;
+    1
+}
+
 // A first word and one number.
 pub fn put_two(answer: &mut [u32], first: u32, number: u32) -> usize
     requires { ⌜ answerRoom ≤ length (now answer) ⌝ }

@@ -28,6 +28,9 @@ use Rattle.layout.proofs.Forms.{no-form, form-kept}
 use Rattle.layout.proofs.Rules.{new-fine, new-done, new-leaves, new-refused}
 use Rattle.step.specs.declared.Stepped.{Stepped}
 use Rattle.step.specs.Answers.{steppedWords}
+use Rattle.explain.specs.declared.Finding.{Finding}
+use Rattle.explain.specs.declared.Explained.{Explained}
+use Rattle.explain.specs.Answers.{foundWords, explainedWords, Fits, Listed}
 use Rattle.look.specs.declared.Looked.{Looked}
 use Rattle.look.specs.Answer.{seen, shown, RowIn}
 use Rattle.calls.specs.Performs.{Does, Exported, TurnedDown, Made}
@@ -114,6 +117,16 @@ few-shown l (Looked.Done i at n s) h =
     let last : List ℕ = standingNumber s ∷ [] in
     omega (arith, length-append (window l at n) last, length-window l at n, h .1)
 few-shown l (Looked.Refused n) h = omega arith
+
+few-found : (f : Finding) (keys : List ℕ) → Fits f keys → length (foundWords f keys) ≤ maxAnswer
+unfolding foundWords Fits
+few-found Finding.Clear keys h = omega arith
+few-found (Finding.Path n) keys h = omega (arith, length-window keys 0 n, h .1)
+few-found (Finding.Refused n) keys h = omega arith
+
+pub few-explained : (r : Explained) → Listed r → length (explainedWords r) ≤ maxAnswer
+unfolding explainedWords
+few-explained r h = few-found (r .finding) (r .keys) h
 
 -- ---- the form of the buffer after a call
 

@@ -8,6 +8,7 @@ use answers::Room;
 use answers::put_answered;
 use answers::put_two;
 use command::Command;
+use explain::put::put_explained;
 use look::put_looked;
 use step::put_stepped;
 use words::wide;
@@ -17,7 +18,7 @@ ghost use Prim.Native.Nat.{_≤_, _<_};
 ghost use lib.Dec.{leb};
 ghost use lib.ListN.{length};
 ghost use Rattle.answers.specs.Answers.{answerRoom, Lays, answeredWords};
-ghost use Rattle.model.specs.Calls.{look, openRun, fetch, evict, prepare, step, issue, dropRun, ask};
+ghost use Rattle.model.specs.Calls.{look, explain, openRun, fetch, evict, prepare, step, issue, dropRun, ask};
 ghost use Rattle.layout.specs.Buffer.{inForm};
 ghost use Rattle.layout.specs.Calls.{new, on};
 ghost use Rattle.command.specs.Commands.{spelled, numbersEnd};
@@ -189,6 +190,19 @@ pub fn look(store: &[u32], ready: bool, place: u32, number: u32, key: u32, out: 
     narrow(n)
 }
 
+pub fn explain(store: &[u32], ready: bool, run: u32, job: u32, out: &mut [u32]) -> u32
+    requires { ⌜ ready ≡ inForm (now store) ⌝ }
+    ensures { λ n. ⌜ Exported (on (ask (explain run job)))
+        (now (store .entry)) (now (store .entry)) (now (out .entry)) (now (out .exit)) n ⌝ }
+{
+    if !admitted(ready, out) {
+        return turn_down(out);
+    }
+    let r = explain::explain(store, run, job);
+    let n = put_explained(out, r);
+    narrow(n)
+}
+
 // ---- by a command
 
 // Makes the call of a command.
@@ -210,6 +224,7 @@ fn make(store: &mut [u32], ready: bool, command: Command, numbers: &[u32], out: 
         Command::Issue(r, w, m) => issue(store, ready, r, w, m, out),
         Command::Drop(r) => drop(store, ready, r, out),
         Command::Look(p, i, k) => look(store, ready, p, i, k, out),
+        Command::Explain(r, j) => explain(store, ready, r, j, out),
     }
 }
 

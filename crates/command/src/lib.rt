@@ -13,4 +13,5 @@ pub enum Command {
     Issue(u32, u32, u32),
     Drop(u32),
     Look(u32, u32, u32),
+    Explain(u32, u32),
 }

@@ -1,5 +1,7 @@
 pub mod Rows
+pub mod Explaining
 pub mod Uses
+pub mod UsesRuns
 pub mod Excluded
 pub mod Simulation
 pub mod SimulationPrepare

@@ -1,33 +1,33 @@
--- What a reader takes out of the claims of specs/Claim and specs/Lasting.
+-- What a reader takes out of the claim of specs/Claim; of specs/Lasting: UsesRuns.
 -- Nothing here knows how they are proved: a claim that says less is refused here.
--- At a point: form, shelves, versions, reads, steps. Lists: each point of one, two in a row. Runs.
+-- At a point: form, shelves, versions, reads, steps. Lists: each point of one, two in a row.
 -- Assumes nothing.
 use mathlib.Core.Path.{_≡_, refl, sym, ap, _∙_}
 use mathlib.Core.Bool.{false, So}
-use mathlib.Core.Logic.{_⊎_, inl, inr, ⊎-elim, _≢_}
+use mathlib.Core.Logic.{_↔_, _⊎_, inl, inr, ⊎-elim}
 use mathlib.Core.List.{List, [], _∷_, _++_, append-nil}
 use Prim.Native.Nat.{ℕ, _≤_, _<_}
 use lib.Dec.{eqb}
-use Rattle.words.proofs.Bools.{test, eq-eqb, ne-eqb, and-intro, and-left, and-right}
+use Rattle.words.proofs.Bools.{test}
 use Rattle.clock.specs.declared.Standing.the-variants.{Equal, Older}
 use Rattle.clock.specs.Clock.{standingNumber}
 use Rattle.clock.proofs.Standings.{standing-below, standing-self}
 use Rattle.sizes.specs.declared.Counts.{Counts}
 use Rattle.model.specs.Version.{held, dependency, supersedes, versions}
-use Rattle.model.specs.Store.{Run, Store, freeRun, planned}
-use Rattle.model.specs.Outcome.{refused, broken, done, freeState, openState}
+use Rattle.model.specs.Store.{Store, planned}
+use Rattle.model.specs.Outcome.{refused, broken, done, answer}
 use Rattle.model.specs.Look.{lookPlace, lookLimit, rowNumbers, lookStanding, lookNumbers}
-use Rattle.model.specs.Calls.{StoreCall, openRun, fetch, evict, step, dropRun, Query, ask}
+use Rattle.model.specs.Explain.{clearWord, pathWord, Answers}
+use Rattle.model.specs.Calls.{step, explain, ask}
 use Rattle.model.proofs.Cuts.{causalCut-at, overlappingCut-within, overlappingCut-at}
 use Rattle.layout.specs.Reading.{storeOf}
 use Rattle.layout.specs.Buffer.{inForm}
-use Rattle.layout.specs.Calls.{Call, on, newOn, callOn, leaves, isOk, after}
+use Rattle.layout.specs.Calls.{Call, on, newOn, callOn, isOk, after}
 use Rattle.history.specs.History.{History, HappensBefore, saved, inPast}
 use Rattle.history.specs.Copies.{counted}
 use Rattle.consistency.specs.Trace.{ReadSet, Trace, start, follow}
 use Rattle.consistency.specs.Claim.{Among, Choice, isRefused, isBroken, HoldsAt, Consistent, Demand3}
-use Rattle.consistency.specs.Roles.{roleOf, isOn, opens, frees}
-use Rattle.consistency.specs.Lasting.{Lasting}
+use Rattle.consistency.proofs.Explaining.{path-broken, clear-ok}
 use Rattle.consistency.proofs.Rows.{after-append, follow-append, follow-buffer}
 
 -- ---- an outcome is refused, broken or done, and one of them alone
@@ -170,6 +170,25 @@ module _ (t : Trace) (H : HoldsAt t) where
       → ¬ (Choice s r j) → So (isBroken (callOn (on (step r j)) (t .buffer)))
   none-broken r j n g = H .breaks r j .exactly n .1 g
 
+  -- Explain of that job: where the step isn't refused, a path exactly if there is no choice,
+  pub path-none : (r j : ℕ) → isRefused (callOn (on (step r j)) (t .buffer)) ≡ false
+      → Answers (callOn (on (ask (explain r j))) (t .buffer)) pathWord ↔ ¬ (Choice s r j)
+  path-none r j n =
+      let p = path-broken (t .buffer) r j form in
+      let b = H .breaks r j .exactly n in
+      (λ a. b .0 (p .0 a), λ g. p .1 (b .1 g))
+
+  -- clear exactly if the step would be ok,
+  pub clear-exactly : (r j : ℕ)
+      → (answer (callOn (on (ask (explain r j))) (t .buffer)) ≡ clearWord ∷ [])
+      ↔ So (isOk (callOn (on (step r j)) (t .buffer)))
+  clear-exactly r j = clear-ok (t .buffer) r j form
+
+  -- and then a choice works.
+  pub clear-works : (r j : ℕ)
+      → answer (callOn (on (ask (explain r j))) (t .buffer)) ≡ clearWord ∷ [] → Choice s r j
+  clear-works r j e = H .breaks r j .works (clear-exactly r j .0 e)
+
 -- ---- lists
 
 module _ (claim : Demand3) (l : List ℕ) (z : Counts) (ok : So (isOk (newOn l z))) where
@@ -199,48 +218,3 @@ module _ (claim : Demand3) (l : List ℕ) (z : Counts) (ok : So (isOk (newOn l z
           ∙ sym (after-append ds es (follow cs (start z l) .buffer))
           ∙ sym (follow-buffer (ds ++ es) (follow cs (start z l)))
           ∙ sym (ap (λ t. t .buffer) (follow-append cs (ds ++ es) (start z l)))
-
--- ---- runs
-
-module _ (lasting : Lasting) (l : List ℕ) (r : ℕ) (F : So (inForm l)) where
-  -- Run r after a call.
-  abbrev next : StoreCall → Run
-  next c = storeOf (leaves (callOn (on c) l) l) .run r
-
-  -- A run that was free and isn't after a call was opened by it,
-  pub begun-open : (c : StoreCall) → storeOf l .run r .state ≡ freeState
-      → next c .state ≢ freeState → So (opens r (roleOf c)) × So (isOk (callOn (on c) l))
-  begun-open c a b =
-      let p = lasting l c r F .begun a b in
-      (and-left (opens r (roleOf c)) _ p, and-right (opens r (roleOf c)) _ p)
-
-  -- and an accepted open finds it free and leaves it open.
-  pub open-begins : (ws : List ℕ) → So (isOk (callOn (on (openRun r ws)) l))
-      → (storeOf l .run r .state ≡ freeState) × (next (openRun r ws) .state ≡ openState)
-  unfolding roleOf opens
-  open-begins ws p = lasting l (openRun r ws) r F .opened (and-intro (eq-eqb r r refl) p)
-
-  -- An accepted drop leaves it all zero,
-  pub drop-frees : So (isOk (callOn (on (dropRun r)) l)) → next (dropRun r) ≡ freeRun
-  unfolding roleOf frees
-  drop-frees p = lasting l (dropRun r) r F .freed (and-intro (eq-eqb r r refl) p)
-
-  -- and a step leaves it in use, with its jobs.
-  pub step-goes-on : (j : ℕ) → storeOf l .run r .state ≢ freeState
-      → (next (step r j) .state ≢ freeState) × (next (step r j) .jobs ≡ storeOf l .run r .jobs)
-  unfolding roleOf frees
-  step-goes-on j u =
-      let G = lasting l (step r j) r F .lasts u refl in
-      (G .used, G .jobs)
-
-  -- Fetch, evict and the calls that only answer leave every run, and a step every other one.
-  pub others-stay : (o k x j : ℕ) (q : Query) → r ≢ x → let a = storeOf l .run r in
-      (next (fetch o k) ≡ a) × (next (evict o k) ≡ a) × (next (ask q) ≡ a)
-      × (next (step x j) ≡ a)
-  unfolding roleOf isOn
-  others-stay o k x j q n = (
-    lasting l (fetch o k) r F .others refl,
-    lasting l (evict o k) r F .others refl,
-    lasting l (ask q) r F .others refl,
-    lasting l (step x j) r F .others (ne-eqb r x n),
-  )

@@ -17,3 +17,4 @@ pub mod Follow
 pub mod Kept
 pub mod Rules
 pub mod Forms
+pub mod Explaining

@@ -1,5 +1,4 @@
--- The nine calls on a buffer of words: outcome and buffer after it, for any buffer and any
--- numbers.
+-- The calls on a buffer of words: outcome and buffer after it, for any buffer and any numbers.
 -- Call, callOn, leaves; after: a list of calls.
 -- Assumes nothing.
 use mathlib.Core.Bool.{Bool, true, false, cond, not}

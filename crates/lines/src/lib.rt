@@ -31,7 +31,7 @@ struct Row {
 }
 
 // How many commands there are.
-const COMMANDS: usize = 9;
+const COMMANDS: usize = 10;
 
 // The commands: a command's number is its row's. Document 01's nine, then the later ones.
 const ROWS: [Row; COMMANDS] = [
@@ -79,6 +79,11 @@ const ROWS: [Row; COMMANDS] = [
         word: *b"look    ",
         least: 3,
         most: 3,
+    },
+    Row {
+        word: *b"explain ",
+        least: 2,
+        most: 2,
     },
 ];
 
@@ -132,7 +137,7 @@ fn number_at(numbers: &[u32], n: usize, i: usize) -> u32
     if i < n { numbers[i] } else { 0 }
 }
 
-// A command after document 01's nine, with the first n of the numbers: there is none yet.
+// A command after document 01's nine, with the first n of the numbers.
 fn later_command(number: usize, numbers: &[u32], n: usize) -> Command
     requires { ⌜ 9 ≤ number ⌝ }
     requires { ⌜ So (takes (formAt forms number) n) ⌝ }
@@ -141,7 +146,12 @@ fn later_command(number: usize, numbers: &[u32], n: usize) -> Command
         ≡ calling (formAt forms number) (take n (now (numbers .entry))) ⌝ }
     ensures { λ r. ⌜ numbersEnd r ≤ length (now (numbers .entry)) ⌝ }
 {
-    Command::Unread
+    let a = number_at(numbers, n, 0);
+    let b = number_at(numbers, n, 1);
+    match number {
+        9 => Command::Explain(a, b),
+        _ => Command::Unread,
+    }
 }
 
 // A command with the first n of the numbers, of which it takes so many.

@@ -2,12 +2,14 @@
 -- Assumes nothing.
 use mathlib.Core.Path.{_≡_, refl}
 use mathlib.Core.Bool.{true}
+use mathlib.Core.List.{[], _∷_}
 use lib.ListN.{replicate}
 use Rattle.words.specs.Tests.{anyBelow, allBelow, only}
 use Rattle.words.specs.Numbers.{foldBelow}
 use Rattle.words.specs.Lists.{putAt, upto, blocks}
 use Rattle.masks.specs.Mask.{testBit, withBit, withIf, maskBelow}
 use Rattle.reach.specs.Closure.{closure, rounds, round}
+use Rattle.reach.specs.Path.{lowest, near, distance, nearest, pathBy, shortestPath}
 use Rattle.clock.specs.Clock.{exceeds, standing, dominates, concurrent, present, join}
 use Rattle.sizes.specs.Bounds.{countsOf, between}
 use Rattle.model.specs.Algebra.{lacking, needsMet, causalCut, overlappingCut}
@@ -22,10 +24,12 @@ use Rattle.model.specs.Prepare.{jobStart, fetchReads, preparedCaches, un
 use Rattle.model.specs.Step.{readStart, stepSite, stepReads, stepStart, stepFetch, stepCache, stepPlan, stepPull, stepSnapshot, stepMoved, jobLimit, notReady, jobCause, stepCause, stepBroken, stepDone, stepRule}
 use Rattle.model.specs.Issue.{raiseCause, issueCause, takenIn, rowsSet, newPast, newVersion, issuedMaster, issuedWriter, savedStore, issuedStore, issuedNumber, issueDone, issueRule}
 use Rattle.model.specs.Look.{lookPlace, lookLimit, lookCause, rowNumbers, lookStanding, lookNumbers, lookReply}
+use Rattle.model.specs.Explain.{explainStart, explainEdge, explainGoal, explainPath, breaks, explainReply}
 use Rattle.model.specs.Calls.{replyOf, ruleOf}
 use Rattle.model.proofs.Readings.{marked, sentences, unmarked, limits, shelved}
 use Rattle.model.proofs.Looks.{looked}
 use Rattle.model.proofs.Scripts.{answers, case-a-script, case-a-answers, longer-script, longer-answers, refusals-script, refusals-answers, reading-script, reading-answers, again-script, again-answers, broken-script, broken-answers, behind-script, behind-answers}
+use Rattle.model.proofs.Explanations as explained
 
 -- The ten marked readings pass, and each script is answered as it should be, answer by answer.
 pub record Computed : Type 0 where
@@ -42,6 +46,25 @@ pub record Computed : Type 0 where
   pub broken : answers broken-script (fresh (countsOf 2 2 2 2)) ≡ broken-answers
   pub behind : answers behind-script (fresh (countsOf 1 2 2 1)) ≡ behind-answers
   pub longer : answers longer-script (fresh (countsOf 3 2 2 2)) ≡ longer-answers
+  pub passing : explained.toldAfter
+      (explained.passing-before (0 ∷ 1 ∷ 0 ∷ 1 ∷ 4 ∷ 0 ∷ 1 ∷ 2 ∷ 0 ∷ [])) explained.passing-calls
+      (fresh (countsOf 3 4 2 2)) ≡ explained.passing-answers
+  pub unplanned : explained.toldAfter (explained.passing-before (0 ∷ 1 ∷ 0 ∷ 1 ∷ 4 ∷ 0 ∷ []))
+      explained.unplanned-calls (fresh (countsOf 3 4 2 2)) ≡ explained.unplanned-answers
+  pub ends : explained.toldAfter explained.ends-before explained.ends-calls
+      (fresh (countsOf 5 5 2 2)) ≡ explained.ends-answers
+  pub shorter : explained.toldAfter explained.longer-before explained.longer-calls
+      (fresh (countsOf 4 5 2 2)) ≡ explained.longer-answers
+  pub met : explained.toldAfter explained.met-before explained.met-calls
+      (fresh (countsOf 3 4 2 2)) ≡ explained.met-answers
+  pub carried : explained.toldAfter
+      (explained.carried-before (0 ∷ 1 ∷ 0 ∷ 0 ∷ 8 ∷ 0 ∷ 1 ∷ 4 ∷ 0 ∷ 1 ∷ 2 ∷ 0 ∷ []))
+      explained.carried-calls (fresh (countsOf 4 5 2 2)) ≡ explained.carried-answers
+  pub old-read : explained.toldAfter
+      (explained.carried-before (0 ∷ 1 ∷ 0 ∷ 0 ∷ 8 ∷ 0 ∷ 1 ∷ 6 ∷ 0 ∷ []))
+      explained.old-read-calls (fresh (countsOf 4 5 2 2)) ≡ explained.old-read-answers
+  pub refusing : answers explained.refusing-calls (fresh (countsOf 2 2 1 2))
+      ≡ explained.refusing-answers
 
 pub computed : Computed
 unfolding needsMet causalCut overlappingCut concurrent doneReads zeroRows versionFormed
@@ -58,8 +81,9 @@ unfolding needsMet causalCut overlappingCut concurrent doneReads zeroRows versio
     stepFetch stepCache stepPlan stepPull stepSnapshot stepMoved jobLimit notReady jobCause
     stepCause stepBroken stepDone stepRule raiseCause issueCause takenIn rowsSet newPast
     newVersion issuedMaster issuedWriter savedStore issuedStore issuedNumber issueDone issueRule
-    lookPlace lookLimit lookCause rowNumbers lookStanding lookNumbers lookReply replied replyOf
-    ruleOf
+    lookPlace lookLimit lookCause rowNumbers lookStanding lookNumbers lookReply explainStart
+    explainEdge explainGoal explainPath breaks explainReply lowest near distance nearest pathBy
+    shortestPath replied replyOf ruleOf
 computed = record {
   ten = refl;
   texts = refl;
@@ -74,4 +98,12 @@ computed = record {
   broken = refl;
   behind = refl;
   longer = refl;
+  passing = refl;
+  unplanned = refl;
+  ends = refl;
+  shorter = refl;
+  met = refl;
+  carried = refl;
+  old-read = refl;
+  refusing = refl;
 }

@@ -1,5 +1,6 @@
 pub mod Outcomes
 pub mod Scripts
+pub mod Explanations
 pub mod Readings
 pub mod Looks
 pub mod Clauses
@@ -13,3 +14,4 @@ pub mod Steps
 pub mod DoneReads
 pub mod Formed
 pub mod Plans
+pub mod Explained

@@ -1,4 +1,4 @@
--- The calls of document 01 with their arguments, and the rule of each on a store.
+-- The calls of documents 01 and 02 with their arguments, and the rule of each on a store.
 -- Query, replyOf: those that only answer. StoreCall, ruleOf: all on a store.
 -- New alone needs no store: crate layout has it, and the calls on a buffer.
 -- Assumes nothing.
@@ -12,13 +12,16 @@ use Rattle.model.specs.Prepare.{prepareRule}
 use Rattle.model.specs.Step.{stepRule}
 use Rattle.model.specs.Issue.{issueRule}
 use Rattle.model.specs.Look.{lookReply}
+use Rattle.model.specs.Explain.{explainReply}
 
 -- A call that only answers.
 pub data Query : Type 0 where
   look : ℕ → ℕ → ℕ → Query  -- place, its number, sheet
+  explain : ℕ → ℕ → Query  -- run, job
 
 unfoldable pub replyOf : Query → Store → Reply
 replyOf (look p i k) = lookReply p i k
+replyOf (explain r j) = explainReply r j
 
 -- A call on a store that is in form.
 pub data StoreCall : Type 0 where

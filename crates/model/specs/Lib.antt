@@ -10,4 +10,5 @@ pub mod Prepare
 pub mod Step
 pub mod Issue
 pub mod Look
+pub mod Explain
 pub mod Calls

@@ -15,7 +15,8 @@ pub data Outcome : Type 0 where
   done : List ℕ → Store → Outcome  -- ok: the answer's numbers, and the next store
   told : ℕ → List ℕ → Outcome  -- the answer's first word and numbers; every word stays
 
--- The answer in words: 0 ok, 1 broken, 2 refused, then the numbers that the text prints.
+-- The answer in words, the first 0 ok, 1 broken, 2 refused or one that is told; then the numbers
+-- that the text prints.
 unfoldable pub answer : Outcome → List ℕ
 answer (refused n) = 2 ∷ n ∷ []
 answer (broken m s) = 1 ∷ m ∷ []

@@ -21,14 +21,16 @@ abbrev rows : List Word
 rows =
     record { bytes = bytesOf "ok      " } ∷
     record { bytes = bytesOf "broken  " } ∷
-    record { bytes = bytesOf "refused " } ∷ []
+    record { bytes = bytesOf "refused " } ∷
+    record { bytes = bytesOf "clear   " } ∷
+    record { bytes = bytesOf "path    " } ∷ []
 
 pub table-word : (t : ℕ) → firstOf (getD rows t (record { bytes = [] }) .bytes) ≡ answerWord t
 unfolding answerWord firstOf fieldsOf inFirst
 table-word t =
     sym (List·getD-map (λ (w : Word). firstOf (w .bytes)) rows t (record { bytes = [] }))
 
-pub no-word : (m : List ℕ) (t : ℕ) → 3 ≤ t → m ≡ m ++ answerWord t
+pub no-word : (m : List ℕ) (t : ℕ) → 5 ≤ t → m ≡ m ++ answerWord t
 unfolding answerWord
 no-word m t h = rw (List·getD-eq-default answerWords [] h, append-nil)
 

@@ -1,5 +1,5 @@
 -- The program's answers: "One line out for each: `ok` and the answer's numbers, `broken m` or
--- `refused n`, single spaces."
+-- `refused n`, single spaces." Document 02's calls have words of their own.
 -- lineRoom: how long a line is. answerWords: the words. answerText: the line of an answer in
 -- words. unreadText: the line `unread`.
 -- Assumes nothing.
@@ -14,9 +14,10 @@ use Rattle.text.specs.Decimal.{decimalOf}
 abbrev pub lineRoom : ℕ
 lineRoom = 384
 
--- The words of an answer's first number: 0 ok, 1 broken, 2 refused.
+-- The words of an answer's first number: 0 ok, 1 broken, 2 refused; explain's 3 clear, 4 path.
 abbrev pub answerWords : List (List ℕ)
-answerWords = bytesOf "ok" ∷ bytesOf "broken" ∷ bytesOf "refused" ∷ []
+answerWords =
+    bytesOf "ok" ∷ bytesOf "broken" ∷ bytesOf "refused" ∷ bytesOf "clear" ∷ bytesOf "path" ∷ []
 
 -- No call answers another first number: its line would have no word.
 unfoldable pub answerWord : ℕ → List ℕ
@@ -27,8 +28,8 @@ unfoldable pub numbersText : List ℕ → List ℕ
 numbersText [] = []
 numbersText (n ∷ ns) = (32 ∷ decimalOf n) ++ numbersText ns
 
--- The words of an answer are those of crate model's `answer`: 0 ok, 1 broken, 2 refused, then the
--- numbers. A line feed (10) ends the line.
+-- The words of an answer are those of crate model's `answer`: a first word, then the numbers. A
+-- line feed (10) ends the line.
 unfoldable pub answerText : List ℕ → List ℕ
 answerText [] = 10 ∷ []
 answerText (t ∷ ns) = answerWord t ++ numbersText ns ++ (10 ∷ [])

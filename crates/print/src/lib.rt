@@ -26,7 +26,7 @@ struct Word {
 }
 
 // The words of an answer's first number, from 0 on.
-const WORDS: [Word; 3] = [
+const WORDS: [Word; 5] = [
     Word {
         bytes: *b"ok      ",
     },
@@ -35,6 +35,12 @@ const WORDS: [Word; 3] = [
     },
     Word {
         bytes: *b"refused ",
+    },
+    Word {
+        bytes: *b"clear   ",
+    },
+    Word {
+        bytes: *b"path    ",
     },
 ];
 

@@ -1,15 +1,16 @@
 -- Laws of the least set.
 -- closure-start, -closed, -least: it is the least closed set with the start in it.
--- closure-iff, -unique: it is what is reached. closure-mono, -same: a larger start and more edges.
+-- closure-iff, -unique: it is what is reached. closure-soon: how many rounds it takes at most.
+-- closure-mono, -same: a larger start and more edges.
 -- closure-between, closure-fixed, outside-falls: for a recursion that grows a set.
 -- Assumes nothing.
-use mathlib.Core.Path.{_≡_, _∙_}
+use mathlib.Core.Path.{_≡_, refl, _∙_}
 use mathlib.Core.Bool.{false, not, _&&_, So}
 use mathlib.Core.Logic.{_⊎_, inl, inr, _↔_}
-use Prim.Native.Nat.{ℕ, zero, suc, _≤_, _<_}
+use Prim.Native.Nat.{ℕ, zero, suc, _-_, _≤_, _<_}
 use native.Mathlib.Omega.{arith}
 use native.Mathlib.Decide.{decLt}
-use Rattle.words.specs.Tests.{Items, Within, anyBelow}
+use Rattle.words.specs.Tests.{Items, Within, anyBelow, none}
 use Rattle.words.proofs.Bools.{test, clash, same-test, _∙˙_, and-intro, and-left, and-right, or-left, or-right, or-cases, not-intro, not-elim}
 use Rattle.words.proofs.Tests.{any-intro, any-some}
 use Rattle.words.proofs.Numbers.{count-top, count-less}
@@ -44,7 +45,7 @@ round-adds n edge m t d l p q =
     or-right (m d) (any-intro n (λ t. m t && edge t d) t l (and-intro p q))
 
 -- To what a round has added a member leads.
-round-from : (n : ℕ) (edge : ℕ → Items) (m : Items) (d : ℕ) → So (round n edge m d)
+pub round-from : (n : ℕ) (edge : ℕ → Items) (m : Items) (d : ℕ) → So (round n edge m d)
     → So (m d) ⊎ ((t : ℕ) × (t < n) × So (m t) × So (edge t d))
 unfolding round
 round-from n edge m d p =
@@ -166,6 +167,17 @@ pub closure-unique : (n : ℕ) (edge : ℕ → Items) (start m : Items) → With
 closure-unique n edge start m s c r d l =
     same-test (λ p. closure-iff n edge start d l .1 (r d l p))
     (closure-least n edge start m s c d l)
+
+-- Where the start has an item, one round less is enough.
+pub closure-soon : (n : ℕ) (edge : ℕ → Items) (start : Items) (k : ℕ) → k < n → So (start k)
+    → Within n (closure n edge start) (rounds (n - 1) n edge start)
+closure-soon n edge start k l p =
+    closure-least n edge start (rounds (n - 1) n edge start)
+    (λ i _. rounds-grow (n - 1) n edge start i)
+    (enough-rounds (n - 1) n edge start (omega (arith, falls, outside-top n none)))
+  where
+    falls : outside n start < outside n none
+    falls = outside-falls n none start (λ i _ q. clash q refl) k l refl p
 
 -- ---- a larger start and more edges
 

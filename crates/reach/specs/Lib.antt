@@ -1,1 +1,3 @@
 pub mod Closure
+pub mod Path
+pub mod Rows

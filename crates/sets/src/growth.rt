@@ -56,7 +56,7 @@ pub fn led_from(words: &[u32], z: Counts, rule: Rule, scope: u32, t: usize) -> u
 }
 
 // The same, if t is in the mask.
-fn led_if(words: &[u32], z: Counts, rule: Rule, scope: u32, mask: u32, t: usize) -> u32
+pub fn led_if(words: &[u32], z: Counts, rule: Rule, scope: u32, mask: u32, t: usize) -> u32
     requires { ⌜ RuleArea (length (now words)) z rule ⌝ }
     requires { ⌜ t < z .keys ⌝ }
     ensures { λ r. ⌜ r ≡ when (testBit mask t)

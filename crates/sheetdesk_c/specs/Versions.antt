@@ -4,7 +4,7 @@ use Prim.Native.Nat.{ℕ}
 
 -- It rises when an exported call, its arguments or its answer change.
 abbrev pub interfaceVersion : ℕ
-interfaceVersion = 2
+interfaceVersion = 3
 
 -- It rises when the words of a store change.
 abbrev pub layoutVersion : ℕ

@@ -1,11 +1,11 @@
-// The calls for C and Rust. Each lays its answer's words (0 ok, 1 broken or 2 refused, then the
-// numbers) over the front of a lent slice and gives how many they are; a slice of fewer than 40
-// words gives 0, and nothing is changed.
+// The calls for C and Rust. Each lays its answer's words (0 ok, 1 broken, 2 refused, 3 clear or
+// 4 path, then the numbers) over the front of a lent slice and gives how many they are; a slice of
+// fewer than 40 words gives 0, and nothing is changed.
 pub mod clocks;
 
 use form::in_form;
 ghost use mathlib.Core.Path.{_≡_};
-ghost use Rattle.model.specs.Calls.{look, openRun, fetch, evict, prepare, step, issue, dropRun, ask};
+ghost use Rattle.model.specs.Calls.{look, explain, openRun, fetch, evict, prepare, step, issue, dropRun, ask};
 ghost use Rattle.layout.specs.Calls.{new, on};
 ghost use Rattle.calls.specs.Performs.{Exported};
 ghost use Rattle.sheetdesk_c.specs.Versions.{interfaceVersion, layoutVersion};
@@ -101,12 +101,20 @@ pub extern "C" fn sheetdesk_look(
     calls::look(store, in_form(store), place, number, key, out)
 }
 
+#[no_mangle]
+pub extern "C" fn sheetdesk_explain(store: &[u32], run: u32, job: u32, out: &mut [u32]) -> u32
+    ensures { λ n. ⌜ Exported (on (ask (explain run job)))
+        (now (store .entry)) (now (store .entry)) (now (out .entry)) (now (out .exit)) n ⌝ }
+{
+    calls::explain(store, in_form(store), run, job, out)
+}
+
 // The version of this interface: it rises when a call, its arguments or its answer change.
 #[no_mangle]
 pub extern "C" fn sheetdesk_version() -> u32
     ensures { λ r. ⌜ r ≡ interfaceVersion ⌝ }
 {
-    2
+    3
 }
 
 // The version of the layout: it rises when the words of a desk change.

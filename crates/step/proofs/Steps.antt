@@ -24,8 +24,8 @@ use Rattle.trial.specs.declared.Visit.{Visit}
 use Rattle.trial.specs.declared.Trial.{Trial}
 use Rattle.trial.specs.Trials.{Finds}
 use Rattle.trial.proofs.Trials.{visit-known}
-use Rattle.step.proofs.Divisions.{from-snapshot, from-cache, from-master, moved-mask, moved-some, moved-none}
-use Rattle.step.proofs.Stores.{found-counts, found-run, found-taken, found-pulled, found-read, found-reads}
+use Rattle.trial.proofs.Finds.{found-counts, found-run, found-taken, found-pulled, found-read, found-reads, moved-mask, moved-some, moved-none}
+use Rattle.step.proofs.Divisions.{from-snapshot, from-cache, from-master}
 
 -- What is done where there is no cause.
 abbrev act : Store → ℕ → ℕ → Outcome

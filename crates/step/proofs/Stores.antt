@@ -1,5 +1,5 @@
 -- What a step that doesn't break stores: the cache with T, the snapshot with C, and two masks.
--- found-..: what holds of a visit that was found. fetch-areas, merge-areas: where the places lie.
+-- fetch-areas, merge-areas: where the places lie.
 -- copied, merged: the two places as the rule has them; both-formed: between the two.
 -- step-left: the buffer after it.
 -- Assumes nothing.
@@ -22,14 +22,12 @@ use Rattle.model.specs.Store.{Run, Store, withSites, withCache, withRun, withSn
 use Rattle.model.specs.Form.{placeFormed}
 use Rattle.model.specs.Step.{stepBranch, stepSite, stepStart, stepFetch, stepCache, stepPull, stepSnapshot, stepDone}
 use Rattle.model.proofs.Formed.{place-out, place-in}
-use Rattle.model.proofs.Steps.{step-free}
 use Rattle.layout.specs.Reading.{readPlace, storeOf}
 use Rattle.layout.specs.Stored.{putPlace}
 use Rattle.layout.specs.Buffer.{written}
 use Rattle.layout.specs.Calls.{leaves}
 use Rattle.layout.proofs.Parts.{place-laws}
 use Rattle.layout.proofs.Windows.{part-back}
-use Rattle.layout.proofs.Readings.{snapshot-in}
 use Rattle.layout.proofs.Updates.{put-snapshot, put-masks, run-twice}
 use Rattle.layout.proofs.Kept.{fetched-fits, fetched-formed}
 use Rattle.version.specs.Places.{choice, Areas}
@@ -40,9 +38,9 @@ use Rattle.sets.proofs.Views.{chosen}
 use Rattle.trial.specs.declared.Visit.{Visit}
 use Rattle.trial.specs.declared.Trial.{Trial}
 use Rattle.trial.specs.Jobs.{UsedRun}
-use Rattle.trial.specs.Trials.{visitOf, trialOf, Finds}
-use Rattle.trial.proofs.Known.{jobs-known, job-known, job-ready, snapshot-behind, done-word}
-use Rattle.trial.proofs.Trials.{master-at, cache-at, old-master, old-cache}
+use Rattle.trial.specs.Trials.{Finds}
+use Rattle.trial.proofs.Known.{jobs-known, snapshot-behind, done-word}
+use Rattle.trial.proofs.Finds.{found-counts, found-run, found-site, found-taken, found-pulled, found-read, found-reads, found-cache-at, found-snapshot-at, found-master-at, found-master, found-cache, found-snapshot}
 
 -- ---- by the store
 
@@ -84,54 +82,34 @@ module _ (l : List ℕ) (z : Counts) (r j : ℕ) (v : Visit) (t : Trial)
   abbrev s : Store
   s = storeOf l
 
-  pub found-counts : s .counts ≡ z
-  found-counts = form-counts l z (F .form)
+  used : UsedRun l z r × (j < s .run r .jobs)
+  used = found-run l z r j v t F
 
-  pub found-run : UsedRun l z r × (j < s .run r .jobs)
-  found-run =
-      let f = step-free s r j (F .free) in
-      job-ready l z r j (F .form) (rw (← found-counts) (f .0)) (f .1)
+  counts : s .counts ≡ z
+  counts = found-counts l z r j v t F
 
-  pub found-site : stepSite s r j < z .sites
-  unfolding stepSite
-  found-site = job-known l z r (found-run .0) j (found-run .1) .site
-
-  pub found-taken : t .taken ≡ maskBelow (s .counts .keys) (stepFetch s r j)
-  unfolding trialOf
-  found-taken = ap (λ (t : Trial). t .taken) (F .trial)
-
-  pub found-pulled : t .pulled ≡ maskBelow (s .counts .keys) (stepPull s r j)
-  unfolding trialOf
-  found-pulled = ap (λ (t : Trial). t .pulled) (F .trial)
-
-  pub found-read : v .read ≡ stepBranch s r j .read
-  unfolding visitOf
-  found-read = ap (λ (v : Visit). v .read) (F .visit)
-
-  pub found-reads : v .reads ≡ s .run r .job j .reads
-  unfolding visitOf
-  found-reads = ap (λ (v : Visit). v .reads) (F .visit)
+  site-low : stepSite s r j < z .sites
+  site-low = found-site l z r j v t F
 
   -- ---- where the places lie
 
-  snapshot-at : v .snapshot ≡ snapshotAt z r
-  unfolding visitOf
-  snapshot-at = ap (λ (v : Visit). v .snapshot) (F .visit)
-
   site-at : v .cache ≡ siteAt z (stepSite s r j)
-  site-at = cache-at l z r j (snapshotAt z r) (found-run .0) (found-run .1) v (F .visit)
+  site-at = found-cache-at l z r j v t F
+
+  snapshot-at : v .snapshot ≡ snapshotAt z r
+  snapshot-at = found-snapshot-at l z r j v t F
 
   pub fetch-areas : Areas (length l) z (v .cache) (v .master)
   fetch-areas =
       let S = form-area l z (F .form) in
-      rw (site-at, master-at l z r j (snapshotAt z r) (found-run .0) (found-run .1) v (F .visit))
-      (site-master (length l) z (S .ranged) (S .fits) _ found-site)
+      rw (site-at, found-master-at l z r j v t F)
+      (site-master (length l) z (S .ranged) (S .fits) _ site-low)
 
   pub merge-areas : Areas (length l) z (v .snapshot) (v .cache)
   merge-areas =
       let S = form-area l z (F .form) in
       rw (site-at, snapshot-at)
-      (snapshot-site (length l) z (S .ranged) (S .fits) r _ (found-run .0 .run) found-site)
+      (snapshot-site (length l) z (S .ranged) (S .fits) r _ (used .0 .run) site-low)
 
   -- ---- the cache
 
@@ -142,13 +120,10 @@ module _ (l : List ℕ) (z : Counts) (r j : ℕ) (v : Visit) (t : Trial)
   cache = readPlace z l (v .cache)
 
   same-master : s .master ≡ master
-  same-master = old-master l z r j (snapshotAt z r) (found-run .0) (found-run .1) v (F .visit)
+  same-master = found-master l z r j v t F
 
   same-cache : s .site (stepSite s r j) .cache ≡ cache
-  same-cache = old-cache l z r j (snapshotAt z r) (found-run .0) (found-run .1) v (F .visit)
-
-  same-snapshot : stepBranch s r j .snapshot ≡ readPlace z l (v .snapshot)
-  same-snapshot = rw snapshot-at (snapshot-in l z (F .form .counts) r (found-run .0 .run))
+  same-cache = found-cache l z r j v t F
 
   pub copied :
       putPlace z l (v .cache) (choice (testBit (t .taken)) master cache)
@@ -158,7 +133,8 @@ module _ (l : List ℕ) (z : Counts) (r j : ℕ) (v : Visit) (t : Trial)
       rw (← same-master, ← same-cache)
       (chosen z l (v .cache) (t .taken) (stepFetch s r j) (s .master)
       (s .site (stepSite s r j) .cache)
-      (found-taken ∙ ap (λ (y : Counts). maskBelow (y .keys) (stepFetch s r j)) found-counts))
+      (found-taken l z r j v t F
+      ∙ ap (λ (y : Counts). maskBelow (y .keys) (stepFetch s r j)) counts))
 
   as-fetched : stepCache s r j
       ≡ fetched (versions (z .writers)) (z .keys) master cache (stepStart s r j)
@@ -168,7 +144,7 @@ module _ (l : List ℕ) (z : Counts) (r j : ℕ) (v : Visit) (t : Trial)
       let old = s .site (stepSite s r j) .cache in
       let taken : Counts → Place Version → Place Version → Place Version =
       λ y p q. fetched (versions (y .writers)) (y .keys) p q start in
-      ap (λ (y : Counts). taken y (s .master) old) found-counts
+      ap (λ (y : Counts). taken y (s .master) old) counts
       ∙ ap (λ (p : Place Version). taken z p old) same-master ∙ ap (taken z master) same-cache
 
   -- ---- the snapshot, on the buffer with that cache
@@ -183,17 +159,18 @@ module _ (l : List ℕ) (z : Counts) (r j : ℕ) (v : Visit) (t : Trial)
     snapshot-back : readPlace z m (v .snapshot) ≡ stepBranch s r j .snapshot
     snapshot-back =
         let behind : v .cache + placeSize z ≤ v .snapshot =
-        rw (site-at, snapshot-at) (snapshot-behind l z r (found-run .0) _ found-site) in
-        rw (e, same-snapshot) (place-beside z l (v .cache) (v .snapshot) _ (inl behind))
+        rw (site-at, snapshot-at) (snapshot-behind l z r (used .0) _ site-low) in
+        rw (e, found-snapshot l z r j v t F)
+        (place-beside z l (v .cache) (v .snapshot) _ (inl behind))
 
     pub both-formed : So (placeFormed z (readPlace z m (v .snapshot)))
         × So (placeFormed z (readPlace z m (v .cache)))
     both-formed =
-        let at = master-at l z r j (snapshotAt z r) (found-run .0) (found-run .1) v (F .visit) in
+        let at = found-master-at l z r j v t F in
         let whole : So (placeFormed z master) = rw at (master-formed l z (F .form)) in
         let part : So (placeFormed z cache) =
-        rw site-at (cache-formed l z (F .form) _ found-site) in (
-          rw snapshot-back (place-in z _ (jobs-known l z r (found-run .0) .plan .snapshot .place)),
+        rw site-at (cache-formed l z (F .form) _ site-low) in (
+          rw snapshot-back (place-in z _ (jobs-known l z r (used .0) .plan .snapshot .place)),
           rw (cache-back, as-fetched) (place-in z _ (fetched-formed z master cache
               (stepStart s r j) (place-out z master whole) (place-out z cache part))),
         )
@@ -208,7 +185,8 @@ module _ (l : List ℕ) (z : Counts) (r j : ℕ) (v : Visit) (t : Trial)
         (chosen z m (v .snapshot) (t .pulled) (stepPull s r j)
         (λ k. merge (stepBranch s r j .snapshot k) (stepCache s r j k))
         (stepBranch s r j .snapshot)
-        (found-pulled ∙ ap (λ (y : Counts). maskBelow (y .keys) (stepPull s r j)) found-counts))
+        (found-pulled l z r j v t F
+        ∙ ap (λ (y : Counts). maskBelow (y .keys) (stepPull s r j)) counts))
 
   -- ---- all that is stored
 
@@ -222,11 +200,11 @@ module _ (l : List ℕ) (z : Counts) (r j : ℕ) (v : Visit) (t : Trial)
   step-left at e =
       rw (
         e,
-        done-word l z r (found-run .0),
-        found-read,
-        found-reads,
+        done-word l z r (used .0),
+        found-read l z r j v t F,
+        found-reads l z r j v t F,
         site-at,
         snapshot-at,
       )
       (step-stored l z r (stepSite s r j) (stepCache s r j) (stepSnapshot s r j) _ _ (F .form)
-      (found-run .0 .run) found-site)
+      (used .0 .run) site-low)

@@ -157,11 +157,11 @@ module _ (l : List ℕ) (z : Counts) (r j snapshot : ℕ) (U : UsedRun l z r)
   pub old-cache : s .site (stepSite s r j) .cache ≡ readPlace z l (v .cache)
   old-cache = rw cache-at (cache-in l z (U .form .counts) (stepSite s r j) site-low)
 
-  old-reads : stepReads s r j ≡ testBit (v .reads)
+  pub old-reads : stepReads s r j ≡ testBit (v .reads)
   unfolding stepReads visitOf
   old-reads = rw seen
 
-  old-plan : stepPlan s r j ≡ testBit (v .plan)
+  pub old-plan : stepPlan s r j ≡ testBit (v .plan)
   unfolding stepPlan visitOf
   old-plan = rw seen (sym (test-plan _ _ (jobs-known l z r U .plan .jobs .high)))
 

@@ -115,6 +115,14 @@ returns-10 c =
     let s = x .before .before .before .before .before in
     rw (x .command9 .given .1) (e .look .ensures .does (s .pre .1 .1))
 
+returns-11 : tie.Need-returns-11
+unfolding Made
+returns-11 c =
+    let e = c .before .before in
+    let x = e .before .before .before .before in
+    let s = x .before .before .before .before .before in
+    rw (x .command10 .given .1) (e .explain .ensures .does (s .pre .1 .1))
+
 pub make-spec : {M : Type 1} → statement M
 make-spec =
     tie.close
@@ -128,6 +136,8 @@ make-spec =
     (λ c. search needs)
     (λ c. search needs)
     part-open-end
+    (λ c κs. search needs)
+    (λ c. search needs)
     (λ c κs. search needs)
     (λ c. search needs)
     (λ c κs. search needs)
@@ -170,4 +180,7 @@ make-spec =
     returns-9
     (λ c. search needs)
     (λ c. search needs)
-    returns-10)
+    returns-10
+    (λ c. search needs)
+    (λ c. search needs)
+    returns-11)

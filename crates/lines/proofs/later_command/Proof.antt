@@ -1,12 +1,31 @@
--- `lines::later_command`: no form has a number from 9 on.
+-- `lines::later_command`: each arm is the call of its form, and no form has a higher number.
 -- Assumes nothing.
-use Rattle.lines.proofs.Tables.{in-table, not-past}
+use native.Mathlib.Omega.{arith}
+use borrow.Author.Needs.{needs}
+use Rattle.lines.specs.Grammar.{formAt, calling}
+use Rattle.lines.proofs.Tables.{in-table, next, not-past}
 use Rattle.lines.proofs.later_command.Statement.{statement}
 use Rattle.lines.proofs.later_command.Tie as tie
 
+number-at-requires : tie.Need-number-at-requires
+number-at-requires c κs = search needs
+
+number-at-requires-2 : tie.Need-number-at-requires-2
+number-at-requires-2 c κs = search needs
+
 returns : tie.Need-returns
+unfolding calling formAt
 returns c =
-    absurd (not-past (in-table (c .args .number) (c .args .n) (c .pre .1 .0)) (c .pre .0))
+    let a = c .before .before .number-at .ensures in
+    let b = c .before .number-at2 .ensures in
+    (rw (c .match .keys1, a, b), omega arith)
+
+returns-2 : tie.Need-returns-2
+returns-2 c =
+    let s = c .before .before .before .before in
+    let past = next (s .pre .0) (c .match .rest .1) in
+    absurd (not-past (in-table (s .args .number) (s .args .n) (s .pre .1 .0)) past)
 
 pub later-command-spec : {M : Type 1} → statement M
-later-command-spec = tie.close (tie.spec returns)
+later-command-spec =
+    tie.close (tie.spec number-at-requires number-at-requires-2 returns returns-2)

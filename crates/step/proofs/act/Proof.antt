@@ -11,7 +11,7 @@ use Rattle.form.proofs.Known.{form-area}
 use Rattle.status.proofs.Statuses.{spoiled-words}
 use Rattle.trial.proofs.Known.{run-index}
 use Rattle.step.specs.Answers.{steppedWords}
-use Rattle.step.proofs.Stores.{found-run}
+use Rattle.trial.proofs.Finds.{found-run}
 use Rattle.step.proofs.Steps.{step-broken, step-done}
 use Rattle.step.proofs.act.Statement.{statement}
 use Rattle.step.proofs.act.Tie as tie

@@ -14,7 +14,8 @@ use Rattle.layout.specs.Stored.{putPlace}
 use Rattle.form.proofs.Known.{form-area}
 use Rattle.status.proofs.Statuses.{marked-words}
 use Rattle.trial.proofs.Known.{run-index, job-low}
-use Rattle.step.proofs.Stores.{found-run, fetch-areas, merge-areas, copied, both-formed, merged, step-left}
+use Rattle.trial.proofs.Finds.{found-run}
+use Rattle.step.proofs.Stores.{fetch-areas, merge-areas, copied, both-formed, merged, step-left}
 use Rattle.step.proofs.finish.Statement.{statement}
 use Rattle.step.proofs.finish.Tie as tie
 

@@ -1,0 +1,165 @@
+-- What a trial found draws as the model has it.
+-- drawn-edge, drawn-start: by the store. draws-found: what path_of asks for. path-found: the path.
+-- words-found, words-refused: the answer.
+-- Assumes nothing.
+use mathlib.Core.Path.{_≡_, refl, sym, ap, ap₂, _∙_}
+use mathlib.Core.Bool.{Bool, true, false, So, cond, not, _&&_}
+use mathlib.Core.Logic.{_≢_}
+use mathlib.Core.List.{List, [], _∷_}
+use Prim.Native.Nat.{ℕ, _<_}
+use native.Mathlib.Omega.{arith}
+use lib.Bits.{bitAnd}
+use lib.Dec.{eqb}
+use Rattle.words.specs.Tests.{Items}
+use Rattle.words.proofs.Bools.{test, eqb-eq, eqb-ne}
+use Rattle.masks.specs.Mask.{testBit, maskBelow}
+use Rattle.masks.proofs.Sets.{mask-lt, mask-same, item-of}
+use Rattle.reach.specs.Closure.{closure}
+use Rattle.reach.specs.Path.{shortestPath}
+use Rattle.reach.proofs.Closures.{closure-same}
+use Rattle.reach.proofs.SamePaths.{path-same}
+use Rattle.sizes.specs.declared.Counts.{Counts}
+use Rattle.sizes.specs.Bounds.{snapshotAt}
+use Rattle.model.specs.Algebra.{Place}
+use Rattle.model.specs.Version.{Version}
+use Rattle.model.specs.Sets.{draws, drawSet, pullSet, fetched}
+use Rattle.model.specs.Store.{Store}
+use Rattle.model.specs.Outcome.{refused, answer}
+use Rattle.model.specs.Step.{stepSite, stepReads, stepFetch, stepCache, stepPlan, stepPull, stepMoved, stepCause}
+use Rattle.model.specs.Explain.{clearWord, pathWord, explainStart, explainEdge, explainGoal, explainPath, breaks, explainReply}
+use Rattle.model.specs.Calls.{explain, ask, replyOf}
+use Rattle.layout.specs.Reading.{storeOf}
+use Rattle.layout.specs.Buffer.{inForm}
+use Rattle.layout.specs.Calls.{on, callOn}
+use Rattle.layout.proofs.Forms.{ask-refused, ask-told}
+use Rattle.sets.specs.Draws.{viewed}
+use Rattle.sets.specs.Leads.{led, leadsTo}
+use Rattle.trial.specs.declared.Visit.{Visit}
+use Rattle.trial.specs.declared.Trial.{Trial}
+use Rattle.trial.specs.Trials.{Finds}
+use Rattle.trial.proofs.Known.{jobs-known}
+use Rattle.trial.proofs.Trials.{visit-known, old-reads, old-plan, branch-own}
+use Rattle.trial.proofs.Finds.{found-counts, found-run, found-taken, found-pulled, found-read, found-master, found-cache, found-snapshot, found-snapshot-at, moved-some, moved-none}
+use Rattle.explain.specs.Drawing.{sourceOf, drawnEdge, drawnStart, drawnPath, Draws, drawnWords}
+
+module _ (l : List ℕ) (z : Counts) (r j : ℕ) (v : Visit) (t : Trial)
+    (F : Finds l z r j v t) where
+  abbrev s : Store
+  s = storeOf l
+
+  abbrev K : ℕ
+  K = z .keys
+
+  counts : s .counts ≡ z
+  counts = found-counts l z r j v t F
+
+  reads : stepReads s r j ≡ testBit (v .reads)
+  reads =
+      let U = found-run l z r j v t F in
+      old-reads l z r j (snapshotAt z r) (U .0) (U .1) v (F .visit)
+
+  plan : stepPlan s r j ≡ testBit (v .plan)
+  plan =
+      let U = found-run l z r j v t F in
+      old-plan l z r j (snapshotAt z r) (U .0) (U .1) v (F .visit)
+
+  -- The cache as the fetch would leave it.
+  source : (k : ℕ) → k < K → stepCache s r j k ≡ viewed z l (sourceOf v t) k
+  unfolding stepCache fetched stepFetch viewed
+  source k h =
+      let same : testBit (t .taken) k ≡ stepFetch s r j k =
+      item-of (s .counts .keys) (t .taken) (stepFetch s r j) (found-taken l z r j v t F) k
+      (rw counts h) in
+      let old = s .site (stepSite s r j) .cache in
+      ap (λ (b : Bool). cond b (s .master k) (old k)) (sym same)
+      ∙ ap₂ (λ (p q : Place Version). cond (testBit (t .taken) k) (p k) (q k))
+      (found-master l z r j v t F) (found-cache l z r j v t F)
+
+  -- ---- the parts of a path
+
+  edge : (a d : ℕ) → a < K → d < K → drawnEdge z l v t a d ≡ explainEdge s r j a d
+  unfolding drawnEdge leadsTo led draws explainEdge
+  edge a d i h =
+      rw (plan, found-snapshot l z r j v t F, source a i, source d h, counts)
+
+  start : drawnStart z l v ≡ explainStart s r j
+  unfolding drawnStart explainStart
+  start = rw (reads, found-snapshot l z r j v t F, counts)
+
+  -- ---- C, and the path
+
+  pulled : t .pulled ≡ maskBelow K (closure K (drawnEdge z l v t) (drawnStart z l v))
+  unfolding stepPull pullSet drawSet explainEdge explainStart
+  pulled =
+      let same : maskBelow (s .counts .keys) (stepPull s r j)
+      ≡ maskBelow K (closure K (explainEdge s r j) (explainStart s r j)) =
+      ap (λ (n : ℕ). maskBelow n (closure n (explainEdge s r j) (explainStart s r j)))
+      (ap (λ (y : Counts). y .keys) counts) in
+      found-pulled l z r j v t F ∙ same
+      ∙ mask-same K (closure K (explainEdge s r j) (explainStart s r j))
+      (closure K (drawnEdge z l v t) (drawnStart z l v))
+      (closure-same K (explainEdge s r j) (drawnEdge z l v t) (explainStart s r j)
+      (drawnStart z l v) (λ a d i h. sym (edge a d i h))
+      (λ d _. ap (λ (p : Items). p d) (sym start)))
+
+  pub draws-found : Draws l z v t
+  draws-found =
+      let U = found-run l z r j v t F in
+      let seen = visit-known l z r j (snapshotAt z r) (U .0) (U .1) v (F .visit) in
+      let L = branch-own l z r (F .form) (U .0 .run) in
+      record {
+        area = record {
+          target-in = rw (found-snapshot-at l z r j v t F) (L .area);
+          first-in = seen .master;
+          second-in = seen .cache;
+        };
+        reads = seen .reads;
+        read = rw (found-read l z r j v t F, jobs-known l z r (U .0) .plan .masks .reads)
+            (mask-lt K _ K (omega arith));
+        pulled = pulled;
+      }
+
+  path-found : drawnPath z l v t ≡ explainPath s r j
+  unfolding drawnPath explainPath explainGoal
+  path-found =
+      path-same K (drawnEdge z l v t) (explainEdge s r j) (drawnStart z l v) (explainStart s r j)
+      (testBit (v .read)) (λ a d i h _. edge a d i h) (λ d _. ap (λ (p : Items). p d) start)
+      ∙ ap₂ (λ (n m : ℕ). shortestPath n (explainEdge s r j) (explainStart s r j) (testBit m))
+      (sym (ap (λ (y : Counts). y .keys) counts)) (found-read l z r j v t F)
+
+  -- ---- the answer
+
+  moved : stepMoved s r j ≡ (λ k. stepPull s r j k && testBit (v .read) k)
+  unfolding stepMoved
+  moved = rw (found-read l z r j v t F)
+
+  -- It would break exactly if C has a key of the read mask.
+  breaks-found : breaks s r j ≡ not (eqb (bitAnd (t .pulled) (v .read)) 0)
+  unfolding breaks
+  breaks-found =
+      let n = s .counts .keys in
+      let p = found-pulled l z r j v t F in
+      let both = bitAnd (t .pulled) (v .read) in
+      rw moved
+      (test (eqb both 0)
+      (λ y. rw y (moved-none n (t .pulled) (v .read) (stepPull s r j) p (eqb-eq both 0 y)))
+      (λ x. rw x (moved-some n (t .pulled) (v .read) (stepPull s r j) p (eqb-ne both 0 x))))
+
+  pub words-found : drawnWords z l v t ≡ answer (callOn (on (ask (explain r j))) l)
+  unfolding drawnWords answer replyOf explainReply
+  words-found =
+      rw (ask-told (explain r j) l (F .form .form) (F .free), breaks-found, path-found)
+      (cases (eqb (bitAnd (t .pulled) (v .read)) 0))
+    where
+      cases : (b : Bool) → cond b (clearWord ∷ []) (pathWord ∷ explainPath s r j)
+          ≡ cond (not b) pathWord clearWord ∷ cond (not b) (explainPath s r j) []
+      cases true = refl
+      cases false = refl
+
+pub words-refused : (l : List ℕ) (r j n : ℕ) → So (inForm l) → n ≡ stepCause (storeOf l) r j
+    → n ≢ 0 → 2 ∷ n ∷ [] ≡ answer (callOn (on (ask (explain r j))) l)
+unfolding answer replyOf explainReply
+words-refused l r j n F e h =
+    let no : callOn (on (ask (explain r j))) l ≡ refused n =
+    rw e (ask-refused (explain r j) l F (rw e at h)) in
+    rw no refl

@@ -1,0 +1,38 @@
+-- `judge` has a path exactly where C has a key that the run has read.
+-- Assumes nothing.
+use mathlib.Core.Path.{refl, ap}
+use mathlib.Core.List.{List, _∷_}
+use Prim.Native.Nat.{ℕ}
+use borrow.Author.Needs.{needs}
+use Rattle.words.proofs.Bools.{eq-eqb, ne-eqb}
+use Rattle.model.specs.Explain.{pathWord}
+use Rattle.explain.specs.Answers.{foundWords, explainedWords, Fits}
+use Rattle.explain.specs.Drawing.{drawnPath, drawnWords}
+use Rattle.explain.proofs.Drawings.{drawn-short, path-words}
+use Rattle.explain.proofs.judge.Statement.{statement}
+use Rattle.explain.proofs.judge.Tie as tie
+
+alone-requires : tie.Need-alone-requires
+alone-requires c κs = search needs
+
+returns : tie.Need-returns
+unfolding explainedWords foundWords Fits drawnWords
+returns c = rw (c .alone .ensures, eq-eqb _ 0 (c .before .if1 .taken)) (refl, tt)
+
+path-of-requires : tie.Need-path-of-requires
+path-of-requires c κs = search needs
+
+returns-2 : tie.Need-returns-2
+unfolding explainedWords foundWords Fits drawnWords
+returns-2 c =
+    let p = c .before in
+    let i = p .before in
+    let s = i .before .before .before .before in
+    let a = s .args in
+    let l = a .words .now in
+    let w = path-words (drawnPath (a .z) l (a .visit) (a .trial)) (p .path-of .result)
+    (drawn-short l (a .z) (a .visit) (a .trial) (s .pre)) (p .path-of .ensures) in
+    (rw (ne-eqb _ 0 (i .if1 .left)) (ap (λ (t : List ℕ). pathWord ∷ t) (w .0)), (w .1, w .2))
+
+pub judge-spec : {M : Type 1} → statement M
+judge-spec = tie.close (tie.spec alone-requires returns path-of-requires returns-2)

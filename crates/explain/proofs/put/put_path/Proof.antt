@@ -1,0 +1,54 @@
+-- `put_path` lays a first word over the front, and the keys behind it.
+-- Assumes nothing.
+use mathlib.Core.Path.{sym, ap, _∙_}
+use mathlib.Core.List.{List, [], _∷_}
+use Prim.Native.Nat.{ℕ, _+_}
+use native.Mathlib.Omega.{arith}
+use native.Mathlib.Nat.{zero-add}
+use borrow.Author.Needs.{needs}
+use lib.ListN.{getD}
+use lib.Seq.{sets}
+use Rattle.words.specs.Lists.{window}
+use Rattle.words.proofs.Lists.{length-window}
+use Rattle.words.proofs.Words.{put-same}
+use Rattle.model.specs.Explain.{pathWord}
+use Rattle.layout.proofs.Merges.{put-window}
+use Rattle.answers.proofs.Fronts.{over-more}
+use Rattle.explain.proofs.put.put_path.Statement.{statement}
+use Rattle.explain.proofs.put.put_path.Tie as tie
+
+put-one-requires : tie.Need-put-one-requires
+put-one-requires c κs = search needs
+
+put-keys-requires : tie.Need-put-keys-requires
+put-keys-requires c κs = search needs
+
+add-result : tie.Need-add-result
+add-result c = search needs
+
+same-length : tie.Need-same-length
+same-length c = search needs
+
+returns : tie.Need-returns
+returns c =
+    let p = c .before .before .before .before .before .before in
+    let s = p .before .before .before .before in
+    let a = s .args in
+    let t = p .put-one in
+    let keys = window (a .keys .now) 0 (a .n) in
+    let long = length-window (a .keys .now) 0 (a .n) in
+    record {
+      laid = c .before .before .put-keys .ensures
+          ∙ put-same (t .last .0) 1 (a .n) (λ i. getD (a .keys .now) i 0)
+          (λ i. getD (a .keys .now) (0 + i) 0)
+          (λ i _. ap (λ (k : ℕ). getD (a .keys .now) k 0) (sym (zero-add i)))
+          ∙ put-window (t .last .0) (a .keys .now) 1 0 (a .n)
+          ∙ ap (λ (l : List ℕ). sets l 1 keys) (t .ensures .laid)
+          ∙ over-more (pathWord ∷ []) keys (a .answer .now)
+          (omega (arith, long, s .pre .0 .1, s .pre .1));
+      count = rw (t .ensures .count) (omega (arith, long));
+    }
+
+pub put-path-spec : {M : Type 1} → statement M
+put-path-spec =
+    tie.close (tie.spec put-one-requires put-keys-requires add-result same-length returns)

@@ -1,0 +1,55 @@
+// The words of an explanation in an answer slice.
+use crate::Explained;
+use crate::Finding;
+use answers::put_one;
+use answers::put_two;
+ghost use mathlib.Core.List.{_∷_};
+ghost use mathlib.Core.Path.{_≡_};
+ghost use Prim.Native.Nat.{_≤_};
+ghost use lib.ListN.{length, getD};
+ghost use Rattle.words.specs.Lists.{window};
+ghost use Rattle.words.specs.Words.{put};
+ghost use Rattle.model.specs.Explain.{pathWord};
+ghost use Rattle.answers.specs.Answers.{answerRoom, Lays};
+ghost use Rattle.explain.specs.Answers.{explainedWords, Listed};
+
+// The first n keys, behind a first word.
+fn put_keys(answer: &mut [u32], keys: &[u32], n: usize)
+    requires { ⌜ (n ≤ length (now keys)) × (n ≤ 32) ⌝ }
+    requires { ⌜ answerRoom ≤ length (now answer) ⌝ }
+    ensures { λ _. ⌜ now (answer .exit)
+        ≡ put (now (answer .entry)) 1 n (λ i. getD (now (keys .entry)) i 0) ⌝ }
+{
+    let mut i = 0;
+    while i < n {
+        answer[1 + i] = keys[i];
+        i += 1;
+    }
+}
+
+// The word of a path, and its keys.
+fn put_path(answer: &mut [u32], keys: &[u32], n: usize) -> usize
+    requires { ⌜ (n ≤ length (now keys)) × (n ≤ 32) ⌝ }
+    requires { ⌜ answerRoom ≤ length (now answer) ⌝ }
+    ensures { λ r. ⌜ Lays (pathWord ∷ window (now (keys .entry)) 0 n)
+        (now (answer .entry)) (now (answer .exit)) r ⌝ }
+{
+    let one = put_one(answer, 4);
+    put_keys(answer, keys, n);
+    one + n
+}
+
+// The words of an explanation, laid over an answer slice.
+pub fn put_explained(answer: &mut [u32], r: Explained) -> usize
+    requires { ⌜ answerRoom ≤ length (now answer) ⌝ }
+    requires { ⌜ Listed r ⌝ }
+    ensures { λ n. ⌜ Lays (explainedWords r) (now (answer .entry)) (now (answer .exit)) n ⌝ }
+{
+    let finding = r.finding;
+    let keys = r.keys;
+    match finding {
+        Finding::Clear => put_one(answer, 3),
+        Finding::Path(n) => put_path(answer, &keys, n),
+        Finding::Refused(no) => put_two(answer, 2, no),
+    }
+}

@@ -1,0 +1,78 @@
+-- `leading_to` has the items that lead to one of the mask. The loop's invariant: it has those
+-- passed.
+-- Assumes nothing.
+use mathlib.Core.Path.{_≡_, refl, ap, _∙_}
+use Prim.Native.Nat.{ℕ, _≤_, _-_}
+use native.Mathlib.Omega.{arith}
+use Rattle.masks.specs.Mask.{testBit, maskBelow}
+use Rattle.masks.proofs.Sets.{mask-more}
+use Rattle.reach.specs.Path.{near}
+use Rattle.reach.specs.Rows.{leadsBy}
+use Rattle.reach.proofs.Rows.{near-one}
+use Rattle.reach.proofs.path.leading_to.Statement.{statement}
+use Rattle.reach.proofs.path.leading_to.Tie as tie
+
+abbrev Inv-loop : tie.InvT-loop
+Inv-loop rows n mask all₀ k₀ all k =
+    (k ≤ n) × (all ≡ maskBelow k (near n (leadsBy rows) (testBit mask) 1))
+
+abbrev μ-loop : tie.MeasureT-loop
+μ-loop rows n mask all₀ k₀ all k = n - k
+
+loop-holds : tie.Need-loop-holds Inv-loop μ-loop
+unfolding maskBelow
+loop-holds c = (omega arith, refl)
+
+mul-with-if : tie.Need-mul-with-if Inv-loop μ-loop
+mul-with-if c = omega arith
+
+shared-slice-read-with-if : tie.Need-shared-slice-read-with-if Inv-loop μ-loop
+shared-slice-read-with-if c = omega arith
+
+cast-with-if : tie.Need-cast-with-if Inv-loop μ-loop
+cast-with-if c = omega arith
+
+with-if-requires : tie.Need-with-if-requires Inv-loop μ-loop
+with-if-requires c κs = omega arith
+
+add-k : tie.Need-add-k Inv-loop μ-loop
+add-k c = omega arith
+
+loop-less : tie.Need-loop-less Inv-loop μ-loop
+loop-less c = omega arith
+
+loop-again : tie.Need-loop-again Inv-loop μ-loop
+loop-again c =
+    let l = c .before .before .before in
+    let a = l .before .before .args in (
+      omega arith,
+      rw (
+        mask-more,
+        ← near-one (a .rows .now) (a .n) (a .mask) (l .loop .k) (l .before .before .pre .1),
+        ← l .loop .inv .1,
+      ) (c .with-if .ensures),
+    )
+
+returns : tie.Need-returns Inv-loop μ-loop
+returns c =
+    let l = c .before in
+    let a = l .before .before .args in
+    let e : l .loop .k ≡ a .n = omega arith in
+    l .loop .inv .1
+    ∙ ap (λ (k : ℕ). maskBelow k (near (a .n) (leadsBy (a .rows .now)) (testBit (a .mask)) 1)) e
+
+pub leading-to-spec : {M : Type 1} → statement M
+leading-to-spec =
+    tie.close
+    (tie.spec
+    Inv-loop
+    μ-loop
+    loop-holds
+    mul-with-if
+    shared-slice-read-with-if
+    cast-with-if
+    with-if-requires
+    add-k
+    loop-less
+    loop-again
+    returns)
