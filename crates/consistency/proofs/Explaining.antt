@@ -14,13 +14,13 @@ use Rattle.words.proofs.Bools.{clash}
 use Rattle.model.specs.Store.{Store}
 use Rattle.model.specs.Outcome.{Outcome, refused, broken, done, answer, unless}
 use Rattle.model.specs.Step.{stepMoved, stepCause, stepBroken, stepDone, stepRule}
-use Rattle.model.specs.Explain.{clearWord, pathWord, Answers, Explains}
-use Rattle.model.specs.Calls.{step, explain, ask, replyOf, ruleOf}
-use Rattle.model.proofs.Explained.{explains}
+use Rattle.model.specs.Explain.{clearWord, pathWord, Answers}
+use Rattle.model.specs.Calls.{step, explain, ask, ruleOf}
 use Rattle.layout.specs.Reading.{storeOf}
 use Rattle.layout.specs.Buffer.{inForm}
 use Rattle.layout.specs.Calls.{on, callOn, isOk}
 use Rattle.layout.proofs.Forms.{form-rule}
+use Rattle.layout.proofs.Explaining.{call-explains}
 use Rattle.consistency.specs.Claim.{isBroken}
 
 -- ---- a step's outcome by its first word
@@ -69,18 +69,16 @@ both : {X Y Z : Type 0} → X ↔ Y → Y ↔ Z → X ↔ Z
 both f g = (λ x. g .0 (f .0 x), λ z. f .1 (g .1 z))
 
 module _ (l : List ℕ) (r j : ℕ) (F : So (inForm l)) where
-  call-explains : Explains (storeOf l) r j (callOn (on (ask (explain r j))) l)
-  unfolding ruleOf replyOf
-  call-explains = rw (form-rule (ask (explain r j)) l F) (explains (storeOf l) r j)
-
   pub path-broken : Answers (callOn (on (ask (explain r j))) l) pathWord
       ↔ So (isBroken (callOn (on (step r j)) l))
   unfolding ruleOf
   path-broken =
-      rw (form-rule (step r j) l F) (both (call-explains .path) (broken-answered (storeOf l) r j))
+      both (call-explains l r j .path)
+      (rw (form-rule (step r j) l F) (broken-answered (storeOf l) r j))
 
   pub clear-ok : (answer (callOn (on (ask (explain r j))) l) ≡ clearWord ∷ [])
       ↔ So (isOk (callOn (on (step r j)) l))
   unfolding ruleOf
   clear-ok =
-      rw (form-rule (step r j) l F) (both (call-explains .clear) (ok-answered (storeOf l) r j))
+      both (call-explains l r j .clear)
+      (rw (form-rule (step r j) l F) (ok-answered (storeOf l) r j))
