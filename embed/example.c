@@ -1,5 +1,5 @@
-/* Case A of the specification and an explained break through the C header; ends with 1 if an
- * answer is not as written. */
+/* Case A of the specification, an explained break and rival saves through the C header; ends with
+ * 1 if an answer is not as written. */
 #include <stdio.h>
 #include <string.h>
 
@@ -31,7 +31,7 @@ static void case_a(void)
     static const uint32_t reader[] = {0, 1, 0};
     static const uint32_t two[] = {0, 1, 0, 1, 2, 1};
 
-    DUE("new 2 2 2 1", sheetdesk_new(DESK, 2, 2, 2, 1, ANSWER), SHEETDESK_OK, 88);
+    DUE("new 2 2 2 1", sheetdesk_new(DESK, 2, 2, 2, 1, ANSWER), SHEETDESK_OK, 96);
     DUE("open 0 0 0 0", sheetdesk_open(DESK, 0, empty, LEN(empty), ANSWER), SHEETDESK_OK, 1);
     DUE("step 0 0", sheetdesk_step(DESK, 0, 0, ANSWER), SHEETDESK_OK, 0, 0, 0);
     DUE("issue 0 0 3", sheetdesk_issue(DESK, 0, 0, 3, ANSWER), SHEETDESK_OK, 1);
@@ -44,7 +44,7 @@ static void case_a(void)
         SHEETDESK_WRONG_TURN);
     DUE("step 0 0", sheetdesk_step(DESK, 0, 0, ANSWER), SHEETDESK_OK, 0, 1, 0);
     DUE("step 0 1", sheetdesk_step(DESK, 0, 1, ANSWER), SHEETDESK_OK, 2, 0, 0);
-    DUE("look 2 0 1", sheetdesk_look(DESK, 2, 0, 1, ANSWER), SHEETDESK_OK, 1, 1, 0,
+    DUE("look 2 0 1", sheetdesk_look(DESK, 2, 0, 1, ANSWER), SHEETDESK_OK, 1, 1, 1, 0,
         SHEETDESK_OLDER);
     DUE("fetch 1 1", sheetdesk_fetch(DESK, 1, 1, ANSWER), SHEETDESK_OK, 3);
     DUE("evict 0 1", sheetdesk_evict(DESK, 0, 1, ANSWER), SHEETDESK_OK, 3);
@@ -96,11 +96,30 @@ static void explained(void)
         SHEETDESK_WRONG_STATE);
 }
 
+/* A writer saves a sheet without having read the other's: both lead, until one has read both. */
+static void rivals(void)
+{
+    static uint32_t other[SHEETDESK_WORDS(1, 2, 1, 1)];
+    static const uint32_t jobs[][3] = {{0, 0, 0}, {0, 0, 0}, {0, 1, 0}};
+    static const uint32_t leaders[] = {1, 3, 1};
+    uint32_t save;
+
+    sheetdesk_new(other, LEN(other), 1, 2, 1, 1, ANSWER);
+    for (save = 0; save < 3; save++) {
+        sheetdesk_open(other, LEN(other), 0, jobs[save], 3, ANSWER);
+        sheetdesk_step(other, LEN(other), 0, 0, ANSWER);
+        sheetdesk_issue(other, LEN(other), 0, save % 2, 1, ANSWER);
+        DUE("look 0 0 0", sheetdesk_look(other, LEN(other), 0, 0, 0, ANSWER), SHEETDESK_OK,
+            save + 1, leaders[save], 1 + save / 2, save > 0, SHEETDESK_EQUAL);
+    }
+}
+
 int main(void)
 {
     case_a();
     besides();
     explained();
+    rivals();
     puts(wrong ? "example.c: wrong answers" : "example.c: case A answered as written");
     return wrong;
 }

@@ -1,14 +1,15 @@
-"""Case A of the specification and an explained break through the Python module; ends with 1 if an answer is not as written."""
+"""Case A of the specification, an explained break and rival saves through the Python module; ends with 1 if an answer is
+not as written."""
 import sys
 
 import sheetdesk
-from sheetdesk import Desk, Job, Refusal, Standing, card, compare, covers, merge, shelf, words, MASTER
+from sheetdesk import Desk, Job, Look, Refusal, Standing, card, compare, covers, merge, shelf, words, MASTER
 
 
 def case_a(desk):
     """The calls of case A and their answers, a line each."""
     return [
-        (desk.new(2, 2, 2, 1), "ok 88"),
+        (desk.new(2, 2, 2, 1), "ok 96"),
         (desk.open(0, [Job(0, 0, 0)]), "ok 1"),
         (desk.step(0, 0), "ok 0 0 0"),
         (desk.issue(0, 0, 3), "ok 1"),
@@ -20,13 +21,13 @@ def case_a(desk):
         (desk.step(0, 1), "refused 6"),
         (desk.step(0, 0), "ok 0 1 0"),
         (desk.step(0, 1), "ok 2 0 0"),
-        (desk.look(card(0), 1), "ok 1 1 0 1"),
+        (desk.look(card(0), 1), "ok 1 1 1 0 1"),
         (desk.fetch(1, 1), "ok 3"),
         (desk.evict(0, 1), "ok 3"),
         # Besides case A: the calls that it lacks.
         (desk.prepare(0), "refused 6"),
         (desk.drop(0), "ok 0"),
-        (desk.look(MASTER, 1), "ok 2 1 1 0"),
+        (desk.look(MASTER, 1), "ok 2 2 1 1 0"),
         (desk.look(shelf(0), 1), "refused 8"),
     ]
 
@@ -34,7 +35,7 @@ def case_a(desk):
 def explained(desk):
     """A run has read sheet 0, both sheets are saved together, and its next job reads sheet 1."""
     return [
-        (desk.new(2, 2, 2, 2), "ok 126"),
+        (desk.new(2, 2, 2, 2), "ok 136"),
         (desk.open(1, [Job(0, 0, 0)]), "ok 1"),
         (desk.step(1, 0), "ok 0 0 0"),
         (desk.issue(1, 0, 1), "ok 1"),
@@ -50,6 +51,25 @@ def explained(desk):
     ]
 
 
+def rivals(desk):
+    """A writer saves a sheet without having read the other's: both lead, until one has read both."""
+    return [
+        (desk.new(1, 2, 1, 1), "ok 56"),
+        (desk.open(0, [Job(0, 0, 0)]), "ok 1"),
+        (desk.step(0, 0), "ok 0 0 0"),
+        (desk.issue(0, 0, 1), "ok 1"),
+        (desk.look(MASTER, 0), "ok 1 1 1 0 0"),
+        (desk.open(0, [Job(0, 0, 0)]), "ok 1"),
+        (desk.step(0, 0), "ok 0 0 0"),
+        (desk.issue(0, 1, 1), "ok 2"),
+        (desk.look(MASTER, 0), "ok 2 3 1 1 0"),
+        (desk.open(0, [Job(0, 1, 0)]), "ok 1"),
+        (desk.step(0, 0), "ok 0 0 1"),
+        (desk.issue(0, 0, 1), "ok 3"),
+        (desk.look(MASTER, 0), "ok 3 1 2 1 0"),
+    ]
+
+
 def refuses(error, call, *arguments):
     """Whether the module refuses the arguments itself."""
     try:
@@ -62,15 +82,17 @@ def refuses(error, call, *arguments):
 def main():
     desk = Desk(words(2, 2, 2, 1))
     good = desk.look(MASTER, 0).refusal is Refusal.NOT_IN_FORM
-    for answer, due in case_a(desk) + explained(Desk(words(2, 2, 2, 2))):
+    scripts = case_a(desk) + explained(Desk(words(2, 2, 2, 2))) + rivals(Desk(words(1, 2, 1, 1)))
+    for answer, due in scripts:
         if str(answer) != due:
             print("wrong: %s for %s" % (answer, due))
             good = False
     # Words that are saved and lent again are the same desk.
-    good &= str(Desk(desk.words()).look(MASTER, 1)) == "ok 2 1 1 0"
+    good &= str(Desk(desk.words()).look(MASTER, 1)) == "ok 2 2 1 1 0"
     good &= refuses(OverflowError, desk.fetch, 2**32, 0) and refuses(OverflowError, desk.fetch, 0, -1)
     good &= refuses(OverflowError, desk.open, 0, [Job(0, 2**32, 0)]) and refuses(OverflowError, Desk, [2**32])
     good &= refuses(TypeError, desk.fetch, 0.5, 0) and refuses(TypeError, desk.fetch, True, 0)
+    good &= desk.look(MASTER, 1).look == Look(2, 2, (1, 1), Standing.EQUAL) and desk.look(shelf(0), 1).look is None
     good &= desk.look(MASTER, 1).standing is Standing.EQUAL and desk.look(shelf(0), 1).standing is None
     # Rows (2,0) and (1,3) are rivals, and their merge is (2,3), which is newer than (1,3).
     good &= compare([2, 0], [1, 3]) is Standing.RIVAL and compare([2, 0], [1]) is None

@@ -1,9 +1,10 @@
-//! Case A of the specification and an explained break through the Rust wrapper; ends with 1 if an
-//! answer is not as written.
+//! Case A of the specification, an explained break and rival saves through the Rust wrapper; ends
+//! with 1 if an answer is not as written.
 
 mod sheetdesk;
 
-use sheetdesk::{compare, covers, merge, words, Answer, Desk, Job, Place, Refusal, Standing};
+use sheetdesk::{compare, covers, merge, words};
+use sheetdesk::{Answer, Desk, Job, Look, Place, Refusal, Standing};
 
 fn job(office: u32, reads: u32, upstream: u32) -> Job {
     Job { office, reads, upstream }
@@ -12,7 +13,7 @@ fn job(office: u32, reads: u32, upstream: u32) -> Job {
 /// The calls of case A and their answers, a line each.
 fn case_a(desk: &mut Desk) -> Vec<(Answer, &'static str)> {
     vec![
-        (desk.new(2, 2, 2, 1), "ok 88"),
+        (desk.new(2, 2, 2, 1), "ok 96"),
         (desk.open(0, &[job(0, 0, 0)]), "ok 1"),
         (desk.step(0, 0), "ok 0 0 0"),
         (desk.issue(0, 0, 3), "ok 1"),
@@ -24,13 +25,13 @@ fn case_a(desk: &mut Desk) -> Vec<(Answer, &'static str)> {
         (desk.step(0, 1), "refused 6"),
         (desk.step(0, 0), "ok 0 1 0"),
         (desk.step(0, 1), "ok 2 0 0"),
-        (desk.look(Place::Card(0), 1), "ok 1 1 0 1"),
+        (desk.look(Place::Card(0), 1), "ok 1 1 1 0 1"),
         (desk.fetch(1, 1), "ok 3"),
         (desk.evict(0, 1), "ok 3"),
         // Besides case A: the calls that it lacks.
         (desk.prepare(0), "refused 6"),
         (desk.drop(0), "ok 0"),
-        (desk.look(Place::Master, 1), "ok 2 1 1 0"),
+        (desk.look(Place::Master, 1), "ok 2 2 1 1 0"),
         (desk.look(Place::Shelf(0), 1), "refused 8"),
     ]
 }
@@ -38,7 +39,7 @@ fn case_a(desk: &mut Desk) -> Vec<(Answer, &'static str)> {
 /// A run has read sheet 0, both sheets are saved together, and its next job reads sheet 1.
 fn explained(desk: &mut Desk) -> Vec<(Answer, &'static str)> {
     vec![
-        (desk.new(2, 2, 2, 2), "ok 126"),
+        (desk.new(2, 2, 2, 2), "ok 136"),
         (desk.open(1, &[job(0, 0, 0)]), "ok 1"),
         (desk.step(1, 0), "ok 0 0 0"),
         (desk.issue(1, 0, 1), "ok 1"),
@@ -51,6 +52,25 @@ fn explained(desk: &mut Desk) -> Vec<(Answer, &'static str)> {
         (desk.explain(0, 1), "path 1 0"),
         (desk.step(0, 1), "broken 1"),
         (desk.explain(0, 1), "refused 4"),
+    ]
+}
+
+/// A writer saves a sheet without having read the other's: both lead, until one has read both.
+fn rivals(desk: &mut Desk) -> Vec<(Answer, &'static str)> {
+    vec![
+        (desk.new(1, 2, 1, 1), "ok 56"),
+        (desk.open(0, &[job(0, 0, 0)]), "ok 1"),
+        (desk.step(0, 0), "ok 0 0 0"),
+        (desk.issue(0, 0, 1), "ok 1"),
+        (desk.look(Place::Master, 0), "ok 1 1 1 0 0"),
+        (desk.open(0, &[job(0, 0, 0)]), "ok 1"),
+        (desk.step(0, 0), "ok 0 0 0"),
+        (desk.issue(0, 1, 1), "ok 2"),
+        (desk.look(Place::Master, 0), "ok 2 3 1 1 0"),
+        (desk.open(0, &[job(0, 1, 0)]), "ok 1"),
+        (desk.step(0, 0), "ok 0 0 1"),
+        (desk.issue(0, 0, 1), "ok 3"),
+        (desk.look(Place::Master, 0), "ok 3 1 2 1 0"),
     ]
 }
 
@@ -87,8 +107,12 @@ fn main() {
     let mut good = clocks();
     good &= desk.look(Place::Master, 0) == Answer::Refused(Refusal::NotInForm);
     good &= as_written(case_a(&mut desk));
+    let seen = Look { issue: 2, leaders: 2, clock: &[1, 1], standing: Standing::Equal };
+    good &= desk.look(Place::Master, 1).look() == Some(seen);
+    good &= desk.look(Place::Shelf(0), 1).look().is_none();
     good &= desk.look(Place::Master, 1).standing() == Some(Standing::Equal);
     good &= as_written(explained(&mut Desk::lend(&mut [0; words(2, 2, 2, 2)])));
+    good &= as_written(rivals(&mut Desk::lend(&mut [0; words(1, 2, 1, 1)])));
     println!("example.rs: {}", if good { "case A answered as written" } else { "wrong answers" });
     std::process::exit(if good { 0 } else { 1 });
 }

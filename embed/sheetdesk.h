@@ -15,7 +15,8 @@
  * (little-endian on x86-64; swap the bytes of each word elsewhere). Nothing in the words says
  * which layout they have, so save SHEETDESK_LAYOUT with them. Whoever lends words of another
  * layout gets a refusal, SHEETDESK_NOT_IN_FORM, from every call but new, for their offsets and
- * total don't follow from their counts; no word is changed.
+ * total don't follow from their counts: no two layouts agree in them for any counts. No word is
+ * changed.
  *
  * Every call writes its answer's words and returns how many it wrote:
  *   0 and the answer's numbers (ok), 1 and a mask (broken, step alone), 2 and a number (refused),
@@ -37,9 +38,9 @@ extern "C" {
 #endif
 
 /* The version of the calls: rises when one is added or changes what it takes, does or answers. */
-#define SHEETDESK_VERSION 3
+#define SHEETDESK_VERSION 4
 /* The version of the desk's words: rises when a desk of the same counts has other words. */
-#define SHEETDESK_LAYOUT 1
+#define SHEETDESK_LAYOUT 2
 /* The same two of the library that is linked: compare them with these. */
 uint32_t sheetdesk_version(void);
 uint32_t sheetdesk_layout(void);
@@ -47,7 +48,7 @@ uint32_t sheetdesk_layout(void);
 /* The length of a slice that holds any answer. */
 #define SHEETDESK_ANSWER_WORDS 40
 /* The words of the largest desk (32 sheets, 16 writers, 8 offices, 8 runs). */
-#define SHEETDESK_MOST_WORDS 287514
+#define SHEETDESK_MOST_WORDS 288058
 
 /* The words of a desk of k sheets, w writers, n offices and p runs, to be lent before new; 0 if
  * new refuses the counts. A constant if they are. */
@@ -55,10 +56,10 @@ uint32_t sheetdesk_layout(void);
     ((size_t)(k) - 1 < 32 && (size_t)(w) - 1 < 16 && (size_t)(n) - 1 < 8 && (size_t)(p) - 1 < 8 \
          ? SHEETDESK_WORDS_OF((size_t)(k), (size_t)(w), (size_t)(n), (size_t)(p)) \
          : 0)
-/* The same for counts in range: header, then master, shelves and cards of k versions each,
- * writers of one version's words each, and 28 words more for each run. */
+/* The same for counts in range: header, then master, shelves and cards of k versions each, a
+ * count and a past for each writer, and 28 words more for each run. */
 #define SHEETDESK_WORDS_OF(k, w, n, p) \
-    (10 + (1 + (k) * (w)) * ((k) * (1 + (n) + (p)) + (w)) + 28 * (p))
+    (10 + (k) * (2 + (k) * (w)) * (1 + (n) + (p)) + (w) * (1 + (k) * (w)) + 28 * (p))
 
 /* The answer's first word. */
 enum sheetdesk_outcome {
@@ -143,9 +144,11 @@ uint32_t sheetdesk_drop(uint32_t *desk, size_t desk_len, uint32_t run, uint32_t 
                         size_t answer_len);
 
 /* Looks at a version: place 0 is the master (number 0), 1 an office's shelf, 2 a run's card.
- * Ok: the issue number, the version's own clock, one count per writer, and how that clock stands
- * against the own clock of the master's version (enum sheetdesk_standing; 2 if the master lacks
- * the sheet). Returns 3 + w words, or 2 if refused. Changes nothing. */
+ * Ok: the issue number; the mask of the leading writers, bit u for writer u: those whose last
+ * save in the version no other save in it knew of (two or more are rivals); the version's own
+ * clock, one count per writer; and how that clock stands against the own clock of the master's
+ * version (enum sheetdesk_standing; 2 if the master lacks the sheet). Returns 4 + w words, or 2 if
+ * refused. Changes nothing. */
 uint32_t sheetdesk_look(const uint32_t *desk, size_t desk_len, uint32_t place, uint32_t number,
                         uint32_t sheet, uint32_t *answer, size_t answer_len);
 

@@ -1,7 +1,7 @@
 """The sheet desk for Python: the library's calls by ctypes alone, with the names of the Rust wrapper.
 
     desk = sheetdesk.Desk(sheetdesk.words(2, 2, 2, 1))
-    print(desk.new(2, 2, 2, 1))                # ok 88
+    print(desk.new(2, 2, 2, 1))                # ok 96
     print(desk.open(0, [sheetdesk.Job(0, 0, 0)]))
 
 A Desk owns its words; each call gives an Answer, which prints as the program prints it. sheetdesk.h says what each
@@ -16,10 +16,10 @@ import enum
 import os
 from typing import NamedTuple
 
-VERSION = 3
-LAYOUT = 1
+VERSION = 4
+LAYOUT = 2
 ANSWER_WORDS = 40
-MOST_WORDS = 287514
+MOST_WORDS = 288058
 
 
 class Refusal(enum.IntEnum):
@@ -46,6 +46,16 @@ class Standing(enum.IntEnum):
     RIVAL = 3
 
 
+class Look(NamedTuple):
+    """What a look shows of a version. Leaders is a mask of writers: those whose last save in the version no other save in
+    it knew of; two or more are rivals."""
+
+    issue: int
+    leaders: int
+    clock: tuple
+    standing: Standing
+
+
 class Answer(NamedTuple):
     """What a call gives back: outcome "ok", "broken" or "refused", of explain "clear" or "path"; and its numbers."""
 
@@ -59,6 +69,14 @@ class Answer(NamedTuple):
             return None
         number = self.numbers[0]
         return Refusal(number) if number in set(Refusal) else number
+
+    @property
+    def look(self):
+        """Of a look: the version; None of any other answer."""
+        if self.outcome != "ok" or len(self.numbers) < 4:
+            return None
+        issue, leaders, *clock, standing = self.numbers
+        return Look(issue, leaders, tuple(clock), Standing(standing))
 
     @property
     def standing(self):
@@ -96,7 +114,8 @@ def words(sheets, writers, offices, runs):
     for count, most in ((sheets, 32), (writers, 16), (offices, 8), (runs, 8)):
         if not 1 <= _word(count) <= most:
             return 0
-    return 10 + (1 + sheets * writers) * (sheets * (1 + offices + runs) + writers) + 28 * runs
+    version, writer = 2 + sheets * writers, 1 + sheets * writers
+    return 10 + sheets * version * (1 + offices + runs) + writers * writer + 28 * runs
 
 
 def _word(number):
@@ -176,7 +195,8 @@ class Desk:
         return self._call("drop", run)
 
     def look(self, place, sheet):
-        """At MASTER, shelf(office) or card(run): the issue number, the own clock, the standing against the master's."""
+        """At MASTER, shelf(office) or card(run): the issue number, the leading writers, the own clock, the standing against
+        the master's."""
         kind, number = place
         return self._call("look", kind, number, sheet)
 

@@ -9,16 +9,16 @@
 use std::fmt;
 
 /// The version of the calls: `SHEETDESK_VERSION` of the header.
-pub const VERSION: u32 = 3;
+pub const VERSION: u32 = 4;
 
 /// The version of the desk's words: `SHEETDESK_LAYOUT` of the header. Save it with the words.
-pub const LAYOUT: u32 = 1;
+pub const LAYOUT: u32 = 2;
 
 /// Words of a slice that holds any answer.
 pub const ANSWER_WORDS: usize = 40;
 
 /// The words of the largest desk (32 sheets, 16 writers, 8 offices, 8 runs).
-pub const MOST_WORDS: usize = 287_514;
+pub const MOST_WORDS: usize = 288_058;
 
 /// The words to lend for a desk of so many sheets, writers, offices and runs; 0 if new refuses
 /// the counts.
@@ -27,8 +27,8 @@ pub const fn words(sheets: u32, writers: u32, offices: u32, runs: u32) -> usize 
     if k < 1 || k > 32 || w < 1 || w > 16 || n < 1 || n > 8 || p < 1 || p > 8 {
         return 0;
     }
-    let version = 1 + k * w;
-    10 + version * (k * (1 + n + p) + w) + 28 * p
+    let (version, writer) = (2 + k * w, 1 + k * w);
+    10 + k * version * (1 + n + p) + w * writer + 28 * p
 }
 
 /// The exports as C has them: a slice is a pointer and a length in words.
@@ -169,7 +169,32 @@ impl Refusal {
     }
 }
 
+/// What a look shows of a version.
+#[derive(Clone, Copy, PartialEq, Eq, Debug)]
+pub struct Look<'a> {
+    /// The number of the last issue in it.
+    pub issue: u32,
+    /// The mask of leading writers: those whose last save in the version no other save in it
+    /// knew of. Two or more are rivals.
+    pub leaders: u32,
+    /// The version's own clock, one count per writer.
+    pub clock: &'a [u32],
+    /// How that clock stands against the master's.
+    pub standing: Standing,
+}
+
 impl Answer {
+    /// Of a look: the version.
+    pub fn look(&self) -> Option<Look<'_>> {
+        match self.ok()? {
+            [issue, leaders, clock @ .., standing] if !clock.is_empty() => {
+                let standing = Standing::of(*standing)?;
+                Some(Look { issue: *issue, leaders: *leaders, clock, standing })
+            }
+            _ => None,
+        }
+    }
+
     /// Of a look: how the version stands against the master's.
     pub fn standing(&self) -> Option<Standing> {
         self.ok()?.last().copied().and_then(Standing::of)
@@ -339,7 +364,8 @@ impl<'a> Desk<'a> {
         answer(|a, n| unsafe { sheetdesk_drop(desk, len, run, a, n) })
     }
 
-    /// The issue number, the own clock, and the standing against the master's.
+    /// The issue number, the leading writers, the own clock, and the standing against the
+    /// master's: [`Answer::look`].
     pub fn look(&self, place: Place, sheet: u32) -> Answer {
         let (desk, len) = (self.words.as_ptr(), self.words.len());
         let (place, number) = match place {

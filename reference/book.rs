@@ -225,9 +225,9 @@ impl Book {
             1 => &self.shelves[number][k],
             _ => &self.runs[number].card[k],
         };
-        let version = self.ledger.counted(copy, self.k, self.w);
-        let mut answer = vec![version[0]];
-        answer.extend_from_slice(&version[1 + k * self.w..1 + (k + 1) * self.w]);
+        let (number, past) = self.ledger.counted(copy, self.k, self.w);
+        let mut answer = vec![number, self.ledger.leading(copy, self.w)];
+        answer.extend_from_slice(&past[k * self.w..(k + 1) * self.w]);
         answer.push(copy.standing(&self.master[k]));
         answer
     }

@@ -7,6 +7,8 @@
 
 #[path = "generate/chains.rs"]
 mod chains;
+#[path = "generate/counts.rs"]
+mod counts;
 mod desk;
 #[path = "generate/everyday.rs"]
 mod everyday;
@@ -16,6 +18,8 @@ mod odd;
 mod plots;
 #[path = "generate/random.rs"]
 mod random;
+#[path = "generate/rivals.rs"]
+mod rivals;
 #[path = "generate/teller.rs"]
 mod teller;
 mod text;

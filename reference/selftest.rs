@@ -1,6 +1,6 @@
 //! Checks on lent buffers: the paper's numbers, the ten marked readings, the form, refusals
-//! 9 and 10, how clocks stand, paths behind a break, what stands behind a save, and random
-//! buffers. Panics at the first check that fails.
+//! 9 and 10, how clocks stand, paths behind a break, leading writers, other layouts, what stands
+//! behind a save, and random buffers. Panics at the first check that fails.
 #![allow(dead_code)]
 
 #[path = "selftest/behind.rs"]
@@ -11,12 +11,20 @@ mod desk;
 mod explained;
 #[path = "selftest/forms.rs"]
 mod forms;
+#[path = "selftest/layouts.rs"]
+mod layouts;
+#[path = "selftest/leading.rs"]
+mod leading;
+#[path = "selftest/lines.rs"]
+mod lines;
 #[path = "selftest/marked.rs"]
 mod marked;
 #[path = "selftest/paths.rs"]
 mod paths;
 #[path = "selftest/random.rs"]
 mod random;
+#[path = "selftest/rivals.rs"]
+mod rivals;
 #[path = "selftest/standing.rs"]
 mod standing;
 mod text;
@@ -42,10 +50,19 @@ fn main() {
     explained::over_carried();
     explained::refusals();
     explained::all_sheets();
+    leading::visible();
+    leading::over_offices();
+    leading::by_a_chain();
+    leading::on_words();
+    leading::on_lent_desks();
+    leading::masks_in_form();
+    layouts::none_agree();
     let seed: u64 = std::env::args().nth(1).and_then(|word| word.parse().ok()).unwrap_or(1);
     for history in 0..200 {
         behind::compare(seed + history);
     }
+    rivals::on_words(seed, 20_000);
+    println!("selftest: led from new: {}", rivals::from_new(seed, 200).print());
     println!("selftest: explained on graphs: {}", paths::on_graphs(seed, 20_000).print());
     println!("selftest: explained on desks: {}", paths::on_desks(seed, 20_000).print());
     let (calls, accepted) = random::damaged(seed, 60_000);

@@ -1,5 +1,5 @@
-//! Runs a script through the desk and the book, and tests demand 3 after each call, and that no
-//! copy is ahead of the master.
+//! Runs a script through the desk and the book, and tests demand 3 after each call, that no copy
+//! is ahead of the master, and whom each version names as leading writers.
 //! Ends with 1, and prints the script up to there, if a claim fails.
 #![allow(dead_code)]
 
@@ -81,6 +81,7 @@ fn one_call(
     book.check_cuts(words, s)?;
     book.check_versions(words, s)?;
     book.check_none_ahead(words, s)?;
+    book.check_named()?;
     book.check_snapshots()?;
     let pairs = |run: &book::Run| run.finished.len() * run.finished.len().saturating_sub(1) / 2;
     seen.snapshots += book.runs.iter().map(pairs).sum::<usize>();

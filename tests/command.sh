@@ -160,10 +160,10 @@ trial_prompt() {
     exec 3>"$work/in"
     printf 'new 2 2 2 1\n' >&3
     for _ in {1..50}; do
-      grep -q "ok 88$" "$work/prompt" && break
+      grep -q "ok 96$" "$work/prompt" && break
       sleep 0.1
     done
-    grep -q "ok 88$" "$work/prompt" || bad "no answer before the input ended $option"
+    grep -q "ok 96$" "$work/prompt" || bad "no answer before the input ended $option"
     exec 3>&-
     wait $!
   done
@@ -219,6 +219,13 @@ trial_explained() {
   grep -qF -f "$work/due" "$page" || bad "the page's explain answers $(cat "$work/due"), the page says otherwise"
 }
 
+# And of leading writers: the two looks that the page tells are the script's.
+trial_leading() {
+  sed -n '/^## LEADING WRITERS/,/^## EXPLAINED STEPS/p' "$page" | grep -o '`ok [0-9 ]*`' | tr -d '`' >"$work/due"
+  want 0 "the page's rivals" ./sheetdesk scripts/rivals-lead.txt
+  [ "$(sed -n '10p; 15p' "$work/out")" = "$(cat "$work/due")" ] || bad "the page's looks at rivals: other answers"
+}
+
 trial_refusals() {
   for words in "nothing to do" "counts that you gave to new" "step a$" "prepare the run"; do
     sed -n '/^## REFUSALS/,/^## LIMITS/p' "$page" | grep -q -e "$words" || bad "the page's refusals lack '$words'"
@@ -238,7 +245,7 @@ trial_line_ends() {
 trial_examples() {
   sed -n '/^## EXAMPLES/,/^## DIAGNOSTICS/s/^    //p' "$page" | tail -n +2 >"$work/example"
   want 0 "the page's example" bash "$work/example"
-  [ "$(paste -sd ' ' "$work/out")" = "ok 88 ok 1 ok 0 0 0 ok 1 ok 3" ] || bad "the page's example: other answers"
+  [ "$(paste -sd ' ' "$work/out")" = "ok 96 ok 1 ok 0 0 0 ok 1 ok 3" ] || bad "the page's example: other answers"
 }
 
 # README's first screen: what is needed, and the first command with what it prints.
@@ -255,7 +262,7 @@ trial_readme() {
 }
 
 trials=("$@")
-[ $# -gt 0 ] || trials=(files options lost strict speed echo prompt terminal signal broken explained refusals line_ends examples readme)
+[ $# -gt 0 ] || trials=(files options lost strict speed echo prompt terminal signal broken explained leading refusals line_ends examples readme)
 for trial in "${trials[@]}"; do
   (trial_"$trial") || exit 1
 done

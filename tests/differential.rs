@@ -20,10 +20,12 @@ mod reference {
 #[path = "../reference/generate"]
 mod generate {
     pub mod chains;
+    pub mod counts;
     pub mod everyday;
     pub mod odd;
     pub mod plots;
     pub mod random;
+    pub mod rivals;
     pub mod teller;
 }
 
@@ -32,6 +34,7 @@ mod parts {
     pub mod arguments;
     pub mod built;
     pub mod clocks;
+    pub mod damaged;
     pub mod library;
     pub mod met;
     pub mod pair;
@@ -40,8 +43,8 @@ mod parts {
     pub mod stories;
 }
 
-use generate::{chains, everyday, odd, plots, teller};
-use parts::{arguments, built, clocks, library, met, pair, random, script, stories};
+use generate::{chains, counts, everyday, odd, plots, rivals, teller};
+use parts::{arguments, built, clocks, damaged, library, met, pair, random, script, stories};
 use reference::{desk, text};
 
 use met::Met;

@@ -1,4 +1,4 @@
-/* The C header's promises: the size of a desk before it is lent, for all counts, and what words of another layout get.
+/* The C header's promises: the size of a desk before it is lent, for all counts, and what words of other layouts get.
  * Prints what went wrong and exits 1, or what was tried. */
 #include <stdio.h>
 #include <string.h>
@@ -43,14 +43,15 @@ static int sizes_fit(void)
     return SHEETDESK_WORDS(32, 16, 8, 8) == SHEETDESK_MOST_WORDS && SHEETDESK_WORDS(-1, 1, 1, 1) == 0;
 }
 
-/* A desk of two sheets and writers whose versions have a word more: counts, offsets and total of that layout. */
-static int other_layout_refused(void)
+/* Every call but new refuses a desk of two sheets and writers with these offsets and total. */
+static int layout_refused(const uint32_t offsets[5])
 {
     static const uint32_t job[] = {0, 0, 0};
     static uint32_t before[100];
-    uint32_t other[100] = {2, 2, 1, 1, 0, 10, 22, 34, 44, 84};
+    uint32_t other[100] = {2, 2, 1, 1, 0};
     int good;
 
+    memcpy(other + 5, offsets, 5 * sizeof *offsets);
     memcpy(before, other, sizeof other);
     good = refused(sheetdesk_open(other, 100, 0, job, 3, ANSWER), SHEETDESK_NOT_IN_FORM)
         && refused(sheetdesk_fetch(other, 100, 0, 0, ANSWER), SHEETDESK_NOT_IN_FORM)
@@ -64,6 +65,15 @@ static int other_layout_refused(void)
     return good && memcmp(before, other, sizeof other) == 0;
 }
 
+/* Layout 1, whose versions have a word less, and one whose writers are as long as versions. */
+static int other_layouts_refused(void)
+{
+    static const uint32_t first[] = {10, 20, 30, 40, 78};
+    static const uint32_t long_writers[] = {10, 22, 34, 46, 86};
+
+    return layout_refused(first) && layout_refused(long_writers);
+}
+
 /* The library that is linked is the header's. */
 static int versions_fit(void)
 {
@@ -72,7 +82,7 @@ static int versions_fit(void)
 
 int main(void)
 {
-    if (!versions_fit() || !sizes_fit() || !other_layout_refused()) {
+    if (!versions_fit() || !sizes_fit() || !other_layouts_refused()) {
         puts("header: a promise of sheetdesk.h isn't kept");
         return 1;
     }

@@ -1,10 +1,10 @@
-//! The Rust wrapper's promises: the size of a desk before it is lent, names of refusals and standings, and answers printed as the
-//! program prints them, over the golden scripts. Prints what went wrong and exits 1, or what was tried.
+//! The Rust wrapper's promises: the size of a desk before it is lent, names of refusals, standings and what a look shows, and
+//! answers printed as the program prints them, over the golden scripts. Prints what went wrong and exits 1, or what was tried.
 
 #[path = "../embed/sheetdesk.rs"]
 mod sheetdesk;
 
-use sheetdesk::{compare, is_linked_right, words, Answer, Desk, Job, Place, Refusal, Standing, MOST_WORDS};
+use sheetdesk::{compare, is_linked_right, words, Answer, Desk, Job, Look, Place, Refusal, Standing, MOST_WORDS};
 use std::{fs, process::exit};
 
 /// New takes just as many words as `words` says, and not one less, for all counts from 0 to one above the largest.
@@ -46,6 +46,21 @@ fn explanations() -> bool {
     desk.open(0, &[Job { office: 0, reads: 0, upstream: 0 }]);
     let clear = desk.explain(0, 0);
     none == Answer::Refused(Refusal::NotInForm) && clear == Answer::Clear && clear.ok().or(clear.path()).is_none()
+}
+
+/// What a look shows, by names; nothing of an answer that is none.
+fn looks() -> bool {
+    let mut room = [0; words(1, 3, 1, 1)];
+    let mut desk = Desk::lend(&mut room);
+    desk.new(1, 3, 1, 1);
+    let mut none = vec![desk.look(Place::Master, 0)];
+    for writer in [0, 2] {
+        desk.open(0, &[Job { office: 0, reads: 0, upstream: 0 }]);
+        none.push(desk.step(0, 0));
+        none.push(desk.issue(0, writer, 1));
+    }
+    let rivals = Look { issue: 2, leaders: 5, clock: &[1, 0, 1], standing: Standing::Equal };
+    none.iter().all(|answer| answer.look().is_none()) && desk.look(Place::Master, 0).look() == Some(rivals)
 }
 
 /// Makes the call of a line; nothing for a line that the wrapper has no form for.
@@ -99,7 +114,7 @@ fn golden() -> Option<usize> {
 
 fn main() {
     let lines = golden().unwrap_or(0);
-    if lines < 500 || !is_linked_right() || !sizes() || !refusals() || !standings() || !explanations() {
+    if lines < 500 || !is_linked_right() || !sizes() || !refusals() || !standings() || !explanations() || !looks() {
         println!("wrapper: a promise of sheetdesk.rs isn't kept ({lines} golden lines answered)");
         exit(1);
     }

@@ -13,7 +13,7 @@ import tempfile
 
 EXAMPLES = {
     "reach": ["PathExamples"],
-    "model": ["Scripts", "Readings", "Looks", "Explanations", "Computed"],
+    "model": ["Scripts", "Readings", "Leaders", "Looks", "Explanations", "Computed"],
     "layout": ["Scripted"],
     "history": ["Scripted"],
 }

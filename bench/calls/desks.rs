@@ -52,11 +52,13 @@ fn after(full: &[u32], calls: &[Call]) -> Vec<u32> {
 /// at an older count, and its next job reads the first: T, C and the path have every sheet.
 fn chained(full: &[u32], [k, w, _, _]: [u32; 4]) -> Vec<u32> {
     let mut words = full.to_vec();
-    let size = (1 + k * w) as usize;
-    let row = |at: usize, sheet: u32| at + 1 + (sheet * w) as usize;
+    // Behind the issue number and the mask of leading writers stand the rows.
+    let size = (2 + k * w) as usize;
+    let row = |at: usize, sheet: u32| at + 2 + (sheet * w) as usize;
     for sheet in 0..k {
         let at = words[5] as usize + sheet as usize * size;
-        words[at + 1..at + size].fill(0);
+        words[at + 1] = 1;
+        words[at + 2..at + size].fill(0);
         words[row(at, sheet)] = 2;
         if sheet + 1 < k {
             words[row(at, sheet + 1)] = 2;

@@ -3,8 +3,10 @@
 
 use super::saves::Saves;
 use super::{has, Book, Finished, Run};
-use crate::desk::version::{compare, held, meets, needs, row, Standing};
+use crate::desk::layout::{LEADERS, NUMBER, PAST};
+use crate::desk::version::{compare, held, meets, needs, row, Standing, NOBODY};
 use crate::desk::Sizes;
+use std::sync::atomic::Ordering;
 
 /// Plans with more sheets than this aren't gone through choice by choice.
 pub const SMALL_PLAN: u32 = 5;
@@ -41,7 +43,8 @@ impl Book {
         Ok(())
     }
 
-    /// The version at a place of the desk is its copy counted.
+    /// The version at a place of the desk is its copy counted, and its mask "names just the
+    /// writers whose last included save stands behind no other included save".
     fn check_version(
         &self,
         desk: &[u32],
@@ -49,11 +52,17 @@ impl Book {
         at: usize,
         copy: &Saves,
     ) -> Result<(), String> {
-        let (words, counted) = (s.words(desk, at), self.ledger.counted(copy, s.k, s.w));
-        if words == counted {
-            return Ok(());
+        let (words, mask) = (s.words(desk, at), self.ledger.leading(copy, s.w));
+        let (number, past) = self.ledger.counted(copy, s.k, s.w);
+        if words[NUMBER] != number || words[PAST..] != past {
+            let book = (number, past);
+            return Err(format!("3b: at word {at} the desk has {words:?}, the book {book:?}"));
         }
-        Err(format!("3b: at word {at} the desk has {words:?}, the book {counted:?}"))
+        if words[LEADERS] != mask {
+            let named = words[LEADERS];
+            return Err(format!("at word {at} the desk names {named}, by the book {mask} lead"));
+        }
+        Ok(())
     }
 
     /// No copy is ahead: each held version on a shelf or card stands equal or older against the
@@ -86,6 +95,14 @@ impl Book {
             return Err(format!("at word {at} sheet {k} is ahead of the master: {standing:?}"));
         }
         Ok(())
+    }
+
+    /// From new every merge names a leader by what its sides say: no writer leads for want of one.
+    pub fn check_named(&self) -> Result<(), String> {
+        match NOBODY.load(Ordering::Relaxed) {
+            0 => Ok(()),
+            merges => Err(format!("{merges} merges named no leader")),
+        }
     }
 
     /// 3c for each pair of finished jobs of each run. A job is paired with itself too, which

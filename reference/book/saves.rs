@@ -148,18 +148,37 @@ impl Ledger {
 
     /// A copy counted: "the largest issue number in it; in row d, for each writer, how many
     /// issues by that writer the book has up to that writer's last save of d in the copy or
-    /// behind a save in it; 0 wherever there is none".
-    pub fn counted(&self, copy: &Saves, k: usize, w: usize) -> Vec<u32> {
-        let mut version = vec![0; 1 + k * w];
-        for save in copy.members() {
-            version[0] = version[0].max(self.saves[save].issue);
-        }
+    /// behind a save in it; 0 wherever there is none". The number, then the rows.
+    pub fn counted(&self, copy: &Saves, k: usize, w: usize) -> (u32, Vec<u32>) {
+        let number = copy.members().map(|save| self.saves[save].issue).max().unwrap_or(0);
+        let mut past = vec![0; k * w];
         for save in self.with_behind(copy).members() {
             let writer = self.issue_of(save).writer;
-            let place = 1 + self.saves[save].sheet * w + writer;
-            version[place] = version[place].max(self.by_writer_up_to(save));
+            let place = self.saves[save].sheet * w + writer;
+            past[place] = past[place].max(self.by_writer_up_to(save));
         }
-        version
+        (number, past)
+    }
+
+    /// The mask of "the writers whose last included save stands behind no other included save".
+    pub fn leading(&self, copy: &Saves, w: usize) -> u32 {
+        let mut mask = 0;
+        for writer in 0..w {
+            let own = copy.members().filter(|save| self.issue_of(*save).writer == writer);
+            let last = own.max_by_key(|save| self.saves[*save].issue);
+            let leads = last.is_some_and(|last| {
+                let mut others = copy.members().filter(|other| *other != last);
+                !others.any(|other| self.stands_behind(last, other))
+            });
+            mask |= u32::from(leads) << writer;
+        }
+        mask
+    }
+
+    /// Does the save stand behind another one?
+    fn stands_behind(&self, save: usize, other: usize) -> bool {
+        let issue = self.issue_of(other);
+        issue.earlier.has(save) || issue.own.has(save)
     }
 
     /// How many issues its writer has up to this save.

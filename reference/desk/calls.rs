@@ -77,7 +77,7 @@ fn issue_refusal(desk: &[u32], run: u32, writer: u32, mask: u32) -> Result<Sizes
     if mask != 0 && desk[LAST_ISSUE] == u32::MAX {
         return Err(ISSUES_SPENT);
     }
-    if mask != 0 && desk[s.writer_at(writer as usize)] == u32::MAX {
+    if mask != 0 && desk[s.writer_at(writer as usize) + COUNT] == u32::MAX {
         return Err(WRITER_SPENT);
     }
     Ok(s)
@@ -87,12 +87,12 @@ fn issue_refusal(desk: &[u32], run: u32, writer: u32, mask: u32) -> Result<Sizes
 /// the run read; for each k in S its row k gets the new count at this writer."
 fn grow_writer(desk: &mut [u32], s: Sizes, run: usize, writer: usize, mask: u32) {
     let at = s.writer_at(writer);
-    let count = desk[at] + 1;
-    let mut past = s.words(desk, at)[1..].to_vec();
+    let count = desk[at + COUNT] + 1;
+    let mut past = s.writer_past(desk, writer).to_vec();
     let read = desk[s.run_at(run) + READ];
     for k in 0..s.k {
         if has(read, k) {
-            take_larger(&mut past, &s.words(desk, s.card_at(run, k))[1..]);
+            take_larger(&mut past, &s.words(desk, s.card_at(run, k))[PAST..]);
         }
     }
     for k in 0..s.k {
@@ -100,19 +100,18 @@ fn grow_writer(desk: &mut [u32], s: Sizes, run: usize, writer: usize, mask: u32)
             past[k * s.w + writer] = count;
         }
     }
-    desk[at] = count;
-    desk[at + 1..at + s.version()].copy_from_slice(&past);
+    desk[at + COUNT] = count;
+    desk[at + WRITER_PAST..at + s.writer()].copy_from_slice(&past);
 }
 
 /// "The master's k, for each k in S, is merged with the version of that past and issue
-/// number."
+/// number." "A new version's mask is its own writer."
 fn publish(desk: &mut [u32], s: Sizes, writer: usize, mask: u32, number: u32) {
-    let mut version = s.words(desk, s.writer_at(writer)).to_vec();
-    version[0] = number;
+    let version = [&[number, 1 << writer][..], s.writer_past(desk, writer)].concat();
     for k in 0..s.k {
         if has(mask, k) {
             let at = s.master_at(k);
-            merge(&mut desk[at..at + s.version()], &version);
+            merge(&mut desk[at..at + s.version()], &version, s.w, k);
         }
     }
 }
@@ -137,8 +136,8 @@ pub fn drop_run(desk: &mut [u32], run: u32) -> Answer {
     Answer::Ok(vec![0])
 }
 
-/// Look: "answers issue number and own row", then "the standing of the place's version against
-/// the master's". "Changes nothing."
+/// Look: "answers issue number and own row"; "the mask follows the issue number"; then "the
+/// standing of the place's version against the master's". "Changes nothing."
 pub fn look(desk: &mut [u32], place: u32, number: u32, sheet: u32) -> Answer {
     let Some(s) = in_form(desk) else {
         return Answer::Refused(NOT_IN_FORM);
@@ -164,7 +163,7 @@ pub fn look(desk: &mut [u32], place: u32, number: u32, sheet: u32) -> Answer {
     }
     let own = row(version, s.w, k);
     let masters = row(s.words(desk, s.master_at(k)), s.w, k);
-    let mut answer = vec![version[0]];
+    let mut answer = vec![version[NUMBER], version[LEADERS]];
     answer.extend_from_slice(own);
     answer.push(standing_number(compare(own, masters)));
     Answer::Ok(answer)

@@ -31,11 +31,13 @@ fn header_in_form(desk: &[u32]) -> Option<Sizes> {
     Some(s)
 }
 
-/// "An unheld version has only zero words and a held one a non-zero own row."
+/// "An unheld version has only zero words and a held one a non-zero own row"; "a held version's
+/// mask isn't zero and has no bit at W or above".
 fn version_in_form(desk: &[u32], s: Sizes, at: usize, k: usize) -> bool {
     let version = s.words(desk, at);
     if held(version) {
-        !all_zero(row(version, s.w, k))
+        let mask = version[LEADERS];
+        !all_zero(row(version, s.w, k)) && mask != 0 && among(mask, s.w)
     } else {
         all_zero(version)
     }

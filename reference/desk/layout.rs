@@ -9,6 +9,15 @@ pub const MOST_JOBS: usize = 8;
 pub const LAST_ISSUE: usize = 4;
 pub const OFFSETS: usize = 5;
 
+// Words of a version: the issue number, the mask of leading writers, then row 0, row 1 and so on.
+pub const NUMBER: usize = 0;
+pub const LEADERS: usize = 1;
+pub const PAST: usize = 2;
+
+// Words of a writer: its count, then its past.
+pub const COUNT: usize = 0;
+pub const WRITER_PAST: usize = 1;
+
 // Words of a run.
 pub const STATE: usize = 0;
 pub const JOBS: usize = 1;
@@ -38,9 +47,14 @@ impl Sizes {
         Some(Sizes { k: k as usize, w: w as usize, n: n as usize, p: p as usize })
     }
 
-    /// V = 1 + K*W.
+    /// V = 2 + K*W.
     pub fn version(&self) -> usize {
-        1 + self.k * self.w
+        PAST + self.k * self.w
+    }
+
+    /// "Writers keep 1 + K*W."
+    pub fn writer(&self) -> usize {
+        WRITER_PAST + self.k * self.w
     }
 
     pub fn master(&self) -> usize {
@@ -56,7 +70,7 @@ impl Sizes {
     }
 
     pub fn runs(&self) -> usize {
-        self.writers() + self.w * self.version()
+        self.writers() + self.w * self.writer()
     }
 
     pub fn run_words(&self) -> usize {
@@ -83,7 +97,7 @@ impl Sizes {
     }
 
     pub fn writer_at(&self, writer: usize) -> usize {
-        self.writers() + writer * self.version()
+        self.writers() + writer * self.writer()
     }
 
     pub fn run_at(&self, run: usize) -> usize {
@@ -97,6 +111,12 @@ impl Sizes {
     /// The V words that start at a place.
     pub fn words<'a>(&self, desk: &'a [u32], at: usize) -> &'a [u32] {
         &desk[at..at + self.version()]
+    }
+
+    /// A writer's past.
+    pub fn writer_past<'a>(&self, desk: &'a [u32], writer: usize) -> &'a [u32] {
+        let at = self.writer_at(writer);
+        &desk[at + WRITER_PAST..at + self.writer()]
     }
 }
 

@@ -105,7 +105,7 @@ fn make_card(desk: &mut [u32], s: Sizes, run: usize) {
         for office in 0..s.n {
             let used = (0..jobs).any(|job| job_words(desk, s, run, job).0 == office);
             if used && has(plan, k) {
-                merge(&mut version, s.words(desk, s.shelf_at(office, k)));
+                merge(&mut version, s.words(desk, s.shelf_at(office, k)), s.w, k);
             }
         }
         let at = s.card_at(run, k);
@@ -134,7 +134,7 @@ pub fn step(desk: &mut [u32], run: u32, job: u32) -> Answer {
         if has(set, k) {
             let version = s.words(desk, s.shelf_at(office, k)).to_vec();
             let card = s.card_at(run, k);
-            merge(&mut desk[card..card + s.version()], &version);
+            merge(&mut desk[card..card + s.version()], &version, s.w, k);
         }
     }
     desk[at + READ] |= reads;

@@ -31,7 +31,7 @@ pub fn refused(t: &mut Teller) {
 }
 
 fn too_large(t: &mut Teller) {
-    let sizes = [[32, 1, 8, 7], [18, 6, 6, 1], [32, 16, 8, 8]][t.below(3)];
+    let sizes = [[32, 1, 8, 6], [28, 2, 8, 1], [32, 16, 8, 8]][t.below(3)];
     t.tell("new", &sizes);
 }
 

@@ -5,6 +5,7 @@ use crate::desk::layout::has;
 use crate::desk::version::needs;
 use crate::desk::{Answer, FREE};
 use crate::everyday;
+use crate::rivals;
 use crate::teller::Teller;
 
 /// A plot of runs, by a number below 58.
@@ -12,7 +13,8 @@ pub fn of_runs(t: &mut Teller, number: usize) {
     match number {
         0..=19 => break_a_run(t),
         20..=22 => chains::explain_a_break(t),
-        23..=38 => issue_rivals(t),
+        23..=33 => rivals::issue_rivals(t),
+        34..=38 => rivals::rounds_of_rivals(t),
         39..=49 => everyday::prepared_run(t),
         50..=53 => everyday::prepare_again(t),
         _ => everyday::plain_run(t),
@@ -22,7 +24,7 @@ pub fn of_runs(t: &mut Teller, number: usize) {
 /// A new desk, mostly small, so that sheets and writers meet often.
 pub fn fresh_desk(t: &mut Teller) {
     let sizes = if t.chance(8) {
-        const WIDE: [[u32; 4]; 4] = [[11, 12, 4, 5], [23, 3, 7, 2], [32, 1, 8, 6], [32, 2, 2, 2]];
+        const WIDE: [[u32; 4]; 4] = [[13, 12, 2, 4], [24, 3, 2, 6], [32, 1, 8, 5], [32, 2, 2, 2]];
         WIDE[t.below(4)]
     } else {
         [2 + t.below(6), 1 + t.below(6), 1 + t.below(4), 2 + t.below(3)].map(|n| n as u32)
@@ -38,7 +40,7 @@ pub fn fresh_desk(t: &mut Teller) {
 
 /// Mostly a sheet has one writer: a writer's past ties all its sheets together, and runs
 /// over tied sheets never break.
-fn writer_of(t: &mut Teller, sheet: usize) -> usize {
+pub fn writer_of(t: &mut Teller, sheet: usize) -> usize {
     let w = t.sizes().w;
     if t.chance(85) {
         sheet % w
@@ -78,22 +80,6 @@ pub fn publish_by(t: &mut Teller, run: usize, writer: usize, sheets: u32, reads:
 
 pub fn some_sheets(t: &mut Teller, percent: usize) -> u32 {
     (0..t.sizes().k).fold(0, |mask, k| mask | (u32::from(t.chance(percent)) << k))
-}
-
-/// Two writers issue one sheet, and neither has read the other's.
-pub fn issue_rivals(t: &mut Teller) {
-    let sheet = t.below(t.sizes().k);
-    let first = writer_of(t, sheet);
-    let second = (first + 1) % t.sizes().w;
-    let also = if t.chance(15) { some_sheets(t, 20) } else { 0 };
-    let run = free_run(t);
-    publish_by(t, run, first, 1 << sheet | also, 0);
-    publish_by(t, run, second, 1 << sheet, 0);
-    if t.chance(40) {
-        // The merge is read, and something is drawn against it.
-        let drawn = t.below(t.sizes().k);
-        publish(t, drawn, 1 << sheet);
-    }
 }
 
 /// Two sheets of which the first doesn't need the second on the master, if some draws find

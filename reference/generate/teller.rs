@@ -1,66 +1,11 @@
 //! The script so far, the desk that it leads to, and the counts.
 
-use crate::chains::tied_and_carried;
-use crate::desk::layout::{has, DONE, JOBS, JOB_LIST, READ, STATE};
-use crate::desk::version::{compare, covers, held, row, Standing};
+use crate::counts::Counts;
+use crate::desk::layout::{DONE, JOBS, JOB_LIST, READ, STATE};
+use crate::desk::version::{compare, held, row, Standing};
 use crate::desk::{in_form, Answer, Sizes};
 use crate::random::Random;
-use crate::text::{self, Call};
-
-#[derive(Default)]
-pub struct Counts {
-    pub lines: u64,
-    pub unread: u64,
-    pub rivals: u64,
-    pub fetches_of_more: u64,
-    pub evicts_of_more: u64,
-    pub prepares: u64,
-    pub steps: u64,
-    pub breaks: u64,
-    pub issues: u64,
-    pub looks: u64,
-    pub looks_older: u64,
-    pub clear: u64,
-    pub paths: u64,
-    pub long_paths: u64,
-    pub tied_paths: u64,
-    pub carried_paths: u64,
-    pub refused: [u64; 11],
-}
-
-impl Counts {
-    /// One line of names and numbers.
-    pub fn print(&self) -> String {
-        let mut line = format!(
-            "lines {} unread {} rivals {} fetches-of-more {} evicts-of-more {} prepares {} \
-             steps {} breaks {} issues {} looks {} looks-older {}",
-            self.lines,
-            self.unread,
-            self.rivals,
-            self.fetches_of_more,
-            self.evicts_of_more,
-            self.prepares,
-            self.steps,
-            self.breaks,
-            self.issues,
-            self.looks,
-            self.looks_older
-        );
-        for (name, count) in [
-            ("clear", self.clear),
-            ("paths", self.paths),
-            ("paths-of-3", self.long_paths),
-            ("paths-tied", self.tied_paths),
-            ("paths-carried", self.carried_paths),
-        ] {
-            line.push_str(&format!(" {name} {count}"));
-        }
-        for number in 1..=8 {
-            line.push_str(&format!(" refused-{number} {}", self.refused[number]));
-        }
-        line
-    }
-}
+use crate::text;
 
 pub struct Teller {
     pub script: Vec<u8>,
@@ -103,7 +48,7 @@ impl Teller {
         };
         let before = self.words.clone();
         let answer = text::run(&mut self.words, &call);
-        self.count(&before, &call, &answer);
+        self.counts.enter(&before, &self.words, &call, &answer);
         Some(answer)
     }
 
@@ -172,39 +117,6 @@ impl Teller {
         }
     }
 
-    fn count(&mut self, before: &[u32], call: &Call, answer: &Answer) {
-        let counts = &mut self.counts;
-        match (call, answer) {
-            (_, Answer::Refused(number)) => counts.refused[*number as usize] += 1,
-            (_, Answer::Broken(_)) => counts.breaks += 1,
-            (Call::Fetch(..), Answer::Ok(set)) => {
-                counts.fetches_of_more += u64::from(set[0].count_ones() > 1);
-            }
-            (Call::Evict(..), Answer::Ok(set)) => {
-                counts.evicts_of_more += u64::from(set[0].count_ones() > 1);
-            }
-            (Call::Prepare(_), Answer::Ok(_)) => counts.prepares += 1,
-            (Call::Step(..), Answer::Ok(_)) => counts.steps += 1,
-            (Call::Issue(_, writer, mask), Answer::Ok(_)) => {
-                counts.issues += u64::from(*mask != 0);
-                counts.rivals += rivals_met(before, &self.words, *writer as usize, *mask);
-            }
-            (Call::Look(..), Answer::Ok(numbers)) => {
-                counts.looks += 1;
-                counts.looks_older += u64::from(numbers.last() == Some(&1));
-            }
-            (_, Answer::Clear) => counts.clear += 1,
-            (Call::Explain(run, job), Answer::Path(path)) => {
-                let (tied, carried) = tied_and_carried(before, [*run, *job], path);
-                counts.paths += 1;
-                counts.long_paths += u64::from(path.len() > 2);
-                counts.tied_paths += u64::from(tied);
-                counts.carried_paths += u64::from(carried);
-            }
-            _ => {}
-        }
-    }
-
     pub fn on_master(&self, k: usize) -> bool {
         self.words[self.sizes().master_at(k)] != 0
     }
@@ -224,17 +136,4 @@ impl Teller {
         let at = self.sizes().run_at(run) + JOB_LIST + 3 * job;
         [self.words[at], self.words[at + 1], self.words[at + 2]]
     }
-}
-
-/// The sheets whose master version the new version doesn't cover: it never is covered itself.
-fn rivals_met(before: &[u32], after: &[u32], writer: usize, mask: u32) -> u64 {
-    let Some(s) = in_form(before) else {
-        return 0;
-    };
-    let made = s.words(after, s.writer_at(writer));
-    let met = (0..s.k).filter(|k| {
-        let old = s.words(before, s.master_at(*k));
-        has(mask, *k) && held(old) && !covers(row(made, s.w, *k), row(old, s.w, *k))
-    });
-    met.count() as u64
 }

@@ -4,6 +4,7 @@ use crate::book::saves::{Ledger, Saves};
 use crate::random::Draw;
 
 const SHEETS: usize = 4;
+const WRITERS: usize = 3;
 
 /// A save with all that its issue was entered with.
 struct Plain {
@@ -19,7 +20,7 @@ pub fn compare(seed: u64) {
     let mut ledger = Ledger::default();
     let mut saves: Vec<Plain> = Vec::new();
     for issue in 1..=10 {
-        let (writer, mask) = (draw.below(3) as usize, 1 + draw.below(15));
+        let (writer, mask) = (draw.below(WRITERS as u64) as usize, 1 + draw.below(15));
         let copies = (0..draw.below(3)).map(|_| any_copy(&mut draw, &saves)).collect::<Vec<_>>();
         assert_eq!(ledger.enter(writer, mask, &copies), issue as u32);
         let mut read = Saves::default();
@@ -39,6 +40,19 @@ pub fn compare(seed: u64) {
             }
         }
     }
+    for _ in 0..10 {
+        let copy = any_copy(&mut draw, &saves);
+        let led = (0..WRITERS).filter(|writer| leads(&saves, &behind, &copy, *writer));
+        assert_eq!(ledger.leading(&copy, WRITERS), led.fold(0, |mask, u| mask | 1 << u));
+    }
+}
+
+/// Does the writer's "last included save" stand "behind no other included save"?
+fn leads(saves: &[Plain], behind: &[Vec<bool>], copy: &Saves, writer: usize) -> bool {
+    let included = (0..saves.len()).filter(|save| copy.has(*save)).collect::<Vec<usize>>();
+    let own = included.iter().filter(|save| saves[**save].writer == writer);
+    let last = own.max_by_key(|save| saves[**save].issue);
+    last.is_some_and(|last| included.iter().all(|t| t == last || !behind[*t][*last]))
 }
 
 /// Any saves of one sheet.

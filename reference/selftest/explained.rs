@@ -1,39 +1,9 @@
 //! Explain on the examples worked out for it, and on a path of all 32 sheets.
 
-use crate::desk::layout::{DONE, JOBS, JOB_LIST, READ, STATE};
+use crate::desk::layout::{DONE, JOBS, JOB_LIST, LEADERS, NUMBER, PAST, READ, STATE};
 use crate::desk::*;
+use crate::lines::works;
 use crate::marked::{fresh, put};
-use crate::text::{print, read_line, run, LENT};
-
-/// Works lines on a desk of the program's size; each must be answered as written behind its
-/// arrow, or `ok` if nothing is. `save r w S` is `open r 0 0 0`, `step r 0`, `issue r w S`, and
-/// `edit r o m w S` is `open r o m 0`, `step r 0`, `issue r w S`.
-fn works(lines: &[&str]) {
-    let mut words = vec![0; LENT];
-    for line in lines {
-        let (call, due) = line.split_once(" -> ").unwrap_or((line, "ok"));
-        for call in spelled(call) {
-            let known = read_line(call.as_bytes()).expect("a call");
-            let before = words.clone();
-            let answer = print(&run(&mut words, &known));
-            assert!(answer == due || due == "ok" && answer.starts_with("ok "), "{call}: {answer}");
-            assert!(!call.starts_with("explain") || words == before, "{call}");
-        }
-    }
-}
-
-/// The calls that a line stands for.
-fn spelled(line: &str) -> Vec<String> {
-    let words = line.split(' ').collect::<Vec<&str>>();
-    let three = |r: &str, job: String, w: &str, s: &str| {
-        vec![format!("open {r} {job} 0"), format!("step {r} 0"), format!("issue {r} {w} {s}")]
-    };
-    match words.as_slice() {
-        ["save", r, w, s] => three(r, "0 0".into(), w, s),
-        ["edit", r, o, m, w, s] => three(r, format!("{o} {m}"), w, s),
-        _ => vec![line.to_string()],
-    }
-}
 
 /// Sheet 2 needs an older 1; the fetched 1 is newer and needs the new 0.
 pub fn through_newer() {
@@ -140,11 +110,11 @@ pub fn refusals() {
 pub fn all_sheets() {
     let (mut words, s) = fresh(32, 1, 1, 1);
     for k in 0..32 {
-        let mut version = [0; 33];
-        version[0] = 1;
-        version[1 + k] = 2;
+        let mut version = [0; 34];
+        (version[NUMBER], version[LEADERS]) = (1, 1);
+        version[PAST + k] = 2;
         if k < 31 {
-            version[1 + k + 1] = 2;
+            version[PAST + k + 1] = 2;
         }
         put(&mut words, s.shelf_at(0, k), &version);
     }
@@ -154,7 +124,8 @@ pub fn all_sheets() {
     }
     put(&mut words, run + JOB_LIST, &[0, last, 0, 0, 1, 0, 0, !last & !1, 0]);
     let at = s.card_at(0, 31);
-    (words[at], words[at + 32]) = (1, 1);
+    put(&mut words, at, &[1, 1]);
+    words[at + PAST + 31] = 1;
     assert!(in_form(&words).is_some());
     assert_eq!(explain(&words, 0, 1), Answer::Path((0..32).collect()));
     assert_eq!(explain(&words, 0, 2), Answer::Path(vec![30, 31]));

@@ -1,6 +1,6 @@
 //! "A desk is in form": what is tested, what is free, and refusals 9 and 10.
 
-use crate::desk::layout::{DONE, JOBS, JOB_LIST, LAST_ISSUE, READ, STATE};
+use crate::desk::layout::{DONE, JOBS, JOB_LIST, LAST_ISSUE, LEADERS, PAST, READ, STATE};
 use crate::desk::*;
 use crate::marked::fresh;
 
@@ -23,6 +23,12 @@ pub fn free_words() {
     words[s.master_at(0)] = 1_000_000;
     words[s.run_at(0) + STATE] = BROKEN;
     assert_eq!(in_form(&words), Some(s));
+    // A writer may lead without a count.
+    for mask in [1, 2, 3] {
+        words[s.master_at(0) + LEADERS] = mask;
+        words[s.card_at(0, 0) + LEADERS] = mask;
+        assert_eq!(in_form(&words), Some(s));
+    }
     // A done job's upstream need not be done.
     let run = s.run_at(0);
     words[run + DONE] = 2;
@@ -35,10 +41,10 @@ pub fn free_words() {
 /// Each change of one word takes the form away, and then every call but new gives 1.
 pub fn bad_words() {
     let (words, s) = worked();
-    let (run, second) = (s.run_at(0), s.run_at(1));
+    let (run, second, row) = (s.run_at(0), s.run_at(1), PAST + s.w);
     let mut changes = vec![(0, 0), (0, 33), (1, 17), (2, 9), (3, u32::MAX), (0, 3), (9, 0)];
     changes.extend((5..10).map(|place| (place, words[place] + 1)));
-    changes.extend([(s.master_at(0), 0), (s.master_at(1) + 3, 0), (s.shelf_at(1, 0) + 4, 1)]);
+    changes.extend([(s.master_at(0), 0), (s.master_at(1) + row, 0), (s.shelf_at(1, 0) + 4, 1)]);
     changes.extend([(s.shelf_at(1, 1), 5), (second + STATE, 1), (second + STATE, 3)]);
     changes.extend([(second + READ, 1), (s.card_at(1, 1), 1), (run + STATE, 0), (run + STATE, 3)]);
     changes.extend([(run + JOBS, 0), (run + JOBS, 1), (run + JOBS, 9), (run + JOBS, u32::MAX)]);
@@ -46,7 +52,15 @@ pub fn bad_words() {
     changes.extend([(run + JOB_LIST, 2), (run + JOB_LIST + 1, 4), (run + JOB_LIST + 2, 1)]);
     changes.extend([(run + JOB_LIST + 5, 2), (run + JOB_LIST + 6, 1), (run + 27, 1)]);
     changes.extend([(run + JOB_LIST + 1, 0), (s.card_at(0, 0), 0), (run + JOB_LIST + 4, 0)]);
-    changes.extend([(s.card_at(0, 0) + 1, 0), (s.card_at(0, 1), 0), (s.card_at(0, 1) + 3, 0)]);
+    let [card, next] = [0, 1].map(|k| s.card_at(0, k));
+    changes.extend([(card + PAST, 0), (next, 0), (next + row, 0)]);
+    // Masks of held versions, then of unheld ones.
+    for at in [s.master_at(1), s.shelf_at(0, 0), s.card_at(0, 0)] {
+        changes.extend([0, 4, 7, 1 << 31].map(|mask| (at + LEADERS, mask)));
+    }
+    for at in [s.shelf_at(1, 0), s.card_at(1, 0)] {
+        changes.push((at + LEADERS, 1));
+    }
     for (at, word) in changes {
         let mut bad = words.clone();
         bad[at] = word;
@@ -63,7 +77,7 @@ pub fn bad_words() {
 }
 
 /// Every call but new is refused with the number, whatever it asks, and changes nothing.
-fn all_refuse(words: &mut [u32], number: u32) {
+pub fn all_refuse(words: &mut [u32], number: u32) {
     let before = words.to_vec();
     let far = u32::MAX;
     for x in [0, far] {
@@ -99,6 +113,6 @@ pub fn spent_counts() {
     assert_eq!(issue(&mut words, 0, 1, 2), Answer::Ok(vec![2]));
     assert_eq!(words[s.writer_at(1)], u32::MAX);
     // Both sheets were read at (1,0): that went into the writer's past.
-    assert_eq!(s.words(&words, s.writer_at(1))[1..], [1, 0, 1, u32::MAX]);
-    assert_eq!(s.words(&words, s.master_at(1)), [2, 1, 0, 1, u32::MAX]);
+    assert_eq!(s.writer_past(&words, 1), [1, 0, 1, u32::MAX]);
+    assert_eq!(s.words(&words, s.master_at(1)), [2, 2, 1, 0, 1, u32::MAX]);
 }

@@ -19,14 +19,15 @@ pub fn put(words: &mut [u32], at: usize, version: &[u32]) {
 
 pub fn sizes() {
     let (words, _) = fresh(2, 2, 1, 1);
-    assert_eq!(words[..10], [2, 2, 1, 1, 0, 10, 20, 30, 40, 78]);
-    assert_eq!(Sizes::of(32, 16, 8, 8).unwrap().total(), 287_514);
+    assert_eq!(words[..10], [2, 2, 1, 1, 0, 10, 22, 34, 44, 84]);
+    assert_eq!(Sizes::of(32, 16, 8, 8).unwrap().total(), 288_058);
     let total = |k, w, n, p| Sizes::of(k, w, n, p).unwrap().total();
-    assert_eq!(total(2, 2, 2, 1), 88);
-    assert_eq!(total(11, 12, 4, 5), 16_376);
-    assert_eq!(total(23, 3, 7, 2), 16_376);
-    assert!(total(18, 6, 6, 1) > 16_384);
-    assert!(total(32, 1, 8, 6) <= 16_384 && total(32, 1, 8, 7) > 16_384);
+    assert_eq!(total(2, 2, 2, 1), 96);
+    // Two desks are just as large as what the program lends; the next larger ones aren't taken.
+    assert_eq!(total(13, 12, 2, 4), 16_384);
+    assert_eq!(total(16, 6, 5, 4), 16_384);
+    assert_eq!(total(28, 2, 8, 1), 16_392);
+    assert!(total(32, 1, 8, 5) <= 16_384 && total(32, 1, 8, 6) > 16_384);
 }
 
 /// Marked 1 to 5.
@@ -35,22 +36,22 @@ pub fn clocks() {
     assert!(rivals(&[1, 0], &[0, 1]));
     assert!(covers(&[1, 1], &[1, 0]) && covers(&[1, 1], &[0, 1])); // 2
     assert!(covers(&[1, 0], &[1, 0])); // 3
-    let mut version = [1, 2, 0];
-    merge(&mut version, &[2, 1, 3]);
-    assert_eq!(version, [2, 2, 3]); // 4
-    merge(&mut version, &[0, 0, 0]);
-    assert_eq!(version, [2, 2, 3]); // 5
-    let mut unheld = [0, 0, 0];
-    merge(&mut unheld, &version);
-    assert_eq!(unheld, [2, 2, 3]);
+    let mut version = [1, 1, 2, 0];
+    merge(&mut version, &[2, 2, 1, 3], 2, 0);
+    assert_eq!(version, [2, 3, 2, 3]); // 4
+    merge(&mut version, &[0; 4], 2, 0);
+    assert_eq!(version, [2, 3, 2, 3]); // 5
+    let mut unheld = [0; 4];
+    merge(&mut unheld, &version, 2, 0);
+    assert_eq!(unheld, [2, 3, 2, 3]);
 }
 
 /// Marked 6: u = 0, e = 1, k = 2; u needs e at (1,0), the newer e needs k.
 pub fn evict_six() {
     let (mut words, s) = fresh(3, 2, 1, 1);
-    put(&mut words, s.shelf_at(0, 0), &[1, 1, 0, 1, 0, 0, 0]);
-    put(&mut words, s.shelf_at(0, 1), &[3, 0, 0, 2, 0, 1, 0]);
-    put(&mut words, s.shelf_at(0, 2), &[2, 0, 0, 0, 0, 1, 0]);
+    put(&mut words, s.shelf_at(0, 0), &[1, 1, 1, 0, 1, 0, 0, 0]);
+    put(&mut words, s.shelf_at(0, 1), &[3, 1, 0, 0, 2, 0, 1, 0]);
+    put(&mut words, s.shelf_at(0, 2), &[2, 1, 0, 0, 0, 0, 1, 0]);
     assert_eq!(evict(&mut words, 0, 2), Answer::Ok(vec![7]));
     assert_eq!(words, fresh(3, 2, 1, 1).0);
 }
@@ -64,9 +65,9 @@ fn step_case(need: u32, read: bool) -> (Vec<u32>, Sizes) {
     words[run + DONE] = u32::from(read);
     words[run + READ] = u32::from(read);
     put(&mut words, run + JOB_LIST, &[0, 1, 0, 0, 2, 0]);
-    put(&mut words, s.card_at(0, 0), &[1, 1, 0, 0, 0]);
-    put(&mut words, s.shelf_at(0, 0), &[2, 2, 0, 0, 0]);
-    put(&mut words, s.shelf_at(0, 1), &[3, need, 0, 3, 0]);
+    put(&mut words, s.card_at(0, 0), &[1, 1, 1, 0, 0, 0]);
+    put(&mut words, s.shelf_at(0, 0), &[2, 1, 2, 0, 0, 0]);
+    put(&mut words, s.shelf_at(0, 1), &[3, 1, need, 0, 3, 0]);
     assert!(in_form(&words).is_some());
     (words, s)
 }
@@ -75,8 +76,8 @@ fn step_case(need: u32, read: bool) -> (Vec<u32>, Sizes) {
 pub fn steps_seven_to_nine() {
     let (mut words, s) = step_case(1, true);
     assert_eq!(step(&mut words, 0, 1), Answer::Ok(vec![0, 2, 0]));
-    assert_eq!(s.words(&words, s.card_at(0, 0)), [1, 1, 0, 0, 0]);
-    assert_eq!(s.words(&words, s.card_at(0, 1)), [3, 1, 0, 3, 0]);
+    assert_eq!(s.words(&words, s.card_at(0, 0)), [1, 1, 1, 0, 0, 0]);
+    assert_eq!(s.words(&words, s.card_at(0, 1)), [3, 1, 1, 0, 3, 0]);
     let (mut words, s) = step_case(2, true);
     let mut after = words.clone();
     after[s.run_at(0) + STATE] = BROKEN;
@@ -84,44 +85,44 @@ pub fn steps_seven_to_nine() {
     assert_eq!(words, after);
     let (mut words, s) = step_case(2, false);
     assert_eq!(step(&mut words, 0, 1), Answer::Ok(vec![0, 2, 0]));
-    assert_eq!(s.words(&words, s.card_at(0, 0)), [2, 2, 0, 0, 0]);
+    assert_eq!(s.words(&words, s.card_at(0, 0)), [2, 1, 2, 0, 0, 0]);
 }
 
 /// The card takes the merge, and not a copy: from new the two are the same.
 pub fn step_merges() {
     let (mut words, s) = step_case(2, false);
-    put(&mut words, s.card_at(0, 0), &[9, 1, 5, 0, 4]);
+    put(&mut words, s.card_at(0, 0), &[9, 2, 1, 5, 0, 4]);
     assert_eq!(step(&mut words, 0, 1), Answer::Ok(vec![0, 2, 0]));
-    assert_eq!(s.words(&words, s.card_at(0, 0)), [9, 2, 5, 0, 4]);
+    assert_eq!(s.words(&words, s.card_at(0, 0)), [9, 3, 2, 5, 0, 4]);
     // A rival on the shelf doesn't meet the need, and is taken all the same.
     let (mut words, s) = step_case(2, false);
-    put(&mut words, s.shelf_at(0, 0), &[2, 0, 7, 0, 0]);
+    put(&mut words, s.shelf_at(0, 0), &[2, 2, 0, 7, 0, 0]);
     assert_eq!(step(&mut words, 0, 1), Answer::Ok(vec![0, 2, 0]));
-    assert_eq!(s.words(&words, s.card_at(0, 0)), [2, 1, 7, 0, 0]);
+    assert_eq!(s.words(&words, s.card_at(0, 0)), [2, 3, 1, 7, 0, 0]);
     // A shelf that doesn't hold the needed sheet adds nothing.
     let (mut words, s) = step_case(2, true);
-    put(&mut words, s.shelf_at(0, 0), &[0, 0, 0, 0, 0]);
+    put(&mut words, s.shelf_at(0, 0), &[0; 6]);
     assert_eq!(step(&mut words, 0, 1), Answer::Ok(vec![0, 2, 0]));
-    assert_eq!(s.words(&words, s.card_at(0, 0)), [1, 1, 0, 0, 0]);
+    assert_eq!(s.words(&words, s.card_at(0, 0)), [1, 1, 1, 0, 0, 0]);
 }
 
 /// The shelf takes a copy of the master's version, and no merge; T has only sheets that the
 /// master holds.
 pub fn fetch_copies() {
     let (mut words, s) = fresh(3, 1, 1, 1);
-    put(&mut words, s.shelf_at(0, 0), &[9, 9, 0, 8]);
-    put(&mut words, s.master_at(0), &[2, 3, 4, 0]);
+    put(&mut words, s.shelf_at(0, 0), &[9, 1, 9, 0, 8]);
+    put(&mut words, s.master_at(0), &[2, 1, 3, 4, 0]);
     assert_eq!(fetch(&mut words, 0, 0), Answer::Ok(vec![1]));
-    assert_eq!(s.words(&words, s.shelf_at(0, 0)), [2, 3, 4, 0]);
-    put(&mut words, s.master_at(1), &[1, 0, 1, 5]);
+    assert_eq!(s.words(&words, s.shelf_at(0, 0)), [2, 1, 3, 4, 0]);
+    put(&mut words, s.master_at(1), &[1, 1, 0, 1, 5]);
     assert_eq!(fetch(&mut words, 0, 0), Answer::Ok(vec![3]));
     assert_eq!(fetch(&mut words, 0, 2), Answer::Refused(7));
 }
 
 /// Marked 10.
 pub fn unheld_ten() {
-    assert!(!meets(&[0, 0, 0], 2, 0, &[1, 0]));
-    assert!(meets(&[1, 1, 0], 2, 0, &[1, 0]));
+    assert!(!meets(&[0; 4], 2, 0, &[1, 0]));
+    assert!(meets(&[1, 1, 1, 0], 2, 0, &[1, 0]));
 }
 
 /// New's range, and the jobs of open and step.
@@ -133,10 +134,10 @@ pub fn new_and_open() {
         assert_eq!(new(&mut [], k, w, n, p), Answer::Refused(2)); // 2 before 1
     }
     assert!(words.iter().all(|word| *word == 7));
-    assert_eq!(new(&mut words, 1, 1, 1, 1), Answer::Ok(vec![46]));
-    assert_eq!(new(&mut words, 32, 16, 8, 8), Answer::Ok(vec![287_514]));
-    assert!(words[287_514..].iter().all(|word| *word == 7));
-    assert_eq!(new(&mut words[..287_513], 32, 16, 8, 8), Answer::Refused(1));
+    assert_eq!(new(&mut words, 1, 1, 1, 1), Answer::Ok(vec![49]));
+    assert_eq!(new(&mut words, 32, 16, 8, 8), Answer::Ok(vec![288_058]));
+    assert!(words[288_058..].iter().all(|word| *word == 7));
+    assert_eq!(new(&mut words[..288_057], 32, 16, 8, 8), Answer::Refused(1));
     assert_eq!(step(&mut words, 0, 0), Answer::Refused(4));
     assert_eq!(open(&mut words, 0, &[0; 27]), Answer::Refused(5));
     assert_eq!(open(&mut words, 0, &[0; 24]), Answer::Ok(vec![8]));

@@ -1,7 +1,7 @@
 //! Explain against all paths without a sheet twice: on random graphs, and on random small desks
 //! in form.
 
-use crate::desk::layout::{has, DONE, JOBS, JOB_LIST, READ, STATE};
+use crate::desk::layout::{has, DONE, JOBS, JOB_LIST, LEADERS, NUMBER, PAST, READ, STATE};
 use crate::desk::version::{held, meets, needs, row};
 use crate::desk::*;
 use crate::random::Draw;
@@ -169,10 +169,11 @@ fn version(draw: &mut Draw, words: &mut [u32], s: Sizes, at: usize, k: usize, pe
     if draw.below(100) >= percent {
         return;
     }
-    words[at] = 1 + draw.below(9);
+    words[at + NUMBER] = 1 + draw.below(9);
+    words[at + LEADERS] = 1 + draw.below(3);
     let rows = mask(draw, s.k, 25) | 1 << k;
     for d in (0..s.k).filter(|d| has(rows, *d)) {
-        words[at + 1 + d * s.w] = 1 + draw.below(2);
-        words[at + 2 + d * s.w] = draw.below(2);
+        words[at + PAST + d * s.w] = 1 + draw.below(2);
+        words[at + PAST + 1 + d * s.w] = draw.below(2);
     }
 }

@@ -37,10 +37,10 @@ fn other_way(standing: Standing) -> Standing {
 }
 
 /// A desk of 2 sheets and 2 writers whose master holds sheet 0 at (1,1), and a shelf.
-fn lent(shelf: [[u32; 5]; 2]) -> (Vec<u32>, Sizes) {
+fn lent(shelf: [[u32; 6]; 2]) -> (Vec<u32>, Sizes) {
     let (mut words, s) = fresh(2, 2, 1, 1);
     words[LAST_ISSUE] = 9;
-    put(&mut words, s.master_at(0), &[3, 1, 1, 0, 0]);
+    put(&mut words, s.master_at(0), &[3, 2, 1, 1, 0, 0]);
     put(&mut words, s.shelf_at(0, 0), &shelf[0]);
     put(&mut words, s.shelf_at(0, 1), &shelf[1]);
     assert!(in_form(&words).is_some());
@@ -48,24 +48,24 @@ fn lent(shelf: [[u32; 5]; 2]) -> (Vec<u32>, Sizes) {
 }
 
 /// A look that is answered `ok` with these numbers and changes nothing.
-fn looks(words: &[u32], place: u32, sheet: u32, answer: [u32; 4]) {
+fn looks(words: &[u32], place: u32, sheet: u32, answer: [u32; 5]) {
     let mut after = words.to_vec();
     assert_eq!(look(&mut after, place, 0, sheet), Answer::Ok(answer.to_vec()));
     assert_eq!(after, words);
 }
 
 /// A rival, a version of a sheet that the master lacks, and the master itself; then own rows
-/// that are equal, newer and older, whatever number and needs go with them.
+/// that are equal, newer and older, whatever number, leaders and needs go with them.
 pub fn looked() {
-    const NONE: [u32; 5] = [0; 5];
-    let (words, _) = lent([[7, 2, 0, 0, 5], [1, 0, 0, 0, 1]]);
-    looks(&words, 1, 0, [7, 2, 0, 3]);
-    looks(&words, 1, 1, [1, 0, 1, 2]);
-    looks(&words, 0, 0, [3, 1, 1, 0]);
+    const NONE: [u32; 6] = [0; 6];
+    let (words, _) = lent([[7, 1, 2, 0, 0, 5], [1, 3, 0, 0, 0, 1]]);
+    looks(&words, 1, 0, [7, 1, 2, 0, 3]);
+    looks(&words, 1, 1, [1, 3, 0, 1, 2]);
+    looks(&words, 0, 0, [3, 2, 1, 1, 0]);
     for (shelf, answer) in [
-        ([7, 1, 1, 4, 5], [7, 1, 1, 0]),
-        ([1, 2, 1, 0, 0], [1, 2, 1, 2]),
-        ([9, 0, 1, 0, 0], [9, 0, 1, 1]),
+        ([7, 1, 1, 1, 4, 5], [7, 1, 1, 1, 0]),
+        ([1, 2, 2, 1, 0, 0], [1, 2, 2, 1, 2]),
+        ([9, 3, 0, 1, 0, 0], [9, 3, 0, 1, 1]),
     ] {
         let (words, _) = lent([shelf, NONE]);
         looks(&words, 1, 0, answer);
@@ -74,17 +74,17 @@ pub fn looked() {
 
 /// A card is compared with the master too, and each sheet with the master's version of it.
 pub fn looked_at_card() {
-    let (mut words, s) = lent([[3, 1, 1, 0, 0], [6, 0, 0, 0, 4]]);
-    put(&mut words, s.master_at(1), &[5, 7, 7, 1, 2]);
+    let (mut words, s) = lent([[3, 2, 1, 1, 0, 0], [6, 2, 0, 0, 0, 4]]);
+    put(&mut words, s.master_at(1), &[5, 1, 7, 7, 1, 2]);
     let run = s.run_at(0);
     words[run + STATE] = OPEN;
     words[run + JOBS] = 1;
     put(&mut words, run + JOB_LIST, &[0, 3, 0]);
-    put(&mut words, s.card_at(0, 0), &[4, 0, 1, 0, 0]);
-    put(&mut words, s.card_at(0, 1), &[4, 0, 0, 1, 2]);
-    looks(&words, 0, 1, [5, 1, 2, 0]);
-    looks(&words, 1, 0, [3, 1, 1, 0]);
-    looks(&words, 1, 1, [6, 0, 4, 3]);
-    looks(&words, 2, 0, [4, 0, 1, 1]);
-    looks(&words, 2, 1, [4, 1, 2, 0]);
+    put(&mut words, s.card_at(0, 0), &[4, 2, 0, 1, 0, 0]);
+    put(&mut words, s.card_at(0, 1), &[4, 3, 0, 0, 1, 2]);
+    looks(&words, 0, 1, [5, 1, 1, 2, 0]);
+    looks(&words, 1, 0, [3, 2, 1, 1, 0]);
+    looks(&words, 1, 1, [6, 2, 0, 4, 3]);
+    looks(&words, 2, 0, [4, 2, 0, 1, 1]);
+    looks(&words, 2, 1, [4, 3, 1, 2, 0]);
 }

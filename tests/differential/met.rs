@@ -1,7 +1,9 @@
 //! What the calls met, and how much of it there must be.
 
+use crate::desk::version::NOBODY;
 use crate::desk::Answer;
 use crate::text::Call;
+use std::sync::atomic::Ordering;
 
 /// Where a desk came from.
 #[derive(Clone, Copy)]
@@ -32,6 +34,8 @@ pub struct Met {
     pub compared: [u64; 5],
     /// Looks by the standing that they answer.
     standings: [u64; 4],
+    /// Looks at a version with several leading writers.
+    several_leaders: u64,
     /// Calls answered ok, by source.
     by_source: [u64; 6],
     /// Answered ok, by call.
@@ -80,7 +84,10 @@ impl Met {
                 match call {
                     Call::Fetch(..) => self.fetches_of_more += several,
                     Call::Evict(..) => self.evicts_of_more += several,
-                    Call::Look(..) => self.standings[numbers[numbers.len() - 1] as usize] += 1,
+                    Call::Look(..) => {
+                        self.standings[numbers[numbers.len() - 1] as usize] += 1;
+                        self.several_leaders += u64::from(numbers[1].count_ones() > 1);
+                    }
                     _ => {}
                 }
             }
@@ -91,6 +98,8 @@ impl Met {
     fn table(&self) -> Vec<(String, u64, u64)> {
         let mut table = vec![
             ("merges of rivals".into(), self.rivals, 4000),
+            ("merges that name no leader".into(), NOBODY.load(Ordering::Relaxed), 100),
+            ("looks at several leaders".into(), self.several_leaders, 1000),
             ("breaks".into(), self.breaks, 1000),
             ("explained as clear".into(), self.clear, 1000),
             ("paths".into(), self.paths, 500),
@@ -142,7 +151,7 @@ impl Met {
                 few.push(format!("{name}: {count} of {least}"));
             }
         }
-        if self.largest < 287_514 {
+        if self.largest < 288_058 {
             few.push(format!("the largest desk: {} words", self.largest));
         }
         few

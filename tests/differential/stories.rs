@@ -3,12 +3,13 @@
 use crate::arguments::{any_call, room, sizes};
 use crate::built;
 use crate::clocks;
+use crate::damaged;
 use crate::desk::{in_form, Sizes};
 use crate::met::{Met, Source};
 use crate::pair::{Pair, ANSWER, MARK};
 use crate::random::Random;
 use crate::teller::Teller;
-use crate::text;
+use crate::text::{self, Call};
 use crate::{everyday, odd, plots};
 
 /// Desks over so many words get shorter stories and fewer single calls.
@@ -23,9 +24,9 @@ pub fn all_of_one(random: &mut Random, story: u64, met: &mut Met) -> Result<(), 
     met.largest = met.largest.max(total);
     for _ in 0..rounds {
         single_calls(random, &mut pair.clone(), Source::Reached, met)?;
-        let mut damaged = pair.clone();
-        built::damage(random, &mut damaged);
-        single_calls(random, &mut damaged, Source::Damaged, met)?;
+        let mut changed = pair.clone();
+        damaged::damage(random, &mut changed);
+        single_calls(random, &mut changed, Source::Damaged, met)?;
     }
     let mut short = pair.clone();
     let most = random.one_of(&[3, total]);
@@ -39,6 +40,7 @@ pub fn all_of_one(random: &mut Random, story: u64, met: &mut Met) -> Result<(), 
     for _ in 0..rounds {
         single_calls(random, &mut built.clone(), Source::Built, met)?;
     }
+    merging_calls(random, &built, counts, met)?;
     single_calls(random, &mut built, Source::Built, met)?;
     let words = built::noise(random, counts);
     single_calls(random, &mut Pair::of(&words), Source::Noise, met)?;
@@ -88,6 +90,25 @@ fn plot(teller: &mut Teller) {
         70..=85 => everyday::any_call(teller),
         _ => odd::refused(teller),
     }
+}
+
+/// Each run of a built desk prepared, and issued if it can be: merges of versions that no list of
+/// calls leads to.
+fn merging_calls(
+    random: &mut Random,
+    built: &Pair,
+    [k, w, _, p]: [u32; 4],
+    met: &mut Met,
+) -> Result<(), String> {
+    for run in 0..p {
+        let mut pair = built.clone();
+        let (writer, mask) = (random.below(w as usize) as u32, random.mask(k as usize, 60));
+        for call in [Call::Prepare(run), Call::Issue(run, writer, mask)] {
+            let answer = pair.call(&call, ANSWER)?;
+            met.enter(Source::Built, &call, &answer);
+        }
+    }
+    Ok(())
 }
 
 /// One to four calls of any kind on one desk.

@@ -113,7 +113,7 @@ few-stepped (Stepped.Refused n) = omega arith
 
 pub few-shown : (l : List ℕ) (r : Looked) → RowIn l r → length (shown l r) ≤ maxAnswer
 unfolding seen shown RowIn
-few-shown l (Looked.Done i at n s) h =
+few-shown l (Looked.Done i m at n s) h =
     let last : List ℕ = standingNumber s ∷ [] in
     omega (arith, length-append (window l at n) last, length-window l at n, h .1)
 few-shown l (Looked.Refused n) h = omega arith

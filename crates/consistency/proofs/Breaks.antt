@@ -41,13 +41,14 @@ pub record Ready (s : Store) (r j : ℕ) : Type 0 where
 -- ---- a choice that works takes all of C from the cache
 
 -- A pick that is held and isn't the snapshot's version has all that the cache's version has.
-pick-above : (W : ℕ) (p : Pick) (a b : Version) → So (held (pickOf p a b)) → pickOf p a b ≢ a
-    → So (held b) → (e : ℕ) → Dominates W (pickOf p a b .past e) (b .past e)
+pick-above : (W k : ℕ) (p : Pick) (a b : Version) → So (held (pickOf W k p a b))
+    → pickOf W k p a b ≢ a → So (held b)
+    → (e : ℕ) → Dominates W (pickOf W k p a b .past e) (b .past e)
 unfolding pickOf held
-pick-above W ofSnapshot a b h f g e = absurd (f refl)
-pick-above W ofCache a b h f g e = dominates-refl W (b .past e)
-pick-above W merged a b h f g e = merge-right W e a b g
-pick-above W neither a b h f g e = clash h refl
+pick-above W k ofSnapshot a b h f g e = absurd (f refl)
+pick-above W k ofCache a b h f g e = dominates-refl W (b .past e)
+pick-above W k merged a b h f g e = merge-right W k e a b g
+pick-above W k neither a b h f g e = clash h refl
 
 -- An outcome that is ok is no refusal and no break.
 ok-out : (x : Outcome) → So (isOk x) → (isRefused x ≡ false) × (isBroken x ≡ false)
@@ -83,7 +84,7 @@ module _ (s : Store) (r j : ℕ) where
     abbrev choice : Place Version
     choice = chosen s r j pick
 
-    chosen-in : (k : ℕ) → So (plan k) → choice k ≡ pickOf (pick k) (snapshot k) (cache k)
+    chosen-in : (k : ℕ) → So (plan k) → choice k ≡ pickOf W k (pick k) (snapshot k) (cache k)
     unfolding chosen
     chosen-in k p = rw p
 
@@ -107,7 +108,7 @@ module _ (s : Store) (r j : ℕ) where
         up : (e : ℕ) → Dominates W (choice d .past e) (cache d .past e)
         up e =
             let q = chosen-in d (chosen-plan d h) in
-            rw q (pick-above W (pick d) (snapshot d) (cache d) (rw q at h) (λ x. f (q ∙ x)) g e)
+            rw q (pick-above W d (pick d) (snapshot d) (cache d) (rw q at h) (λ x. f (q ∙ x)) g e)
 
     -- So for a read that the snapshot lacks,
     taken-start : Accepted s r j → Works s r j pick → (d : ℕ) → d < K → So (lacks d) → Taken d

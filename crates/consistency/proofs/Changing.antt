@@ -2,7 +2,7 @@
 -- HasRead: what a list of finished jobs has read.
 -- inv-..: with a cache, all caches or a run changed; inv-anew: a run begun or freed.
 -- Assumes nothing.
-use mathlib.Core.Path.{_≡_, refl, sym, ap}
+use mathlib.Core.Path.{_≡_, refl, sym}
 use mathlib.Core.Bool.{false≢true}
 use mathlib.Core.Logic.{_≢_}
 use mathlib.Core.List.{List, []}
@@ -23,10 +23,12 @@ use Rattle.history.proofs.Notions.{ClosedAll}
 use Rattle.history.proofs.Sounds.{sound-empty}
 use Rattle.history.proofs.Counted.{counted-none, counted-unheld}
 use Rattle.consistency.specs.Trace.{ReadSet}
-use Rattle.consistency.specs.Claim.{Counted, Among}
+use Rattle.consistency.specs.Claim.{Among}
+use Rattle.consistency.proofs.Simulation.{Related}
 use Rattle.consistency.proofs.Closing.{empty-closed}
+use Rattle.consistency.proofs.Counting.{masked-none}
 use Rattle.consistency.proofs.Invariant.{RunFollows, Follows, ReadAs, Inv}
-use Rattle.consistency.proofs.Following.{free-follows, follows-caches, follows-cache, follows-run}
+use Rattle.consistency.proofs.Following.{Stands, free-follows, follows-caches, follows-cache, follows-run}
 
 -- ---- what finished jobs have read
 
@@ -63,7 +65,7 @@ inv-next {s} {b} {f} t d g r a c v F e er ed l same has = record {
 module _ {s : Store} {b : Book} {f : ℕ → List ReadSet} (v : Inv s b f) where
   pub inv-caches : (p : ℕ → Site) (q : ℕ → Place Copy)
       → ((o : ℕ) → o < s .counts .sites
-      → Counted (s .counts .keys) (b .history) (p o .cache) (q o)
+      → Related (s .counts .keys) (Stands s b) (p o .cache) (q o)
       × ClosedAll (s .counts .keys) (b .history) (q o))
       → Inv (withSites s p) (withBookCaches b q) f
   unfolding withSites withBookCaches
@@ -74,7 +76,7 @@ module _ {s : Store} {b : Book} {f : ℕ → List ReadSet} (v : Inv s b f) where
   }
 
   pub inv-cache : (o : ℕ) (p : Place Version) (q : Place Copy)
-      → Counted (s .counts .keys) (b .history) p q → ClosedAll (s .counts .keys) (b .history) q
+      → Related (s .counts .keys) (Stands s b) p q → ClosedAll (s .counts .keys) (b .history) q
       → Inv (withCache s o p) (withBookCaches b (putAt (b .cache) o q)) f
   unfolding withCache withSites withBookCaches
   inv-cache o p q c d = record {
@@ -85,7 +87,7 @@ module _ {s : Store} {b : Book} {f : ℕ → List ReadSet} (v : Inv s b f) where
 
   -- Run r changed, and with it what its finished jobs have read.
   pub inv-run : (g : ℕ → List ReadSet) (r : ℕ) (a : Run) (c : BookRun)
-      → RunFollows (s .counts .keys) (b .history) a c → r < s .counts .runs
+      → RunFollows (s .counts .writers) (s .counts .keys) (b .history) a c → r < s .counts .runs
       → ((q : ℕ) → q ≢ r → g q ≡ f q) → HasRead (s .counts .keys) a c (g r)
       → Inv (withRun s r a) (withBookRun b r c) g
   unfolding withRun withBookRun
@@ -95,7 +97,7 @@ module _ {s : Store} {b : Book} {f : ℕ → List ReadSet} (v : Inv s b f) where
 
   -- Run r begins anew, or is freed.
   pub inv-anew : (r : ℕ) (a : Run) (c : BookRun)
-      → RunFollows (s .counts .keys) (b .history) a c → r < s .counts .runs
+      → RunFollows (s .counts .writers) (s .counts .keys) (b .history) a c → r < s .counts .runs
       → Inv (withRun s r a) (withBookRun b r c) (putAt f r [])
   inv-anew r a c G l =
       inv-run (putAt f r []) r a c G l (putAt-other f r [])
@@ -106,24 +108,27 @@ module _ {s : Store} {b : Book} {f : ℕ → List ReadSet} (v : Inv s b f) where
 -- A writer without issues has no past.
 no-past : (K w : ℕ) → counted K [] (byWriter K [] w) .past ≡ zeroPast
 unfolding heldCopy anyBelow
-no-past K w = ap (λ (v : Version). v .past) (counted-unheld K [] (byWriter K [] w) refl)
+no-past K w = sym (counted-unheld K [] (byWriter K [] w) refl .past)
 
 pub inv-fresh : (z : Counts) → Inv (fresh z) (freshBook z) (λ r. [])
 unfolding fresh freshBook saved countBelow
 inv-fresh z =
     let K = z .keys in
+    let W = z .writers in
     record {
       follows = record {
         counts = refl;
         last = refl;
-        sound = sound-empty K (z .writers);
-        master = λ k l. sym (counted-none K []);
+        sound = sound-empty K W;
+        master = λ k l. counted-none K [];
+        led-master = λ k l. masked-none W K [] k;
         every = λ d i l p. absurd (false≢true p);
         writes = λ d i l p. absurd (false≢true p);
-        cache = λ o l k i. sym (counted-none K []);
+        cache = λ o l k i. counted-none K [];
+        led-cache = λ o l k i. masked-none W K [] k;
         closed = λ o l. empty-closed K [] _;
         writer = λ w l. record { count = refl; past = sym (no-past K w) };
-        run = λ r l. free-follows K [];
+        run = λ r l. free-follows W K [];
       };
       reads = λ r l x p. none-among p;
       no-run = λ r l x p. none-among p;

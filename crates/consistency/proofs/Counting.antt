@@ -1,39 +1,109 @@
--- Versions stand for copies: a version is its copy counted, and the copy can be one of its key.
--- CountedAs: the relation. counted-simulates: so the rules give the same for both.
+-- Versions stand for copies: a version is its copy counted, the copy can be one of its key, and
+-- the mask names who leads in it.
+-- StandsFor: the relation. Masked: the masks of a place. stands-same: one version for one copy.
+-- stands-named: a merge names somebody. counted-simulates: the rules give the same for both.
 -- counted-related: a place that is counted from a cut.
 -- Assumes nothing.
-use mathlib.Core.Path.{_≡_, sym, ap₂, _∙_}
+use mathlib.Core.Path.{_≡_, sym, ap, _∙_}
 use Prim.Native.Nat.{ℕ, _<_}
 use lib.ListN.{length}
-use Rattle.words.specs.Tests.{Items}
+use Rattle.words.specs.Tests.{Items, none}
+use Rattle.masks.specs.Mask.{maskBelow}
+use Rattle.masks.proofs.Sets.{mask-no}
+use Rattle.clock.specs.Clock.{Clock}
 use Rattle.model.specs.Algebra.{Place}
-use Rattle.model.specs.Version.{Version, merge, versions}
+use Rattle.model.specs.Version.{Version, unheld, held, larger, merge, versions}
+use Rattle.model.proofs.Merges.{version-path, held-unheld, merge-cases}
 use Rattle.history.specs.History.{History, writerOf}
-use Rattle.history.specs.Copies.{Copy, copies, counted}
+use Rattle.history.specs.Copies.{Copy, CountedAs, copies, union, counted, leading}
 use Rattle.history.proofs.Notions.{PastLaws, Good, ClosedIn}
-use Rattle.history.proofs.Reached.{good-none, good-union}
-use Rattle.history.proofs.Counted.{held-same, counted-none, counted-union, needs-same, meets-same}
-use Rattle.consistency.specs.Claim.{Counted}
+use Rattle.history.proofs.Reached.{good-none, good-union, union-unheld-left, union-unheld-right}
+use Rattle.history.proofs.Counted.{held-same, counted-none, merge-counted, needs-same, meets-same}
+use Rattle.history.proofs.Leading.{leading-unheld}
+use Rattle.history.proofs.LeadingUnion.{named-union, leading-union}
+use Rattle.consistency.specs.Claim.{Counted, Named}
 use Rattle.consistency.proofs.Simulation.{Simulates, Related}
 use Rattle.consistency.proofs.Closing.{closed-good}
 
-abbrev pub CountedAs : ℕ → History → ℕ → Version → Copy → Type 0
-CountedAs K h k v c = (v ≡ counted K h c) × Good K h k c
+-- v, a version of key k, and c, of W writers.
+pub record StandsFor (W K : ℕ) (h : History) (k : ℕ) (v : Version) (c : Copy) : Type 0 where
+  pub counts : CountedAs v (counted K h c)
+  pub good : Good K h k c
+  pub led : v .leaders ≡ maskBelow W (leading K h k c)
 
-pub counted-simulates : (K W : ℕ) (h : History) → PastLaws K h
-    → ((i : ℕ) → i < length h → writerOf h i < W)
-    → Simulates (versions W) (copies K h) K (CountedAs K h)
-counted-simulates K W h laws writers = record {
-  nothing = λ k. (sym (counted-none K h), good-none K h k);
-  held = λ k a b _ r. rw (r .0) (held-same K h b);
-  needs = λ k d a b _ _ r. rw (r .0) (needs-same K h W writers k b d);
-  meets = λ k d a b a′ b′ _ _ r r′ n.
-      rw (r .0, r′ .0) (meets-same K h laws W writers k d b b′ (r .1) n);
-  merge = λ k a a′ b b′ _ r r′.
-      let e = ap₂ merge (r .0) (r′ .0) ∙ sym (counted-union K h b b′) in
-      (e, good-union K h k b b′ (r .1) (r′ .1));
-}
+-- The masks of a place name who leads in its copies.
+abbrev pub Masked : ℕ → ℕ → History → Place Version → Place Copy → Type 0
+Masked W K h p c = (k : ℕ) → k < K → p k .leaders ≡ maskBelow W (leading K h k (c k))
 
-pub counted-related : {K : ℕ} {h : History} {scope : Items} {p : Place Version} {c : Place Copy}
-    → Counted K h p c → ClosedIn K h scope c → Related K (CountedAs K h) p c
-counted-related e cut k l = (e k l, closed-good cut k l)
+-- What is not held stands for no copy.
+pub masked-none : (W K : ℕ) (h : History) (k : ℕ)
+    → unheld .leaders ≡ maskBelow W (leading K h k none)
+masked-none W K h k =
+    let n = sym (held-same K h unheld none (counted-none K h)) ∙ held-unheld in
+    sym (mask-no W (leading K h k none) (λ u _. leading-unheld K h k none n u))
+
+-- One copy has one version.
+pub stands-same : {W K : ℕ} {h : History} {k : ℕ} {v w : Version} {c : Copy}
+    → StandsFor W K h k v c → StandsFor W K h k w c → v ≡ w
+stands-same r r′ =
+    version-path (r .counts .issue ∙ sym (r′ .counts .issue)) (r .led ∙ sym (r′ .led))
+    (r .counts .past ∙ sym (r′ .counts .past))
+
+module _ (K W : ℕ) (h : History) (laws : PastLaws K h)
+    (writers : (i : ℕ) → i < length h → writerOf h i < W) where
+  module _ (k : ℕ) (v w : Version) (a b : Copy) (r : StandsFor W K h k v a)
+      (r′ : StandsFor W K h k w b) where
+    abbrev own : (v : Version) (c : Copy) → CountedAs v (counted K h c)
+        → v .past k ≡ counted K h c .past k
+    own v c e = ap (λ (p : ℕ → Clock). p k) (e .past)
+
+    -- Their merge names somebody.
+    pub stands-named : Named W k v w
+    stands-named p q =
+        rw (r .led, r′ .led, own v a (r .counts), own w b (r′ .counts))
+        (named-union K h laws k W a b (r .good) (r′ .good) writers
+        (sym (held-same K h v a (r .counts)) ∙ p))
+
+    merge-led : merge W k v w .leaders ≡ maskBelow W (leading K h k (union K h a b))
+    unfolding larger
+    merge-led =
+        merge-cases W k (λ x. x .leaders ≡ maskBelow W (leading K h k (union K h a b))) v w
+        (λ p _.
+        rw (r .led, r′ .led, own v a (r .counts), own w b (r′ .counts))
+        (leading-union K h laws k W a b (r .good) (r′ .good) writers
+        (sym (held-same K h v a (r .counts)) ∙ p)))
+        (λ _ n.
+        let z = sym (held-same K h w b (r′ .counts)) ∙ n in
+        let e = union-unheld-right K h k a b (r′ .good) z in
+        r .led ∙ ap (λ (c : Copy). maskBelow W (leading K h k c)) (sym e))
+        (λ n.
+        let z = sym (held-same K h v a (r .counts)) ∙ n in
+        let e = union-unheld-left K h k a b (r .good) z in
+        r′ .led ∙ ap (λ (c : Copy). maskBelow W (leading K h k c)) (sym e))
+
+    pub stands-merge : StandsFor W K h k (merge W k v w) (union K h a b)
+    stands-merge = record {
+      counts = merge-counted K h W k v w a b (r .counts) (r′ .counts);
+      good = good-union K h k a b (r .good) (r′ .good);
+      led = merge-led;
+    }
+
+  pub counted-simulates : Simulates (versions W) (copies K h) K (StandsFor W K h)
+  counted-simulates = record {
+    nothing = λ k. record {
+      counts = counted-none K h;
+      good = good-none K h k;
+      led = masked-none W K h k;
+    };
+    held = λ k a b _ r. held-same K h a b (r .counts);
+    needs = λ k d a b _ _ r. needs-same K h W writers k a b (r .counts) d;
+    meets = λ k d a b a′ b′ _ _ r r′ n.
+        meets-same K h laws W writers k d a a′ b b′ (r .counts) (r′ .counts) (r .good) n;
+    merge = λ k a a′ b b′ _ r r′. stands-merge k a a′ b b′ r r′;
+  }
+
+pub counted-related : {W K : ℕ} {h : History} {scope : Items} {p : Place Version}
+    {c : Place Copy} → Counted K h p c → Masked W K h p c → ClosedIn K h scope c
+    → Related K (StandsFor W K h) p c
+counted-related e m cut k l =
+    record { counts = e k l; good = closed-good cut k l; led = m k l }

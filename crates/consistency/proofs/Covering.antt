@@ -33,10 +33,10 @@ module _ {s : Store} {b : Book} (F : Follows s b) where
       → ((d : ℕ) (c : Copy) → P d (counted (s .counts .keys) (b .history) c .past d))
       → EveryRow s P
   every-row P f = record {
-    master = λ k d l. rw (F .master k l) (f d (b .master k));
-    cache = λ o k d h l. rw (F .cache o h k l) (f d (b .cache o k));
+    master = λ k d l. rw (F .master k l .past) (f d (b .master k));
+    cache = λ o k d h l. rw (F .cache o h k l .past) (f d (b .cache o k));
     snapshot = λ r k d h l.
-        rw (F .run r h .branch .snapshot k l) (f d (b .run r .branch .snapshot k));
+        rw (F .run r h .branch .snapshot k l .past) (f d (b .run r .branch .snapshot k));
     writer = λ w d l.
         rw (F .writer w l .past) (f d (byWriter (s .counts .keys) (b .history) w));
   }
@@ -53,7 +53,7 @@ module _ {s : Store} {b : Book} (F : Follows s b) where
           let K = s .counts .keys in
           let h = b .history in
           let laws = past-laws K h in
-          rw (F .master d l, counted-row K h (b .master d) d, counted-row K h c d)
+          rw (F .master d l .past, counted-row K h (b .master d) d, counted-row K h c d)
           (tally-dominates K h (s .counts .writers) (saved h d) (reaches K h c d)
           (reaches K h (b .master d) d) (F .sound .writers)
           (λ j _ y. reaches-saved K h laws c d j y .1)

@@ -18,10 +18,10 @@ use Rattle.reach.specs.Closure.{closure, rounds, round}
 use Rattle.clock.specs.Clock.{exceeds, standing, dominates, present, join}
 use Rattle.sizes.specs.Bounds.{countsOf, between, ranged, pastSize, versionSize, placeSize, siteSize, writerSize, runSize, masterAt, sitesAt, writersAt, runsAt, tailSize, tailAt, totalOf}
 use Rattle.model.specs.Algebra.{Place, lacking, needsMet}
-use Rattle.model.specs.Version.{Version, held, dependency, supersedes, larger, merge, versions}
+use Rattle.model.specs.Version.{Version, held, dependency, supersedes, leadsOn, mergedLeaders, larger, merge, versions}
 use Rattle.model.specs.Sets.{draws, drawSet, fetchSet, fetched, unfetchable, pullSet, pulled}
 use Rattle.model.specs.Store.{Store, fresh, planned, doneReads, withMaster, withLast, withSites, withCache, withWriter, withRun, withState, withJobDone}
-use Rattle.model.specs.Form.{zeroRows, versionFormed, placeFormed, validJob, zeroJob, freeFormed, jobsFormed, masksFormed, snapshotFormed, runFormed, wellFormed}
+use Rattle.model.specs.Form.{zeroRows, zeroVersion, leadersFormed, versionFormed, placeFormed, validJob, zeroJob, freeFormed, jobsFormed, masksFormed, snapshotFormed, runFormed, wellFormed}
 use Rattle.model.specs.Outcome.{answer, refuse, unless, allowed, runCause}
 use Rattle.model.specs.Runs.{listedJob, listedCount, listedJobs, listValid, openCause, openedRun, openDone, openRule, dropCause, dropDone, dropRule}
 use Rattle.model.specs.Step.{readStart, stepBranch, stepSite, stepReads, stepStart, stepFetch, stepCache, stepPlan, stepPull, stepSnapshot, stepMoved, jobLimit, notReady, jobCause, stepCause, stepBroken, stepDone, stepRule}
@@ -93,7 +93,7 @@ abbrev before : ℕ → Trace
 before S =
     let jobs = on (openRun 0 (0 ∷ 1 ∷ 0 ∷ 0 ∷ 2 ∷ 0 ∷ [])) in
     follow (saving 1 ++ (jobs ∷ on (step 0 0) ∷ saving S))
-    (start (countsOf 2 1 1 2) (replicate 93 0))
+    (start (countsOf 2 1 1 2) (replicate 101 0))
 
 -- Job 1 of run 0 reads sheet 1.
 abbrev after-job : ℕ → Trace
@@ -134,23 +134,23 @@ pub computed : Computed
 unfolding anyBelow allBelow only foldBelow countBelow largest when putAt upto blocks testBit
     withBit withIf maskBelow closure rounds round exceeds standing dominates present join
     between ranged pastSize versionSize placeSize siteSize writerSize runSize masterAt sitesAt
-    writersAt runsAt tailSize tailAt totalOf lacking held dependency supersedes larger merge
-    draws drawSet fetchSet fetched unfetchable pullSet pulled fresh planned doneReads withMaster
-    withLast withSites withCache withWriter withRun withState withJobDone zeroRows versionFormed
-    placeFormed validJob zeroJob freeFormed jobsFormed masksFormed snapshotFormed runFormed
-    wellFormed answer refuse unless allowed runCause listedJob listedCount listedJobs listValid
-    openCause openedRun openDone openRule dropCause dropDone dropRule readStart stepSite
-    stepReads stepStart stepFetch stepCache stepPlan stepPull stepSnapshot stepMoved jobLimit
-    notReady jobCause stepCause stepBroken stepDone stepRule raiseCause issueCause takenIn
-    rowsSet newPast newVersion issuedMaster issuedWriter savedStore issuedStore issuedNumber
-    issueDone issueRule ruleOf clockWords pastWords versionWords placeWords siteWords sitesWords
-    writerWords writersWords jobWords jobsWords runWords runsWords tailWords headerWords
-    storeWords readClock readPast readVersion readPlace readSite readWriter readJob readJobs
-    readRun readTail countsIn storeOf written headerRight shaped inForm newCause newOn onStore
-    callOn leaves isOk writerOf leads inPast reaches heldCopy needsCopy meetsCopy union lastIn
-    byWriter counted freshBook withBookCaches withBookRun bookOpen bookStepJob entry bookIssue
-    bookIssued bookRule bookOk bookStep start readNow roleOf finishBy finish advance follow
-    needsMet pickOf chosen
+    writersAt runsAt tailSize tailAt totalOf lacking held dependency supersedes leadsOn
+    mergedLeaders larger merge draws drawSet fetchSet fetched unfetchable pullSet pulled fresh
+    planned doneReads withMaster withLast withSites withCache withWriter withRun withState
+    withJobDone zeroRows zeroVersion leadersFormed versionFormed placeFormed validJob zeroJob
+    freeFormed jobsFormed masksFormed snapshotFormed runFormed wellFormed answer refuse unless
+    allowed runCause listedJob listedCount listedJobs listValid openCause openedRun openDone
+    openRule dropCause dropDone dropRule readStart stepSite stepReads stepStart stepFetch
+    stepCache stepPlan stepPull stepSnapshot stepMoved jobLimit notReady jobCause stepCause
+    stepBroken stepDone stepRule raiseCause issueCause takenIn rowsSet newPast newVersion
+    issuedMaster issuedWriter savedStore issuedStore issuedNumber issueDone issueRule ruleOf
+    clockWords pastWords versionWords placeWords siteWords sitesWords writerWords writersWords
+    jobWords jobsWords runWords runsWords tailWords headerWords storeWords readClock readPast
+    readVersion readPlace readSite readWriter readJob readJobs readRun readTail countsIn storeOf
+    written headerRight shaped inForm newCause newOn onStore callOn leaves isOk writerOf leads
+    inPast reaches heldCopy needsCopy meetsCopy union lastIn byWriter counted freshBook
+    withBookCaches withBookRun bookOpen bookStepJob entry bookIssue bookIssued bookRule bookOk
+    bookStep start readNow roleOf finishBy finish advance follow needsMet pickOf chosen
 computed = record {
   both = refl;
   breaks = refl;
@@ -195,7 +195,9 @@ two-issues =
 -- A job that has read the sheets of the mask S, each in the version of copy c.
 abbrev having-read : ℕ → Copy → ReadSet
 having-read S c =
-    record { keys = testBit S; version = λ k. counted 2 two-issues c; copy = λ k. c }
+    let n = counted 2 two-issues c in
+    let v : Version = record { issue = n .issue; leaders = 1; past = n .past } in
+    record { keys = testBit S; version = λ k. v; copy = λ k. c }
 
 -- One sheet in two versions: sheet 0 as the first issue left it, and as the second did.
 pub two-versions : ¬ (Snapshot 2 two-issues (having-read 1 (only 0)) (having-read 1 (testBit 3)))

@@ -1,5 +1,5 @@
--- What finished jobs have read: each version is its copy counted, and part (c) of demand 3: two of
--- one run share one causal snapshot.
+-- What finished jobs have read: each version is its copy counted, its mask names who leads, and
+-- part (c) of demand 3: two of one run share one causal snapshot.
 -- Assumes nothing.
 use mathlib.Core.Path.{sym, ap, _∙_}
 use mathlib.Core.Bool.{Bool, So}
@@ -11,19 +11,20 @@ use Rattle.words.proofs.Tests.{below-or-not}
 use Rattle.masks.specs.Mask.{testBit}
 use Rattle.model.specs.Store.{Run, Store, planned}
 use Rattle.history.specs.History.{History}
-use Rattle.history.specs.Copies.{counted}
 use Rattle.history.specs.Book.{Book, BookRun}
 use Rattle.history.proofs.Notions.{Sound}
-use Rattle.history.proofs.Behind.{before-past}
+use Rattle.history.proofs.Behind.{before-past, past-is-before}
 use Rattle.layout.proofs.Follow.{Fine}
 use Rattle.model.proofs.Formed.{well-out}
 use Rattle.model.proofs.Plans.{read-planned}
 use Rattle.consistency.specs.Trace.{ReadSet}
 use Rattle.consistency.specs.Claim.{ReadCounted, Snapshot, Among}
 use Rattle.consistency.proofs.Invariant.{RunFollows, ReadAs, Inv}
+use Rattle.consistency.proofs.Following.{Stands, snapshot-related}
+use Rattle.consistency.proofs.Leads.{led-as}
 
 module _ (K W : ℕ) (h : History) (a : Run) (c : BookRun) (sound : Sound K W h)
-    (F : RunFollows K h a c)
+    (F : RunFollows W K h a c)
     (plan : (k : ℕ) → k < K → So (testBit (a .branch .read) k)
     → So (planned (a .jobs) (a .job) k)) where
   -- A key that a finished job has read is in the book's plan.
@@ -53,13 +54,18 @@ module _ (s : Store) (b : Book) (f : ℕ → List ReadSet) (I : Inv s b f) where
 
   -- What a finished job has read is counted, as the snapshot is.
   pub read-counted : (r : ℕ) (x : ReadSet) → Among x (f r)
-      → ReadCounted (s .counts .keys) (b .history) x
-  read-counted r x p k h q =
-      let l = run-in r x p in
-      let X = I .reads r l x p in
-      X .version k h q
-      ∙ I .follows .run r l .branch .snapshot k h
-      ∙ ap (counted (s .counts .keys) (b .history)) (sym (X .copy k h q))
+      → ReadCounted (s .counts .writers) (s .counts .keys) (b .history) x
+  read-counted r x p = record {
+    counted = λ k h q. stands k h q .counts;
+    led = λ k h q. led-as (past-is-before (I .follows .sound)) (stands k h q);
+  }
+    where
+      stands : (k : ℕ) → k < s .counts .keys → So (x .keys k)
+          → Stands s b k (x .version k) (x .copy k)
+      stands k h q =
+          let l = run-in r x p in
+          let X = I .reads r l x p in
+          rw (X .version k h q, X .copy k h q) (snapshot-related (I .follows) r l k h)
 
   pub shared : Fine s → (r : ℕ) (x y : ReadSet) → Among x (f r) → Among y (f r)
       → Snapshot (s .counts .keys) (b .history) x y

@@ -1,8 +1,9 @@
 -- A store that follows its book: what the rules ask of its places, and with one part changed.
--- now-simulates: versions stand for copies. master-, cache-, snapshot-..: what is asked of these.
+-- now-simulates: versions stand for copies. now-named: their merges name somebody.
+-- master-, cache-, snapshot-..: what is asked of these.
 -- empty-, free-follows: a run with nothing read. follows-..: a cache, all caches or a run changed.
 -- Assumes nothing.
-use mathlib.Core.Path.{_≡_, refl, sym, ap₂}
+use mathlib.Core.Path.{_≡_, refl, ap₂}
 use mathlib.Core.Bool.{false≢true}
 use Prim.Native.Nat.{ℕ, _<_}
 use Rattle.words.specs.Lists.{putAt}
@@ -18,11 +19,15 @@ use Rattle.history.specs.Book.{BookRun, Book, noBookBranch, noRun, withBookCach
 use Rattle.history.proofs.Notions.{ClosedIn, ClosedAll}
 use Rattle.history.proofs.Past.{past-laws}
 use Rattle.history.proofs.Counted.{counted-none}
-use Rattle.consistency.specs.Claim.{Counted}
+use Rattle.consistency.specs.Claim.{Named}
 use Rattle.consistency.proofs.Simulation.{Simulates, Related}
 use Rattle.consistency.proofs.Closing.{PartOf, empty-closed, every-part, every-closed}
-use Rattle.consistency.proofs.Counting.{CountedAs, counted-simulates, counted-related}
+use Rattle.consistency.proofs.Counting.{StandsFor, masked-none, stands-named, counted-simulates, counted-related}
 use Rattle.consistency.proofs.Invariant.{RunFollows, Follows}
+
+-- A version of a key and a copy, as this store and this book have them.
+abbrev pub Stands : Store → Book → ℕ → Version → Copy → Type 0
+Stands s b = StandsFor (s .counts .writers) (s .counts .keys) (b .history)
 
 module _ {s : Store} {b : Book} (F : Follows s b) where
   -- What holds with the store's counts holds with the book's.
@@ -31,36 +36,45 @@ module _ {s : Store} {b : Book} (F : Follows s b) where
 
   pub now-simulates :
       Simulates (versions (s .counts .writers)) (copies (s .counts .keys) (b .history))
-      (s .counts .keys) (CountedAs (s .counts .keys) (b .history))
+      (s .counts .keys) (Stands s b)
   now-simulates =
       let K = s .counts .keys in
       counted-simulates K (s .counts .writers) (b .history) (past-laws K (b .history))
+      (F .sound .writers)
+
+  -- In a merge of two versions of a key somebody is named.
+  pub now-named : (k : ℕ) (v w : Version) (a c : Copy) → Stands s b k v a → Stands s b k w c
+      → Named (s .counts .writers) k v w
+  now-named =
+      let K = s .counts .keys in
+      stands-named K (s .counts .writers) (b .history) (past-laws K (b .history))
       (F .sound .writers)
 
   pub master-closed : ClosedAll (s .counts .keys) (b .history) (b .master)
   master-closed = every-closed (F .every) (past-laws (s .counts .keys) (b .history)) (F .writes)
 
   pub master-related :
-      Related (s .counts .keys) (CountedAs (s .counts .keys) (b .history)) (s .master) (b .master)
-  master-related = counted-related (F .master) master-closed
+      Related (s .counts .keys) (Stands s b) (s .master) (b .master)
+  master-related = counted-related (F .master) (F .led-master) master-closed
 
   module _ (o : ℕ) (l : o < s .counts .sites) where
     pub cache-related :
-        Related (s .counts .keys) (CountedAs (s .counts .keys) (b .history)) (s .site o .cache)
-        (b .cache o)
-    cache-related = counted-related (F .cache o l) (F .closed o l)
+        Related (s .counts .keys) (Stands s b) (s .site o .cache) (b .cache o)
+    cache-related = counted-related (F .cache o l) (F .led-cache o l) (F .closed o l)
 
     pub cache-part : PartOf (s .counts .keys) (b .cache o) (b .master)
     cache-part = every-part (F .every) (F .closed o l)
 
   module _ (r : ℕ) (l : r < s .counts .runs) where
     pub snapshot-related :
-        Related (s .counts .keys) (CountedAs (s .counts .keys) (b .history))
-        (s .run r .branch .snapshot) (b .run r .branch .snapshot)
-    snapshot-related = counted-related (F .run r l .branch .snapshot) (F .run r l .branch .closed)
+        Related (s .counts .keys) (Stands s b) (s .run r .branch .snapshot)
+        (b .run r .branch .snapshot)
+    snapshot-related =
+        let G = F .run r l .branch in
+        counted-related (G .snapshot) (G .led) (G .closed)
 
 -- The plan of a run is that of the book's.
-pub plan-same : {K : ℕ} {h : History} {a : Run} {c : BookRun} → RunFollows K h a c
+pub plan-same : {W K : ℕ} {h : History} {a : Run} {c : BookRun} → RunFollows W K h a c
     → planned (a .jobs) (a .job) ≡ planned (c .jobs) (c .job)
 plan-same F = ap₂ planned (F .jobs) (F .job)
 
@@ -71,34 +85,34 @@ pub snapshot-closed : {s : Store} {b : Book} → Follows s b → (r : ℕ) → r
 snapshot-closed F r l = rw (plan-same (F .run r l)) (F .run r l .branch .closed)
 
 -- A run with nothing read and nothing on its snapshot.
-pub empty-follows : (K : ℕ) (h : History) (state jobs done : ℕ) (job : ℕ → Job)
-    → RunFollows K h (record {
+pub empty-follows : (W K : ℕ) (h : History) (state jobs done : ℕ) (job : ℕ → Job)
+    → RunFollows W K h (record {
       state = state;
       jobs = jobs;
       done = done;
       job = job;
       branch = noBranch;
     }) (record { jobs = jobs; job = job; branch = noBookBranch })
-empty-follows K h state jobs done job = record {
+empty-follows W K h state jobs done job = record {
   jobs = refl;
   job = refl;
   branch = record {
     read = λ k _. test-none k;
     low = λ k p. absurd (false≢true p);
-    snapshot = λ k _. sym (counted-none K h);
+    snapshot = λ k _. counted-none K h;
+    led = λ k _. masked-none W K h k;
     closed = empty-closed K h (planned jobs job);
   };
 }
 
-pub free-follows : (K : ℕ) (h : History) → RunFollows K h freeRun noRun
-free-follows K h = empty-follows K h 0 0 0 noJobs
+pub free-follows : (W K : ℕ) (h : History) → RunFollows W K h freeRun noRun
+free-follows W K h = empty-follows W K h 0 0 0 noJobs
 
 -- ---- one part changed
 
 module _ {s : Store} {b : Book} (F : Follows s b) where
   pub follows-caches : (f : ℕ → Site) (g : ℕ → Place Copy)
-      → ((o : ℕ) → o < s .counts .sites
-      → Counted (s .counts .keys) (b .history) (f o .cache) (g o)
+      → ((o : ℕ) → o < s .counts .sites → Related (s .counts .keys) (Stands s b) (f o .cache) (g o)
       × ClosedAll (s .counts .keys) (b .history) (g o))
       → Follows (withSites s f) (withBookCaches b g)
   unfolding withSites withBookCaches
@@ -107,27 +121,30 @@ module _ {s : Store} {b : Book} (F : Follows s b) where
     last = F .last;
     sound = F .sound;
     master = F .master;
+    led-master = F .led-master;
     every = F .every;
     writes = F .writes;
-    cache = λ o l. C o l .0;
+    cache = λ o l k h. C o l .0 k h .counts;
+    led-cache = λ o l k h. C o l .0 k h .led;
     closed = λ o l. C o l .1;
     writer = λ w l. record { count = F .writer w l .count; past = F .writer w l .past };
     run = F .run;
   }
 
   pub follows-cache : (o : ℕ) (p : Place Version) (q : Place Copy)
-      → Counted (s .counts .keys) (b .history) p q → ClosedAll (s .counts .keys) (b .history) q
+      → Related (s .counts .keys) (Stands s b) p q → ClosedAll (s .counts .keys) (b .history) q
       → Follows (withCache s o p) (withBookCaches b (putAt (b .cache) o q))
   unfolding withCache
   follows-cache o p q c d =
       let x = siteWith (s .site o) p in
       let K = s .counts .keys in
       follows-caches (putAt (s .site) o x) (putAt (b .cache) o q) (λ i l.
-      putAt-both (λ (x : Site) (q : Place Copy). Counted K (b .history) (x .cache) q
+      putAt-both (λ (x : Site) (q : Place Copy). Related K (Stands s b) (x .cache) q
       × ClosedAll K (b .history) q) (s .site) (b .cache) o x q i (λ _. (c, d))
-      (λ _. (F .cache i l, F .closed i l)))
+      (λ _. (cache-related F i l, F .closed i l)))
 
-  pub follows-run : (r : ℕ) (a : Run) (c : BookRun) → RunFollows (s .counts .keys) (b .history) a c
+  pub follows-run : (r : ℕ) (a : Run) (c : BookRun)
+      → RunFollows (s .counts .writers) (s .counts .keys) (b .history) a c
       → Follows (withRun s r a) (withBookRun b r c)
   unfolding withRun withBookRun
   follows-run r a c G = record {
@@ -135,12 +152,14 @@ module _ {s : Store} {b : Book} (F : Follows s b) where
     last = F .last;
     sound = F .sound;
     master = F .master;
+    led-master = F .led-master;
     every = F .every;
     writes = F .writes;
     cache = F .cache;
+    led-cache = F .led-cache;
     closed = F .closed;
     writer = λ w l. record { count = F .writer w l .count; past = F .writer w l .past };
     run = λ q l.
-        putAt-both (RunFollows (s .counts .keys) (b .history)) (s .run) (b .run) r a c q (λ _. G)
-        (λ _. F .run q l);
+        putAt-both (RunFollows (s .counts .writers) (s .counts .keys) (b .history)) (s .run)
+        (b .run) r a c q (λ _. G) (λ _. F .run q l);
   }

@@ -21,20 +21,22 @@ use Rattle.history.specs.Book.{Book, BookBranch, BookRun, bookRule, bookStep}
 use Rattle.history.proofs.Notions.{Sound, ClosedIn, ClosedAll}
 use Rattle.consistency.specs.Trace.{ReadSet, finish}
 use Rattle.consistency.specs.Claim.{Counted, Among}
+use Rattle.consistency.proofs.Counting.{Masked}
 
 -- A branch and the book's, for the keys of a plan.
-pub record BranchFollows (K : ℕ) (h : History) (plan : Items) (a : Branch) (c : BookBranch)
+pub record BranchFollows (W K : ℕ) (h : History) (plan : Items) (a : Branch) (c : BookBranch)
     : Type 0 where
   pub read : (k : ℕ) → k < K → testBit (a .read) k ≡ c .read k
   pub low : (k : ℕ) → So (c .read k) → k < K
   pub snapshot : Counted K h (a .snapshot) (c .snapshot)
+  pub led : Masked W K h (a .snapshot) (c .snapshot)
   pub closed : ClosedIn K h plan (c .snapshot)
 
 -- A run and the book's.
-pub record RunFollows (K : ℕ) (h : History) (a : Run) (c : BookRun) : Type 0 where
+pub record RunFollows (W K : ℕ) (h : History) (a : Run) (c : BookRun) : Type 0 where
   pub jobs : a .jobs ≡ c .jobs
   pub job : a .job ≡ c .job
-  pub branch : BranchFollows K h (planned (c .jobs) (c .job)) (a .branch) (c .branch)
+  pub branch : BranchFollows W K h (planned (c .jobs) (c .job)) (a .branch) (c .branch)
 
 -- A writer's count, and its past: that of all its issues.
 pub record WriterFollows (K : ℕ) (h : History) (s : Store) (w : ℕ) : Type 0 where
@@ -46,18 +48,22 @@ pub record Follows (s : Store) (b : Book) : Type 0 where
   pub last : s .last ≡ length (b .history)
   pub sound : Sound (s .counts .keys) (s .counts .writers) (b .history)
   pub master : Counted (s .counts .keys) (b .history) (s .master) (b .master)
+  pub led-master :
+      Masked (s .counts .writers) (s .counts .keys) (b .history) (s .master) (b .master)
   -- The master has every write, and nothing else.
   pub every : (d i : ℕ) → d < s .counts .keys → So (saved (b .history) d i) → So (b .master d i)
   pub writes : (d i : ℕ) → d < s .counts .keys → So (b .master d i)
       → (i < length (b .history)) × So (saved (b .history) d i)
   pub cache : (o : ℕ) → o < s .counts .sites
       → Counted (s .counts .keys) (b .history) (s .site o .cache) (b .cache o)
+  pub led-cache : (o : ℕ) → o < s .counts .sites
+      → Masked (s .counts .writers) (s .counts .keys) (b .history) (s .site o .cache) (b .cache o)
   pub closed : (o : ℕ) → o < s .counts .sites
       → ClosedAll (s .counts .keys) (b .history) (b .cache o)
   pub writer : (w : ℕ) → w < s .counts .writers
       → WriterFollows (s .counts .keys) (b .history) s w
   pub run : (r : ℕ) → r < s .counts .runs
-      → RunFollows (s .counts .keys) (b .history) (s .run r) (b .run r)
+      → RunFollows (s .counts .writers) (s .counts .keys) (b .history) (s .run r) (b .run r)
 
 -- What a finished job has read is still so on the snapshot of a branch.
 pub record ReadAs (K : ℕ) (a : Branch) (c : BookBranch) (x : ReadSet) : Type 0 where

@@ -1,8 +1,9 @@
--- One more issue, on copies and in the store: what an issue leaves is counted from the book's.
+-- One more issue, on copies and in the store: what an issue leaves stands for the book's.
 -- ..-grow: what stays as it was. issuedCopies, issued-..: the master's copies and versions.
--- taken-counted, newPast-entered, newVersion-entered: the store makes the new issue's version.
+-- entered-stands: the new version; ..-named: its merge names somebody.
+-- taken-counted, newPast-entered, newVersion-entered: the store makes that version.
 -- Assumes nothing.
-use mathlib.Core.Path.{_≡_, sym, _∙_, fun-ext}
+use mathlib.Core.Path.{_≡_, refl, sym, ap, _∙_, fun-ext}
 use mathlib.Core.Bool.{cond, _&&_, _||_, So}
 use mathlib.Core.Logic.{inl, inr}
 use mathlib.Core.List.{_∷_}
@@ -14,45 +15,60 @@ use Rattle.words.specs.Tests.{Items, anyBelow}
 use Rattle.words.proofs.Bools.{test, _∙˙_, or-left, or-right, or-cases}
 use Rattle.words.proofs.Tests.{below-cases}
 use Rattle.words.proofs.Numbers.{fold-same}
-use Rattle.masks.specs.Mask.{testBit}
+use Rattle.masks.specs.Mask.{testBit, maskBelow}
 use Rattle.clock.specs.Clock.{Clock, join}
 use Rattle.model.specs.Algebra.{Place}
 use Rattle.model.specs.Version.{Version, merge}
 use Rattle.model.specs.Store.{Branch, Run, Store}
 use Rattle.model.specs.Issue.{takenIn, rowsSet, newPast, newVersion, issuedMaster}
 use Rattle.model.proofs.Merges.{version-path}
-use Rattle.history.specs.History.{Issue, History, saved, inPast}
-use Rattle.history.specs.Copies.{Copy, counted}
+use Rattle.history.specs.History.{Issue, History, writerOf, saved, inPast}
+use Rattle.history.specs.Copies.{Copy, union, counted}
 use Rattle.history.specs.Book.{Book, BookBranch, BookRun, entry}
-use Rattle.history.proofs.Notions.{ClosedIn}
+use Rattle.history.proofs.Notions.{Sound, ClosedIn, ClosedAll}
 use Rattle.history.proofs.Past.{saved-top, saved-low, saved-below, past-top, topPast-own, past-laws}
 use Rattle.history.proofs.Counted.{counted-fold}
 use Rattle.history.proofs.Grown.{counted-grow}
-use Rattle.history.proofs.Entered.{readAny, enteredPast, entered, merged-counted}
-use Rattle.consistency.specs.Claim.{Counted}
-use Rattle.consistency.proofs.Closing.{closed-grow}
+use Rattle.history.proofs.Reached.{good-past}
+use Rattle.history.proofs.Entered.{readAny, enteredPast, entered, newVersion-counted}
+use Rattle.history.proofs.Leading.{leading-grow, mask-top}
+use Rattle.consistency.specs.Claim.{Named}
+use Rattle.consistency.proofs.Simulation.{Related}
+use Rattle.consistency.proofs.Closing.{closed-good, closed-grow}
+use Rattle.consistency.proofs.Counting.{StandsFor, counted-related, stands-named, stands-merge}
 use Rattle.consistency.proofs.Invariant.{BranchFollows, RunFollows, Follows}
+use Rattle.consistency.proofs.Following.{master-closed, master-related}
 
-module _ (K : ℕ) (e : Issue) (h : History) where
+module _ (W K : ℕ) (e : Issue) (h : History) where
   -- ---- places that the issue leaves as they were
 
   pub place-grow : {scope : Items} {p : Place Version} {c : Place Copy} → ClosedIn K h scope c
-      → Counted K h p c → Counted K (e ∷ h) p c
-  place-grow {c = c} cut q k l =
-      q k l ∙ sym (counted-grow K e h (past-laws K h) (c k) (λ i y. cut .writes k i l y .0))
+      → Related K (StandsFor W K h) p c → Related K (StandsFor W K (e ∷ h)) p c
+  place-grow {c = c} cut r k l =
+      let below : (i : ℕ) → So (c k i) → i < length h = λ i y. cut .writes k i l y .0 in
+      record {
+        counts = rw (counted-grow K e h (past-laws K h) (c k) below) (r k l .counts);
+        good = closed-good (closed-grow cut e) k l;
+        led = r k l .led ∙ ap (maskBelow W) (sym (fun-ext (leading-grow K e h k (c k) below)));
+      }
 
-  pub run-grow : {a : Run} {c : BookRun} → RunFollows K h a c → RunFollows K (e ∷ h) a c
-  run-grow F = record {
-    jobs = F .jobs;
-    job = F .job;
-    branch = record {
-      read = F .branch .read;
-      low = F .branch .low;
-      snapshot = place-grow (F .branch .closed) (F .branch .snapshot);
-      closed = closed-grow (F .branch .closed) e;
-    };
-  }
+  pub run-grow : {a : Run} {c : BookRun} → RunFollows W K h a c → RunFollows W K (e ∷ h) a c
+  run-grow F =
+      let G = F .branch in
+      let grown = place-grow (G .closed) (counted-related (G .snapshot) (G .led) (G .closed)) in
+      record {
+        jobs = F .jobs;
+        job = F .job;
+        branch = record {
+          read = G .read;
+          low = G .low;
+          snapshot = λ k l. grown k l .counts;
+          led = λ k l. grown k l .led;
+          closed = closed-grow (G .closed) e;
+        };
+      }
 
+module _ (K : ℕ) (e : Issue) (h : History) where
   -- ---- the master
 
   -- Its copies after the issue.
@@ -94,30 +110,52 @@ module _ (K : ℕ) (e : Issue) (h : History) where
         old : So (m d i) → (i < length (e ∷ h)) × So (saved (e ∷ h) d i)
         old q = let b = writes d i l q in (omega arith, saved-low e h d i (b .0) ∙ b .1)
 
-    -- and its versions are these counted.
-    pub issued-counted : (p : Place Version) → Counted K h p m
-        → Counted K (e ∷ h) (λ k. cond (e .keys k) (merge (p k) (entered K e h)) (p k))
-        (issuedCopies m)
-    unfolding issuedCopies
-    issued-counted p c k l =
-        let low = past-laws K h in
-        let below : (i : ℕ) → So (m k i) → i < length h = λ i q. writes k i l q .0 in
+-- ---- and its versions stand for these
+
+module _ (W K : ℕ) (e : Issue) (h : History)
+    (writers : (i : ℕ) → i < length (e ∷ h) → writerOf (e ∷ h) i < W) where
+  -- The new version stands for what it includes.
+  pub entered-stands : e .writer < W → (k : ℕ) → So (e .keys k)
+      → StandsFor W K (e ∷ h) k (entered K e h) (inPast K (e ∷ h) (length h) k)
+  unfolding entered
+  entered-stands hw k s =
+      let laws = past-laws K (e ∷ h) in
+      record {
+        counts = newVersion-counted K e h (past-laws K h) laws k s;
+        good = good-past K (e ∷ h) laws (length h) k (omega arith);
+        led = mask-top K e h k laws s W hw;
+      }
+
+  module _ (m : Place Copy) (cut : ClosedAll K h m) (p : Place Version)
+      (r : Related K (StandsFor W K h) p m) (hw : e .writer < W) where
+    -- The merge with it names somebody.
+    pub issued-named : (k : ℕ) → k < K → So (e .keys k) → Named W k (p k) (entered K e h)
+    issued-named k l s =
+        stands-named K W (e ∷ h) (past-laws K (e ∷ h)) writers k (p k) (entered K e h) (m k)
+        (inPast K (e ∷ h) (length h) k) (place-grow W K e h cut r k l) (entered-stands hw k s)
+
+    pub issued-stands : Related K (StandsFor W K (e ∷ h))
+        (λ k. cond (e .keys k) (merge W k (p k) (entered K e h)) (p k)) (issuedCopies K e h m)
+    unfolding issuedCopies union
+    issued-stands k l =
+        let old = place-grow W K e h cut r k l in
         test (e .keys k)
-        (λ y. rw (y, c k l) (merged-counted K e h low (past-laws K (e ∷ h)) k (m k) y below))
-        (λ n. rw (n, c k l) (sym (counted-grow K e h low (m k) below)))
+        (λ y. rw y (stands-merge K W (e ∷ h) (past-laws K (e ∷ h)) writers k (p k)
+        (entered K e h) (m k) (inPast K (e ∷ h) (length h) k) old (entered-stands hw k y)))
+        (λ n. rw n old)
 
 -- ---- the version that the store makes
 
 -- What a run read, taken into a past: the copies that the book's run read, counted.
-pub taken-counted : (K : ℕ) (h : History) (past : ℕ → Clock) (plan : Items) (a : Branch)
-    (c : BookBranch) → BranchFollows K h plan a c → (d : ℕ)
+pub taken-counted : (W K : ℕ) (h : History) (past : ℕ → Clock) (plan : Items) (a : Branch)
+    (c : BookBranch) → BranchFollows W K h plan a c → (d : ℕ)
     → takenIn K (a .read) (a .snapshot) past d
     ≡ join (past d) (counted K h (λ i. anyBelow K (λ k. c .read k && c .snapshot k i)) .past d)
 unfolding takenIn
-taken-counted K h past plan a c F d =
+taken-counted W K h past plan a c F d =
     fold-same K (λ k x. cond (testBit (a .read) k) (join x (a .snapshot k .past d)) x)
     (λ k x. cond (c .read k) (join x (counted K h (c .snapshot k) .past d)) x)
-    (λ k x l. rw (F .read k l, F .snapshot k l)) (past d)
+    (λ k x l. rw (F .read k l, F .snapshot k l .past)) (past d)
     ∙ counted-fold K h K (c .read) (c .snapshot) d (past d)
 
 module _ (s : Store) (b : Book) (F : Follows s b) (r w S : ℕ) (hr : r < s .counts .runs)
@@ -130,24 +168,39 @@ module _ (s : Store) (b : Book) (F : Follows s b) (r w S : ℕ) (hr : r < s .cou
       let v = F .writer w hw in
       let K = s .counts .keys in
       rw (
-        taken-counted K (b .history) (s .writer w .past) _ (s .run r .branch) (b .run r .branch)
-            (F .run r hr .branch) d,
+        taken-counted (s .counts .writers) K (b .history) (s .writer w .past) _ (s .run r .branch)
+            (b .run r .branch) (F .run r hr .branch) d,
         v .past,
         v .count,
         add-one,
       )))
 
-  pub newVersion-entered : newVersion (s .last + 1) (newPast s r w S)
+  pub newVersion-entered : newVersion (s .last + 1) w (newPast s r w S)
       ≡ entered (s .counts .keys) (entry r w S b) (b .history)
-  unfolding newVersion entered
-  newVersion-entered = version-path (rw (F .last, add-one)) newPast-entered
+  unfolding newVersion entered entry
+  newVersion-entered = version-path (rw (F .last, add-one)) refl newPast-entered
+
+  -- The merges with it name somebody.
+  pub issuedMaster-named :
+      Sound (s .counts .keys) (s .counts .writers) (entry r w S b ∷ b .history)
+      → (k : ℕ) → k < s .counts .keys → So (testBit S k)
+      → Named (s .counts .writers) k (s .master k) (newVersion (s .last + 1) w (newPast s r w S))
+  unfolding entry
+  issuedMaster-named sound k l p =
+      rw newVersion-entered
+      (issued-named (s .counts .writers) (s .counts .keys) (entry r w S b) (b .history)
+      (sound .writers) (b .master) (master-closed F) (s .master) (master-related F) hw k l p)
 
   -- The master's versions are those of the new history.
-  pub issuedMaster-counted : Counted (s .counts .keys) (entry r w S b ∷ b .history)
-      (issuedMaster S (newVersion (s .last + 1) (newPast s r w S)) (s .master))
+  pub issuedMaster-stands :
+      Sound (s .counts .keys) (s .counts .writers) (entry r w S b ∷ b .history)
+      → Related (s .counts .keys)
+      (StandsFor (s .counts .writers) (s .counts .keys) (entry r w S b ∷ b .history))
+      (issuedMaster (s .counts .writers) S (newVersion (s .last + 1) w (newPast s r w S))
+      (s .master))
       (issuedCopies (s .counts .keys) (entry r w S b) (b .history) (b .master))
   unfolding issuedMaster entry
-  issuedMaster-counted =
+  issuedMaster-stands sound =
       rw newVersion-entered
-      (issued-counted (s .counts .keys) (entry r w S b) (b .history) (b .master) (F .writes)
-      (s .master) (F .master))
+      (issued-stands (s .counts .writers) (s .counts .keys) (entry r w S b) (b .history)
+      (sound .writers) (b .master) (master-closed F) (s .master) (master-related F) hw)

@@ -2,7 +2,9 @@ pub mod Rows
 pub mod Explaining
 pub mod Uses
 pub mod UsesRuns
+pub mod UsesLeads
 pub mod Excluded
+pub mod ExcludedLeads
 pub mod Simulation
 pub mod SimulationPrepare
 pub mod Closing
@@ -12,6 +14,7 @@ pub mod Counting
 pub mod Breaks
 pub mod Invariant
 pub mod Following
+pub mod Leads
 pub mod Changing
 pub mod Issuing
 pub mod Covering

@@ -23,10 +23,11 @@ every-among [] ys x = first
 every-among (y ∷ xs) ys x = later (every-among xs ys x)
 
 -- "the card's version, the office's (after the step's fetch), their merge or none"
-pub picks : (a b : Version) → (pickOf ofSnapshot a b ≡ a) × (pickOf ofCache a b ≡ b)
-    × (pickOf merged a b ≡ merge a b) × (pickOf neither a b ≡ unheld)
+pub picks : (W k : ℕ) (a b : Version) → (pickOf W k ofSnapshot a b ≡ a)
+    × (pickOf W k ofCache a b ≡ b) × (pickOf W k merged a b ≡ merge W k a b)
+    × (pickOf W k neither a b ≡ unheld)
 unfolding pickOf
-picks a b = (refl, refl, refl, refl)
+picks W k a b = (refl, refl, refl, refl)
 
 -- What document 01's calls are to a run.
 pub roles : (r j w S o k : ℕ) (l : List ℕ) (q : Query) → (roleOf (openRun r l) ≡ opening r)

@@ -2,12 +2,12 @@
 -- after-append, follow-append: one list is the two. follow-buffer: the buffer that is followed.
 -- consistent-append: the claim about each of two lists is the claim about both in a row.
 -- Assumes nothing.
-use mathlib.Core.Path.{_≡_, refl, ap}
+use mathlib.Core.Path.{_≡_, refl, ap, subst}
 use mathlib.Core.List.{List, [], _∷_, _++_}
 use Prim.Native.Nat.{ℕ}
 use Rattle.layout.specs.Calls.{Call, callOn, leaves, after}
 use Rattle.consistency.specs.Trace.{Trace, advance, follow}
-use Rattle.consistency.specs.Claim.{Consistent}
+use Rattle.consistency.specs.Claim.{HoldsAt, Consistent}
 
 pub after-append : (cs ds : List Call) (l : List ℕ) → after (cs ++ ds) l ≡ after ds (after cs l)
 unfolding after
@@ -46,6 +46,5 @@ unfolding follow head-of tail-of
 consistent-append [] ds t A B sofar rest e = B sofar rest e
 consistent-append (c ∷ cs) ds t A B [] rest e = A [] (c ∷ cs) refl
 consistent-append (c ∷ cs) ds t A B (x ∷ sofar) rest e =
-    let first : c ≡ x = ap (head-of c) e in
-    rw (← first)
+    subst (λ (y : Call). HoldsAt (follow sofar (advance y t))) (ap (head-of c) e)
     (consistent-append cs ds (advance c t) (consistent-tail c cs t A) B sofar rest (ap tail-of e))

@@ -1,6 +1,7 @@
 -- A step on versions and on copies: the cache after its fetch, and the snapshot that it leaves.
 -- copyBranch, copyCache, copyPull, copySnapshot, copyRun: the book's; book-step: they are.
 -- ..-related: the store's stand for them. ..-closed: they are cuts. ..-out: outside of C.
+-- step-named: its merges name somebody.
 -- Assumes nothing.
 use mathlib.Core.Path.{_≡_, refl, sym, _∙_}
 use mathlib.Core.Bool.{false, _||_}
@@ -18,11 +19,11 @@ use Rattle.layout.proofs.Follow.{Fine}
 use Rattle.history.specs.Copies.{Copy, copies}
 use Rattle.history.specs.Book.{Book, BookBranch, BookRun, bookStepJob, withBookRun, withBookCaches}
 use Rattle.history.proofs.Notions.{ClosedIn, ClosedAll}
+use Rattle.consistency.specs.Claim.{Named}
 use Rattle.consistency.proofs.Simulation.{Agree, Related, readStart-same, fetched-rel, pullSet-same, pulled-rel}
 use Rattle.consistency.proofs.ClosingSets.{fetched-closed, pulled-closed}
-use Rattle.consistency.proofs.Counting.{CountedAs}
 use Rattle.consistency.proofs.Invariant.{Follows}
-use Rattle.consistency.proofs.Following.{now-simulates, master-closed, master-related, cache-related, cache-part, snapshot-related, snapshot-closed}
+use Rattle.consistency.proofs.Following.{Stands, now-simulates, now-named, master-closed, master-related, cache-related, cache-part, snapshot-related, snapshot-closed}
 
 -- ---- the book's run r and its cache after job j, with the store's counts and jobs
 
@@ -74,7 +75,7 @@ module _ {s : Store} {b : Book} {r j : ℕ} (fine : Fine s) (F : Follows s b)
     (a : Accepted s r j) where
   -- ---- the cache
 
-  pub stepCache-related : Related (s .counts .keys) (CountedAs (s .counts .keys) (b .history))
+  pub stepCache-related : Related (s .counts .keys) (Stands s b)
       (stepCache s r j) (copyCache s b r j)
   unfolding stepCache stepStart copyCache
   stepCache-related =
@@ -108,7 +109,7 @@ module _ {s : Store} {b : Book} {r j : ℕ} (fine : Fine s) (F : Follows s b)
 
   -- ---- the snapshot
 
-  pub stepSnapshot-related : Related (s .counts .keys) (CountedAs (s .counts .keys) (b .history))
+  pub stepSnapshot-related : Related (s .counts .keys) (Stands s b)
       (stepSnapshot s r j) (copySnapshot s b r j)
   unfolding stepSnapshot copySnapshot
   stepSnapshot-related =
@@ -116,6 +117,14 @@ module _ {s : Store} {b : Book} {r j : ℕ} (fine : Fine s) (F : Follows s b)
       pulled-rel (now-simulates F) (stepPlan s r j) (stepPlan s r j) (stepBranch s r j .snapshot)
       (stepCache s r j) (copyBranch s b r j .snapshot) (copyCache s b r j) reads reads
       (λ _ _. refl) (snapshot-related F r (a .run-in)) stepCache-related (λ _ _. refl)
+
+  -- The merges that it takes name somebody.
+  pub step-named : (k : ℕ) → k < s .counts .keys
+      → Named (s .counts .writers) k (stepBranch s r j .snapshot k) (stepCache s r j k)
+  step-named k l =
+      now-named F k (stepBranch s r j .snapshot k) (stepCache s r j k)
+      (copyBranch s b r j .snapshot k) (copyCache s b r j k)
+      (snapshot-related F r (a .run-in) k l) (stepCache-related k l)
 
   pub stepSnapshot-closed : ClosedIn (s .counts .keys) (b .history) (stepPlan s r j)
       (copySnapshot s b r j)

@@ -16,6 +16,8 @@ use Rattle.history.proofs.Behind.{past-is-before}
 use Rattle.consistency.specs.Trace.{ReadSet, Trace}
 use Rattle.consistency.specs.Claim.{Holds, HoldsAt, Demand3}
 use Rattle.consistency.proofs.Invariant.{Inv}
+use Rattle.consistency.proofs.Following.{master-related, cache-related, snapshot-related}
+use Rattle.consistency.proofs.Leads.{led-place, named}
 use Rattle.consistency.proofs.Covering.{caches-behind, snapshots-behind}
 use Rattle.consistency.proofs.Cutting.{cuts, overlaps, breaks}
 use Rattle.consistency.proofs.Finished.{read-counted, shared}
@@ -32,6 +34,10 @@ inv-holds s b f F I =
       master = G .master;
       caches = G .cache;
       snapshots = λ r l. G .run r l .branch .snapshot;
+      led-master = led-place G (master-related G);
+      led-caches = λ o l. led-place G (cache-related G o l);
+      led-snapshots = λ r l. led-place G (snapshot-related G r l);
+      named = named G;
       reads = read-counted s b f I;
       shared = shared s b f I F;
       overlaps = overlaps G;

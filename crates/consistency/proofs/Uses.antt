@@ -10,10 +10,10 @@ use Prim.Native.Nat.{ℕ, _≤_, _<_}
 use lib.Dec.{eqb}
 use Rattle.words.proofs.Bools.{test}
 use Rattle.clock.specs.declared.Standing.the-variants.{Equal, Older}
-use Rattle.clock.specs.Clock.{standingNumber}
+use Rattle.clock.specs.Clock.{Clock, standingNumber}
 use Rattle.clock.proofs.Standings.{standing-below, standing-self}
 use Rattle.sizes.specs.declared.Counts.{Counts}
-use Rattle.model.specs.Version.{held, dependency, supersedes, versions}
+use Rattle.model.specs.Version.{Version, held, dependency, supersedes, versions}
 use Rattle.model.specs.Store.{Store, planned}
 use Rattle.model.specs.Outcome.{refused, broken, done, answer}
 use Rattle.model.specs.Look.{lookPlace, lookLimit, rowNumbers, lookStanding, lookNumbers}
@@ -24,7 +24,7 @@ use Rattle.layout.specs.Reading.{storeOf}
 use Rattle.layout.specs.Buffer.{inForm}
 use Rattle.layout.specs.Calls.{Call, on, newOn, callOn, isOk, after}
 use Rattle.history.specs.History.{History, HappensBefore, saved, inPast}
-use Rattle.history.specs.Copies.{counted}
+use Rattle.history.specs.Copies.{CopyCount, CountedAs, counted}
 use Rattle.consistency.specs.Trace.{ReadSet, Trace, start, follow}
 use Rattle.consistency.specs.Claim.{Among, Choice, isRefused, isBroken, HoldsAt, Consistent, Demand3}
 use Rattle.consistency.proofs.Explaining.{path-broken, clear-ok}
@@ -40,6 +40,13 @@ unfolding isRefused isBroken
 outcomes-differ n m a s = (refl, refl, refl, refl, refl, refl)
 
 -- ---- at a point
+
+-- A version's number, and each count of each row, are those of a copy.
+abbrev pub Same : Version → CopyCount → Type 0
+Same v n = (v .issue ≡ n .issue) × ((d w : ℕ) → v .past d w ≡ n .past d w)
+
+same : {v : Version} {n : CopyCount} → CountedAs v n → Same v n
+same e = (e .issue, λ d w. ap (λ (p : ℕ → Clock). p d w) (e .past))
 
 module _ (t : Trace) (H : HoldsAt t) where
   abbrev s : Store
@@ -79,20 +86,20 @@ module _ (t : Trace) (H : HoldsAt t) where
   snapshot-meets r l = overlappingCut-at (versions W) K _ _ (H .holds .overlaps r l)
 
   -- "A version on the desk is its copy counted": master, shelves, cards, what jobs have read
-  pub master-counted : (k : ℕ) → k < K → s .master k ≡ counted K h (t .book .master k)
-  master-counted = H .holds .master
+  pub master-counted : (k : ℕ) → k < K → Same (s .master k) (counted K h (t .book .master k))
+  master-counted k l = same (H .holds .master k l)
 
   pub cache-counted : (o : ℕ) → o < s .counts .sites → (k : ℕ) → k < K
-      → s .site o .cache k ≡ counted K h (t .book .cache o k)
-  cache-counted = H .holds .caches
+      → Same (s .site o .cache k) (counted K h (t .book .cache o k))
+  cache-counted o l k i = same (H .holds .caches o l k i)
 
   pub snapshot-counted : (r : ℕ) → r < s .counts .runs → (k : ℕ) → k < K
-      → s .run r .branch .snapshot k ≡ counted K h (t .book .run r .branch .snapshot k)
-  snapshot-counted = H .holds .snapshots
+      → Same (s .run r .branch .snapshot k) (counted K h (t .book .run r .branch .snapshot k))
+  snapshot-counted r l k i = same (H .holds .snapshots r l k i)
 
   pub read-counted : (r : ℕ) (x : ReadSet) → Among x (t .finished r) → (k : ℕ) → k < K
-      → So (x .keys k) → x .version k ≡ counted K h (x .copy k)
-  read-counted = H .holds .reads
+      → So (x .keys k) → Same (x .version k) (counted K h (x .copy k))
+  read-counted r x p k l q = same (H .holds .reads r x p .counted k l q)
 
   pub master-has : (k i : ℕ) → k < K → So (saved h k i) → So (t .book .master k i)
   master-has = H .holds .every-save
@@ -119,7 +126,7 @@ module _ (t : Trace) (H : HoldsAt t) where
   -- and its last number is 0 or 1.
   pub look-last : (p i k : ℕ) → i < lookLimit (s .counts) p → k < K → let v = lookPlace s p i k in
       (n : ℕ) × ((n ≡ 0) ⊎ (n ≡ 1))
-      × (lookNumbers s p i k ≡ v .issue ∷ (rowNumbers W (v .past k) ++ n ∷ []))
+      × (lookNumbers s p i k ≡ v .issue ∷ v .leaders ∷ (rowNumbers W (v .past k) ++ n ∷ []))
   unfolding lookNumbers
   look-last p i k h l =
       let x = lookStanding W k (lookPlace s p i k) (s .master k) in (

@@ -13,7 +13,7 @@ use Rattle.words.specs.Words.{put}
 use Rattle.words.specs.Lists.{blocks}
 use Rattle.sizes.specs.declared.Counts.{Counts}
 use Rattle.sizes.specs.declared.Sizes.{Sizes}
-use Rattle.sizes.specs.Bounds.{headerSize, writerPastOffset, snapshotOffset, pastSize, versionSize, placeSize, siteSize, writerSize, runSize, tailSize, masterAt, sitesAt, writersAt, runsAt, tailAt, totalOf}
+use Rattle.sizes.specs.Bounds.{headerSize, pastOffset, writerPastOffset, snapshotOffset, pastSize, versionSize, placeSize, siteSize, writerSize, runSize, tailSize, masterAt, sitesAt, writersAt, runsAt, tailAt, totalOf}
 use Rattle.model.specs.Version.{zeroPast, unheld}
 use Rattle.model.specs.Store.{emptyPlace, noWriter, noSite, freeRun, noTail, fresh}
 use Rattle.layout.specs.Words.{clockWords, pastWords, versionWords, placeWords, siteWords, sitesWords, writerWords, writersWords, jobWords, jobsWords, runWords, runsWords, tailWords, headerWords, storeWords}
@@ -60,7 +60,9 @@ module _ (z : Counts) where
 
   version-zero : versionWords z unheld ≡ zeros (versionSize z)
   unfolding versionWords versionSize
-  version-zero = zero-cons (pastWords z zeroPast) (pastSize z) past-zero
+  version-zero =
+      zero-join (0 ∷ 0 ∷ []) (pastWords z zeroPast) pastOffset (pastSize z) (versionSize z) refl
+      past-zero refl
 
   place-zero : placeWords z emptyPlace ≡ zeros (placeSize z)
   unfolding placeWords placeSize

@@ -19,7 +19,7 @@ use Rattle.clock.specs.Clock.{present}
 use Rattle.sizes.specs.Bounds.{maxJobs, jobsOffset, doneOffset, readOffset, planOffset, snapshotOffset}
 use Rattle.sizes.specs.declared.Counts.{Counts}
 use Rattle.model.specs.Algebra.{Place, implies}
-use Rattle.model.specs.Form.{zeroJob, zeroRows, versionFormed, placeFormed, freeFormed, jobsFormed, masksFormed, snapshotFormed}
+use Rattle.model.specs.Form.{zeroJob, zeroVersion, leadersFormed, versionFormed, placeFormed, freeFormed, jobsFormed, masksFormed, snapshotFormed}
 use Rattle.model.specs.Store.{Job, Run, planned, doneReads}
 use Rattle.model.specs.Version.{Version, held}
 use Rattle.layout.specs.Reading.{readJobs, readPlace, readRun}
@@ -114,18 +114,18 @@ carried-test z a J M =
 -- ---- a free run
 
 empty-key : (z : Counts) (k : ℕ) (v : Version)
-    → versionFormed z k v && not (held v) ≡ not (held v) && zeroRows z v
+    → versionFormed z k v && not (held v) ≡ not (held v) && zeroVersion z v
 unfolding versionFormed
-empty-key z k v = go (held v)
+empty-key z k v =
+    go (held v) (leadersFormed (z .writers) (v .leaders) && present (z .writers) (v .past k))
   where
-    go : (b : Bool) → cond b (present (z .writers) (v .past k)) (zeroRows z v) && not b
-        ≡ not b && zeroRows z v
-    go true = and-false (present (z .writers) (v .past k))
-    go false = and-true (zeroRows z v)
+    go : (b h : Bool) → cond b h (zeroVersion z v) && not b ≡ not b && zeroVersion z v
+    go true h = and-false h
+    go false h = and-true (zeroVersion z v)
 
 pub empty-test : (z : Counts) (p : Place Version)
     → placeFormed z p && eqb (heldMask z p) 0
-    ≡ allBelow (z .keys) (λ k. not (held (p k)) && zeroRows z (p k))
+    ≡ allBelow (z .keys) (λ k. not (held (p k)) && zeroVersion z (p k))
 unfolding placeFormed
 empty-test z p =
     let n = z .keys in
@@ -134,7 +134,7 @@ empty-test z p =
     let holds : Items = λ k. held (p k) in
     ap (λ (t : Bool). allBelow n A && t) (set-none n holds ∙ none-below n holds)
     ∙ both-below n A B
-    ∙ all-same n (λ k. A k && B k) (λ k. B k && zeroRows z (p k)) (λ k _. empty-key z k (p k))
+    ∙ all-same n (λ k. A k && B k) (λ k. B k && zeroVersion z (p k)) (λ k _. empty-key z k (p k))
 
 -- Where there are no jobs, each is without words.
 no-jobs : (z : Counts) (job : ℕ → Job)
@@ -162,7 +162,7 @@ module _ (z : Counts) (l : List ℕ) (at : ℕ) where
       && (eqb (getD l (at + doneOffset) 0) 0
       && (eqb (getD l (at + readOffset) 0) 0
       && (allBelow maxJobs (λ i. jobFormed z 0 i (readJobs l (at + planOffset) i))
-      && allBelow (z .keys) (λ k. not (held (p k)) && zeroRows z (p k)))))
+      && allBelow (z .keys) (λ k. not (held (p k)) && zeroVersion z (p k)))))
       ≡ freeFormed z (readRun z l at)
   unfolding freeFormed
   free-test = rw (run-words z l at, no-jobs z (readJobs l (at + planOffset)))

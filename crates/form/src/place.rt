@@ -1,13 +1,16 @@
 // The versions of a place (master, cache or snapshot) that begins at an index.
+use crate::job::is_below;
 use clock::present;
 use sizes::Counts;
 use version::held;
+use version::leaders_of;
 use version::row_of;
 ghost use mathlib.Core.Path.{_≡_};
-ghost use Prim.Native.Nat.{_<_};
+ghost use Prim.Native.Nat.{_≤_, _<_};
 ghost use lib.ListN.{length};
 ghost use Rattle.clock.specs.Clock.{present};
-ghost use Rattle.model.specs.Form.{zeroRows, versionFormed, placeFormed};
+ghost use Rattle.sizes.specs.Bounds.{maxWriters};
+ghost use Rattle.model.specs.Form.{zeroRows, leadersFormed, versionFormed, placeFormed};
 ghost use Rattle.layout.specs.Reading.{readPlace};
 ghost use Rattle.version.specs.Places.{Area};
 
@@ -33,16 +36,26 @@ pub fn zero_rows(words: &[u32], z: Counts, at: usize, k: usize) -> bool
     !present(words, row, n)
 }
 
-// Whether the version of key k is in form: held with an own row that isn't zero, or all zero.
+// Whether a held version's mask of leading writers is in form, with w writers.
+pub fn leaders_formed(mask: u32, w: usize) -> bool
+    requires { ⌜ w ≤ maxWriters ⌝ }
+    ensures { λ r. ⌜ r ≡ leadersFormed w mask ⌝ }
+{
+    (1 <= mask) & is_below(mask, w)
+}
+
+// Whether the version of key k is in form: held with a mask and an own row that aren't zero, or
+// all zero.
 pub fn version_formed(words: &[u32], z: Counts, at: usize, k: usize) -> bool
     requires { ⌜ Area (length (now words)) z at ⌝ }
     requires { ⌜ k < z .keys ⌝ }
     ensures { λ r. ⌜ r ≡ versionFormed z k (readPlace z (now (words .entry)) at k) ⌝ }
 {
+    let leaders = leaders_of(words, z, at, k);
     if held(words, z, at, k) {
-        has_row(words, z, at, k, k)
+        leaders_formed(leaders, z.writers) & has_row(words, z, at, k, k)
     } else {
-        zero_rows(words, z, at, k)
+        (leaders == 0) & zero_rows(words, z, at, k)
     }
 }
 

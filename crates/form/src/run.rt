@@ -19,7 +19,7 @@ ghost use mathlib.Core.Bool.{So, not, _&&_};
 ghost use lib.ListN.{length};
 ghost use Rattle.words.specs.Tests.{allBelow};
 ghost use Rattle.model.specs.Version.{held};
-ghost use Rattle.model.specs.Form.{zeroRows, freeFormed, jobsFormed, masksFormed, snapshotFormed, runFormed};
+ghost use Rattle.model.specs.Form.{zeroVersion, freeFormed, jobsFormed, masksFormed, snapshotFormed, runFormed};
 ghost use Rattle.layout.specs.Reading.{readPlace, readRun};
 ghost use Rattle.version.specs.Places.{Area};
 ghost use Rattle.form.specs.Parts.{RunArea};
@@ -81,7 +81,7 @@ pub fn is_empty(words: &[u32], z: Counts, at: usize) -> bool
     requires { ⌜ Area (length (now words)) z at ⌝ }
     ensures { λ r. ⌜ r ≡ allBelow (z .keys) (λ k.
         not (held (readPlace z (now (words .entry)) at k))
-        && zeroRows z (readPlace z (now (words .entry)) at k)) ⌝ }
+        && zeroVersion z (readPlace z (now (words .entry)) at k)) ⌝ }
 {
     place_formed(words, z, at) & (held_mask(words, z, at) == 0)
 }

@@ -1,13 +1,13 @@
--- An issue entered: the new version, the merged master and the writers' pasts are copies counted.
+-- An issue entered: the new version and the writers' pasts are copies counted.
 -- readAny: what the issue's run read. enteredPast, entered: the new version, as a store makes it.
--- newVersion-counted: the new version's copy. merged-counted: the master's with it.
+-- newVersion-counted: the new version's copy.
 -- writer-past, other-past: the writers.
 -- Assumes nothing.
 use mathlib.Core.Path.{_≡_, refl, sym, ap, ap₂, _∙_, fun-ext}
 use mathlib.Core.Bool.{false, cond, _&&_, _||_, So}
 use mathlib.Core.Logic.{_≢_}
 use mathlib.Core.List.{_∷_}
-use Prim.Native.Nat.{ℕ, suc, _≤_, max}
+use Prim.Native.Nat.{ℕ, suc, _≤_, _^_, max}
 use native.Mathlib.Omega.{arith}
 use native.Mathlib.Decide.{decLe}
 use lib.Dec.{eqb}
@@ -17,16 +17,15 @@ use Rattle.words.specs.Numbers.{countBelow}
 use Rattle.words.proofs.Bools.{test, clash, same-test, _∙˙_, and-intro, and-left, and-right, eqb-eq, eq-eqb}
 use Rattle.words.proofs.Tests.{below-cases}
 use Rattle.clock.specs.Clock.{Clock, join}
-use Rattle.model.specs.Version.{Version, merge}
-use Rattle.model.proofs.Merges.{version-path}
+use Rattle.model.specs.Version.{Version}
 use Rattle.history.specs.History.{Issue, History, writerOf, leads, inPast}
-use Rattle.history.specs.Copies.{Copy, reaches, union, lastIn, byWriter, counted}
+use Rattle.history.specs.Copies.{Copy, CountedAs, reaches, union, lastIn, byWriter, counted}
 use Rattle.history.proofs.Notions.{PastLaws}
 use Rattle.history.proofs.Past.{writerOf-top, writerOf-low, saved-top, leads-writer, topPast, past-top, past-low, topPast-via}
 use Rattle.history.proofs.Tally.{by-writer, writer-is, last-at, last-le, tally, tally-at, tally-some, tally-union, tally-total}
 use Rattle.history.proofs.Reached.{reaches-intro, reaches-some, reaches-union}
-use Rattle.history.proofs.Counted.{counted-issue, counted-row, counted-union}
-use Rattle.history.proofs.Grown.{Below, counted-grow, row-grow, writer-count}
+use Rattle.history.proofs.Counted.{counted-issue, counted-row}
+use Rattle.history.proofs.Grown.{row-grow, writer-count}
 
 module _ (K : ℕ) (e : Issue) (h : History) where
   -- The issues by the writer up to now.
@@ -45,7 +44,7 @@ module _ (K : ℕ) (e : Issue) (h : History) where
       (max (counted K h mine .past d u) (counted K h readAny .past d u))
 
   unfoldable pub entered : Version
-  entered = record { issue = suc (length h); past = enteredPast }
+  entered = record { issue = suc (length h); leaders = 2 ^ e .writer; past = enteredPast }
 
   -- The issue's own write of a key.
   abbrev own : ℕ → Items
@@ -126,29 +125,21 @@ module _ (K : ℕ) (e : Issue) (h : History) where
       reaches-intro K (e ∷ h) (top k) d j (length h) (omega arith) w p)
 
   pub newVersion-counted : PastLaws K h → PastLaws K (e ∷ h) → (k : ℕ) → So (e .keys k)
-      → counted K (e ∷ h) (inPast K (e ∷ h) (length h) k) ≡ entered
+      → CountedAs entered (counted K (e ∷ h) (inPast K (e ∷ h) (length h) k))
   unfolding entered
-  newVersion-counted low laws k s =
-      version-path (counted-issue K (e ∷ h) (top k) ∙ last)
-      (fun-ext (λ d.
-      counted-row K (e ∷ h) (top k) d
-      ∙ ap (tally K (e ∷ h)) (fun-ext (reaches-top laws k s d))
-      ∙ tally-top low d))
+  newVersion-counted low laws k s = record {
+    issue = sym (counted-issue K (e ∷ h) (top k) ∙ last);
+    past = fun-ext (λ d.
+        sym (counted-row K (e ∷ h) (top k) d
+        ∙ ap (tally K (e ∷ h)) (fun-ext (reaches-top laws k s d))
+        ∙ tally-top low d));
+  }
     where
       last : lastIn K (e ∷ h) (top k) ≡ suc (length h)
       last =
           let w = laws .own (length h) k (omega arith) (saved-top e h k ∙ s) in
           let least = last-at K (e ∷ h) (top k) (length h) (omega arith) w in
           omega (arith, least, last-le K (e ∷ h) (top k))
-
-  -- For a key issued the merge is the union counted.
-  pub merged-counted : PastLaws K h → PastLaws K (e ∷ h) → (k : ℕ) (c : Copy) → So (e .keys k)
-      → Below h c → merge (counted K h c) entered
-      ≡ counted K (e ∷ h) (λ i. c i || inPast K (e ∷ h) (length h) k i)
-  unfolding union
-  merged-counted low laws k c s b =
-      sym (counted-union K (e ∷ h) c (top k)
-      ∙ ap₂ merge (counted-grow K e h low c b) (newVersion-counted low laws k s))
 
   -- ---- the writers' pasts
 

@@ -14,14 +14,16 @@ use Rattle.words.specs.Tests.{Items}
 use Rattle.words.specs.Numbers.{countBelow, largest}
 use Rattle.words.proofs.Bools.{test, same-test, _∙˙_, ne-eqb}
 use Rattle.words.proofs.Numbers.{when-no, count-one, count-same}
-use Rattle.model.proofs.Merges.{version-path}
 use Rattle.history.specs.History.{Issue, History}
-use Rattle.history.specs.Copies.{Copy, reaches, lastIn, byWriter, counted}
+use Rattle.history.specs.Copies.{Copy, CopyCount, reaches, lastIn, byWriter, counted}
 use Rattle.history.proofs.Notions.{PastLaws}
 use Rattle.history.proofs.Past.{writerOf-top, writerOf-low, past-low}
 use Rattle.history.proofs.Tally.{by-writer, last-same, last-le, tally}
 use Rattle.history.proofs.Reached.{reaches-intro, reaches-some, reaches-saved}
 use Rattle.history.proofs.Counted.{counted-issue, counted-row}
+
+pub count-path : {a b : CopyCount} → a .issue ≡ b .issue → a .past ≡ b .past → a ≡ b
+count-path p q i = record { issue = p i; past = q i }
 
 -- A set that has no issue beyond the history.
 abbrev pub Below : History → Items → Type 0
@@ -85,7 +87,7 @@ module _ (K : ℕ) (e : Issue) (h : History) where
 
   pub counted-grow : PastLaws K h → (c : Copy) → Below h c → counted K (e ∷ h) c ≡ counted K h c
   counted-grow laws c b =
-      version-path
+      count-path
       (counted-issue K (e ∷ h) c ∙ last-grow c (not-on-top h c b) ∙ sym (counted-issue K h c))
       (fun-ext (λ d.
       counted-row K (e ∷ h) c d

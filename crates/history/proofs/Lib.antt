@@ -7,4 +7,7 @@ pub mod Reached
 pub mod Counted
 pub mod Grown
 pub mod Entered
+pub mod Leading
+pub mod LeadingJoined
+pub mod LeadingUnion
 pub mod Scripted

@@ -1,8 +1,9 @@
 -- The writes in a copy or behind one, the sets that a copy can be, and the tests of copies.
 -- reaches-..: ways in, nothing else, of a union, and by the laws of the past.
--- good-..: no copy, a union. copy-..: held, needs and meets as statements.
+-- good-..: no copy, a union, an issue's past. union-..: with one that is not held.
+-- copy-..: held, needs and meets as statements.
 -- Assumes nothing.
-use mathlib.Core.Path.{_≡_}
+use mathlib.Core.Path.{_≡_, fun-ext}
 use mathlib.Core.Bool.{Bool, false, not, _&&_, _||_, So, false≢true}
 use mathlib.Core.Logic.{inl, inr, _↔_, _≢_}
 use Prim.Native.Nat.{ℕ, _≤_, _<_}
@@ -10,7 +11,7 @@ use native.Mathlib.Omega.{arith}
 use lib.Dec.{eqb}
 use lib.ListN.{length}
 use Rattle.words.specs.Tests.{Items, Within, anyBelow, none}
-use Rattle.words.proofs.Bools.{test, clash, same-test, and-intro, and-left, and-right, or-left, or-right, or-cases, not-intro, not-elim, ne-eqb, eqb-ne}
+use Rattle.words.proofs.Bools.{test, clash, same-test, and-intro, and-left, and-right, or-left, or-right, or-cases, or-false-right, not-intro, not-elim, ne-eqb, eqb-ne}
 use Rattle.words.proofs.Tests.{any-intro, any-some, all-intro, all-at}
 use Rattle.model.specs.Algebra.{implies}
 use Rattle.model.proofs.Cuts.{implies-in, implies-out}
@@ -121,6 +122,23 @@ module _ (K : ℕ) (h : History) where
     behind = λ i j p q. p;
   }
 
+  -- One that is not held has nothing, so a union with it is the other.
+  unheld-none : (k : ℕ) (c : Copy) → Good K h k c → heldCopy K h c ≡ false
+      → (i : ℕ) → c i ≡ false
+  unheld-none k c g n i =
+      test (c i) (λ p. clash (copy-held c .1 (i, g .writes i p .0, p)) n) (λ z. z)
+
+  pub union-unheld-left : (k : ℕ) (a b : Copy) → Good K h k a → heldCopy K h a ≡ false
+      → union K h a b ≡ b
+  unfolding union
+  union-unheld-left k a b g n = fun-ext (λ i. rw (unheld-none k a g n i))
+
+  pub union-unheld-right : (k : ℕ) (a b : Copy) → Good K h k b → heldCopy K h b ≡ false
+      → union K h a b ≡ a
+  unfolding union
+  union-unheld-right k a b g n =
+      fun-ext (λ i. rw (unheld-none k b g n i) (or-false-right (a i)))
+
   pub good-union : (k : ℕ) (a b : Copy) → Good K h k a → Good K h k b → Good K h k (union K h a b)
   unfolding union
   good-union k a b f g = record {
@@ -152,6 +170,13 @@ module _ (K : ℕ) (h : History) where
         let r = reaches-some c d i p in
         let s = laws .session i d j l o w q in
         reaches-intro c d j (r .0) (r .1) (r .2) (laws .trans (r .0) d i d j (r .1) (r .3) s)
+
+    -- What the writes of issue i include of a key.
+    pub good-past : (i k : ℕ) → i < length h → Good K h k (inPast K h i k)
+    good-past i k l = record {
+      writes = λ j p. let b = laws .bound i k j l p in (omega arith, b .1);
+      behind = λ j t p q. laws .trans i k j k t l p q;
+    }
 
     -- A copy of a key reaches, of that key, itself.
     pub reaches-own : (k : ℕ) (c : Copy) → Good K h k c → (j : ℕ) → reaches K h c k j ≡ c j

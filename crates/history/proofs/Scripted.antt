@@ -1,4 +1,5 @@
--- Scripts through store and book: after each call each version is its copy counted.
+-- Scripts through store and book: after each call each version is its copy counted, and its mask
+-- names who leads in it.
 -- tabled, keptBook: a function, a book written down.
 -- follows: the test. followed: the test after each call of a list.
 -- Assumes nothing.
@@ -18,7 +19,7 @@ use Rattle.clock.specs.Clock.{exceeds, standing, dominates, present, join}
 use Rattle.sizes.specs.Bounds.{countsOf, between, pastSize, versionSize, placeSize, siteSize, writerSize, runSize, masterAt, sitesAt, writersAt, runsAt, tailSize, tailAt, totalOf}
 use Rattle.sizes.specs.declared.Counts.{Counts}
 use Rattle.model.specs.Algebra.{Place, lacking}
-use Rattle.model.specs.Version.{Version, held, dependency, supersedes, larger, merge}
+use Rattle.model.specs.Version.{Version, held, dependency, supersedes, leadsOn, mergedLeaders, larger, merge}
 use Rattle.model.specs.Sets.{draws, drawSet, fetchSet, fetched, unfetchable, evictSet, evicted, pullSet, pulled}
 use Rattle.model.specs.Store.{Store, fresh, planned, withMaster, withLast, withSites, withCache, withCaches, withWriter, withRun, withState, withSnapshot, withJobDone}
 use Rattle.model.specs.Form.{validJob}
@@ -32,11 +33,12 @@ use Rattle.model.specs.Look.{lookPlace, lookLimit, lookCause, rowNumbers, lookS
 use Rattle.model.specs.Calls.{StoreCall, fetch, replyOf, ruleOf}
 use Rattle.model.proofs.Outcomes.{nextStore}
 use Rattle.model.proofs.Scripts.{saving, case-a-script, longer-script, reading-script}
+use Rattle.model.proofs.Leaders.{rival-script, second-script, chained-script}
 use Rattle.layout.specs.Words.{clockWords, pastWords, versionWords, placeWords, siteWords, sitesWords, writerWords, writersWords, jobWords, jobsWords, runWords, runsWords, tailWords, headerWords, storeWords}
 use Rattle.layout.specs.Reading.{readClock, readPast, readVersion, readPlace, readSite, readWriter, readJob, readJobs, readRun, readTail, countsIn, storeOf}
 use Rattle.layout.specs.Calls.{on, isOk}
 use Rattle.history.specs.History.{Issue, writerOf, leads, inPast}
-use Rattle.history.specs.Copies.{Copy, reaches, heldCopy, needsCopy, meetsCopy, union, lastIn, byWriter, counted}
+use Rattle.history.specs.Copies.{Copy, reaches, heldCopy, needsCopy, meetsCopy, union, lastIn, byWriter, counted, lastBy, behindOther, leading}
 use Rattle.history.specs.Book.{BookRun, Book, noCopies, noRun, freshBook, withBookCaches, withBookRun, bookOpen, bookFetch, bookEvict, bookPrepare, bookStepJob, entry, bookIssue, bookIssued, bookRule, bookOk, bookStep}
 
 -- ---- a book written down: copies are functions, built on those before each call, and would be
@@ -93,24 +95,26 @@ keptBook b =
 
 -- ---- the test
 
-abbrev pub sameVersion : Counts → Version → Version → Bool
-sameVersion z u v =
-    eqb (u .issue) (v .issue)
-    && allBelow (z .keys) (λ d. allBelow (z .writers) (λ w. eqb (u .past d w) (v .past d w)))
-
--- Each version of a place is its copy counted.
-abbrev pub isCounted : Book → Place Version → Place Copy → Bool
-isCounted b p c =
+-- A version of key k has the number and the rows of its copy, and its mask names who leads in it.
+abbrev pub isCopy : Book → ℕ → Version → Copy → Bool
+isCopy b k v c =
     let z = b .counts in
-    allBelow (z .keys) (λ k. sameVersion z (p k) (counted (z .keys) (b .history) (c k)))
+    let n = counted (z .keys) (b .history) c in
+    eqb (v .issue) (n .issue)
+    && (eqb (v .leaders) (maskBelow (z .writers) (leading (z .keys) (b .history) k c))
+    && allBelow (z .keys) (λ d. allBelow (z .writers) (λ w. eqb (v .past d w) (n .past d w))))
+
+-- Each version of a place is its copy.
+abbrev pub areCopies : Book → Place Version → Place Copy → Bool
+areCopies b p c = allBelow (b .counts .keys) (λ k. isCopy b k (p k) (c k))
 
 -- On master, caches and snapshots.
 abbrev pub follows : Store → Book → Bool
 follows s b =
-    isCounted b (s .master) (b .master)
-    && (allBelow (b .counts .sites) (λ o. isCounted b (s .site o .cache) (b .cache o))
+    areCopies b (s .master) (b .master)
+    && (allBelow (b .counts .sites) (λ o. areCopies b (s .site o .cache) (b .cache o))
     && allBelow (b .counts .runs) (λ r.
-    isCounted b (s .run r .branch .snapshot) (b .run r .branch .snapshot)))
+    areCopies b (s .run r .branch .snapshot) (b .run r .branch .snapshot)))
 
 -- After each call. The store is written down as its words (crate layout, `store-back`: the same).
 abbrev pub followed : List StoreCall → Store → Book → Bool
@@ -136,27 +140,43 @@ pub record Scripted : Type 0 where
   pub reading : from-new (countsOf 2 2 2 1) reading-script ≡ true
   pub case-a : from-new (countsOf 2 2 2 1) case-a-script ≡ true
   pub longer : from-new (countsOf 3 2 2 2) longer-script ≡ true
+  -- CR 3: two rivals lead, until a third has seen both; the merge of a card; a chain through
+  -- another sheet.
+  pub rivals : from-new (countsOf 1 3 2 1) rival-script ≡ true
+  pub seen-first : from-new (countsOf 1 2 2 1) (second-script 1) ≡ true
+  pub unseen-first : from-new (countsOf 1 2 2 1) (second-script 0) ≡ true
+  pub chained : from-new (countsOf 2 3 1 1) chained-script ≡ true
 
 pub scripted : Scripted
 unfolding anyBelow allBelow only foldBelow countBelow largest when putAt upto blocks testBit
     withBit withIf maskBelow closure rounds round exceeds standing dominates present join
     between pastSize versionSize placeSize siteSize writerSize runSize masterAt sitesAt
-    writersAt runsAt tailSize tailAt totalOf lacking held dependency supersedes larger merge
-    draws drawSet fetchSet fetched unfetchable evictSet evicted pullSet pulled fresh planned
-    withMaster withLast withSites withCache withCaches withWriter withRun withState withSnapshot
-    withJobDone validJob refuse unless allowed runCause fetchCause fetchDone fetchRule
-    evictCause evictDone evictRule listedJob listedCount listedJobs listValid openCause
-    openedRun openDone openRule dropCause dropDone dropRule jobStart fetchReads preparedCaches
-    unpreparable usesSite sitesMerged siteCaches prepareCause prepareCaches prepareSnapshot
-    prepareDone prepareRule readStart stepSite stepReads stepStart stepFetch stepCache stepPlan
-    stepPull stepSnapshot stepMoved jobLimit notReady jobCause stepCause stepBroken stepDone
-    stepRule raiseCause issueCause takenIn rowsSet newPast newVersion issuedMaster issuedWriter
-    savedStore issuedStore issuedNumber issueDone issueRule lookPlace lookLimit lookCause
-    rowNumbers lookStanding lookNumbers lookReply replied replyOf ruleOf clockWords pastWords
-    versionWords placeWords siteWords sitesWords writerWords writersWords jobWords jobsWords
-    runWords runsWords tailWords headerWords storeWords readClock readPast readVersion readPlace
-    readSite readWriter readJob readJobs readRun readTail countsIn storeOf isOk writerOf leads
-    inPast reaches heldCopy needsCopy meetsCopy union lastIn byWriter counted freshBook
-    withBookCaches withBookRun bookOpen bookFetch bookEvict bookPrepare bookStepJob entry
-    bookIssue bookIssued bookRule bookOk bookStep
-scripted = record { later = refl; reading = refl; case-a = refl; longer = refl }
+    writersAt runsAt tailSize tailAt totalOf lacking held dependency supersedes leadsOn
+    mergedLeaders larger merge draws drawSet fetchSet fetched unfetchable evictSet evicted
+    pullSet pulled fresh planned withMaster withLast withSites withCache withCaches withWriter
+    withRun withState withSnapshot withJobDone validJob refuse unless allowed runCause
+    fetchCause fetchDone fetchRule evictCause evictDone evictRule listedJob listedCount
+    listedJobs listValid openCause openedRun openDone openRule dropCause dropDone dropRule
+    jobStart fetchReads preparedCaches unpreparable usesSite sitesMerged siteCaches prepareCause
+    prepareCaches prepareSnapshot prepareDone prepareRule readStart stepSite stepReads stepStart
+    stepFetch stepCache stepPlan stepPull stepSnapshot stepMoved jobLimit notReady jobCause
+    stepCause stepBroken stepDone stepRule raiseCause issueCause takenIn rowsSet newPast
+    newVersion issuedMaster issuedWriter savedStore issuedStore issuedNumber issueDone issueRule
+    lookPlace lookLimit lookCause rowNumbers lookStanding lookNumbers lookReply replied replyOf
+    ruleOf clockWords pastWords versionWords placeWords siteWords sitesWords writerWords
+    writersWords jobWords jobsWords runWords runsWords tailWords headerWords storeWords
+    readClock readPast readVersion readPlace readSite readWriter readJob readJobs readRun
+    readTail countsIn storeOf isOk writerOf leads inPast reaches heldCopy needsCopy meetsCopy
+    union lastIn byWriter counted lastBy behindOther leading freshBook withBookCaches
+    withBookRun bookOpen bookFetch bookEvict bookPrepare bookStepJob entry bookIssue bookIssued
+    bookRule bookOk bookStep
+scripted = record {
+  later = refl;
+  reading = refl;
+  case-a = refl;
+  longer = refl;
+  rivals = refl;
+  seen-first = refl;
+  unseen-first = refl;
+  chained = refl;
+}

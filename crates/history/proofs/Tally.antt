@@ -55,11 +55,17 @@ module _ (K : ℕ) (h : History) where
   last-at p i l q =
       omega (arith, largest-at (length h) (λ j. when (p j) (suc j)) i l, when-yes (p i) (suc i) q)
 
-  pub last-some : (p : Items) → 1 ≤ lastIn K h p → (i : ℕ) × (i < length h) × So (p i)
+  pub last-top : (p : Items) → 1 ≤ lastIn K h p
+      → (i : ℕ) × (i < length h) × So (p i) × (suc i ≡ lastIn K h p)
   unfolding lastIn
-  last-some p q =
+  last-top p q =
       let r = largest-some (length h) (λ j. when (p j) (suc j)) q in
-      (r .0, r .1, when-pos (p (r .0)) (suc (r .0)) (omega (arith, r .2)))
+      let i = r .0 in
+      let s = when-pos (p i) (suc i) (omega (arith, r .2)) in
+      (i, r .1, s, sym (when-yes (p i) (suc i) s) ∙ r .2)
+
+  pub last-some : (p : Items) → 1 ≤ lastIn K h p → (i : ℕ) × (i < length h) × So (p i)
+  last-some p q = let r = last-top p q in (r .0, r .1, r .2)
 
   pub last-le : (p : Items) → lastIn K h p ≤ length h
   unfolding lastIn
@@ -153,6 +159,28 @@ module _ (K : ℕ) (h : History) where
       (i j : ℕ) → i < length h → So (s i) → j ≤ i → writerOf h j ≡ writerOf h i → So (writes j)
       → So (s j)
 
+  -- Where t's count at the writer of an issue is as large as that of s, which has the issue, t has
+  -- it too.
+  pub tally-has : (writes s t : Items) → SessionClosed writes t → (i : ℕ) → i < length h
+      → So (s i) → So (writes i) → tally s (writerOf h i) ≤ tally t (writerOf h i) → So (t i)
+  tally-has writes s t closed i l p q o =
+      let w = writerOf h i in
+      let a = tally-at s i l p in
+      let r = tally-some t w (omega (arith, own-rank i)) in
+      let le = rank-order w i (r .0) refl (omega (arith, r .4)) in
+      closed (r .0) i (r .1) (r .2) le (sym (r .3)) q
+
+  -- A count is no larger than the ranks that it counts.
+  pub tally-le : (s : Items) (w m : ℕ)
+      → ((i : ℕ) → i < length h → So (s i) → writerOf h i ≡ w → rank w i ≤ m) → tally s w ≤ m
+  tally-le s w m f =
+      elim (decLe 1 (tally s w)) [
+        | yes y ↦
+            let r = tally-some s w y in
+            omega (arith, f (r .0) (r .1) (r .2) (r .3), r .4)
+        | no y ↦ omega arith
+      ]
+
   -- The counts of t dominate those of s just where t has all of s.
   pub tally-dominates : (W : ℕ) (writes s t : Items) → ((i : ℕ) → i < length h → writerOf h i < W)
       → Within (length h) s writes → SessionClosed writes t
@@ -160,13 +188,7 @@ module _ (K : ℕ) (h : History) where
   tally-dominates W writes s t ok sub closed = (there, back)
     where
       there : Dominates W (tally t) (tally s) → Within (length h) s t
-      there c i l p =
-          let w = writerOf h i in
-          let a = tally-at s i l p in
-          let o = own-rank i in
-          let r = tally-some t w (omega (arith, c w (ok i l))) in
-          let le = rank-order w i (r .0) refl (omega (arith, c w (ok i l), r .4)) in
-          closed (r .0) i (r .1) (r .2) le (sym (r .3)) (sub i l p)
+      there c i l p = tally-has writes s t closed i l p (sub i l p) (c (writerOf h i) (ok i l))
 
       back : Within (length h) s t → Dominates W (tally t) (tally s)
       back f w lw =

@@ -1,13 +1,16 @@
 -- Copies (document 01: "a copy: a set of saves, empty if not held"), what the rules ask of them,
 -- and a copy counted.
--- Copy; reaches; copies: the algebra. lastIn, counted.
+-- Copy; reaches; copies: the algebra. lastIn, counted; CountedAs: a version that is. leading: the
+-- writers that lead in a copy (CR 3).
 -- Assumes nothing.
+use mathlib.Core.Path.{_≡_}
 use mathlib.Core.Bool.{Bool, not, _&&_, _||_}
 use Prim.Native.Nat.{ℕ, suc}
 use lib.Dec.{eqb}
 use lib.ListN.{length}
 use Rattle.words.specs.Tests.{Items, anyBelow, allBelow, none}
 use Rattle.words.specs.Numbers.{countBelow, largest, when}
+use Rattle.clock.specs.Clock.{Clock}
 use Rattle.model.specs.Algebra.{Algebra, implies}
 use Rattle.model.specs.Version.{Version}
 use Rattle.history.specs.History.{History, writerOf, inPast}
@@ -15,6 +18,16 @@ use Rattle.history.specs.History.{History, writerOf, inPast}
 -- A copy of a key: the issues of its writes.
 abbrev pub Copy : Type 0
 Copy = Items
+
+-- A copy counted: an issue number and a past.
+pub record CopyCount : Type 0 where
+  pub issue : ℕ
+  pub past : ℕ → Clock
+
+-- A version with that number and past; its mask stands apart.
+pub record CountedAs (v : Version) (n : CopyCount) : Type 0 where
+  pub issue : v .issue ≡ n .issue
+  pub past : v .past ≡ n .past
 
 module _ (K : ℕ) (h : History) where
   -- The write of key d in issue j is in the copy, or stands behind a write in it.
@@ -58,8 +71,22 @@ module _ (K : ℕ) (h : History) where
   -- "the largest issue number in it; in row d, for each writer, how many issues by that writer
   -- the book has up to that writer's last save of d in the copy or behind a save in it; 0
   -- wherever there is none"
-  unfoldable pub counted : Copy → Version
+  unfoldable pub counted : Copy → CopyCount
   counted c = record {
     issue = lastIn c;
     past = λ d w. countBelow (lastIn (λ j. reaches c d j && byWriter w j)) (byWriter w);
   }
+
+  -- ---- CR 3: "the writers whose last included save stands behind no other included save"
+
+  -- Issue i has the last write by writer u in the copy.
+  unfoldable pub lastBy : Copy → ℕ → Items
+  lastBy c u i = eqb (lastIn (λ j. c j && byWriter u j)) (suc i)
+
+  -- The write of key k in issue i stands behind another one in the copy, which is of key k.
+  unfoldable pub behindOther : ℕ → Copy → Items
+  behindOther k c i = anyBelow (length h) (λ t. c t && (not (eqb t i) && inPast K h t k i))
+
+  -- Writer u leads in a copy of key k.
+  unfoldable pub leading : ℕ → Copy → Items
+  leading k c u = anyBelow (length h) (λ i. lastBy c u i && not (behindOther k c i))

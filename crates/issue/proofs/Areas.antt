@@ -7,7 +7,7 @@ use Prim.Native.Nat.{ℕ, _+_, _≤_, _<_}
 use native.Mathlib.Omega.{arith}
 use Rattle.words.specs.Words.{Apart}
 use Rattle.sizes.specs.declared.Counts.{Counts}
-use Rattle.sizes.specs.Bounds.{pastSize, versionSize, writerSize, masterAt, writerAt, snapshotAt, keyAt, writerRowAt}
+use Rattle.sizes.specs.Bounds.{pastOffset, writerPastOffset, pastSize, versionSize, writerSize, masterAt, writerAt, snapshotAt, keyAt, writerRowAt}
 use Rattle.sizes.proofs.Offsets.{ordered, writer-lies, run-lies, snapshot-lies, key-lies, writer-row-lies}
 use Rattle.version.specs.Places.{Merges}
 use Rattle.form.specs.Parts.{StoreArea}
@@ -51,7 +51,7 @@ writer-first len z at A = omega (arith, A .fits)
 
 -- The writer's past, and the past of key k of the place behind it.
 pub take-room : (len : ℕ) (z : Counts) (at place k : ℕ) → Takes len z at place → k < z .keys
-    → Apart len (at + 1) (keyAt z place k + 1) (pastSize z)
+    → Apart len (at + writerPastOffset) (keyAt z place k + pastOffset) (pastSize z)
 unfolding versionSize writerSize
 take-room len z at place k A h =
     let v = key-lies z place k h in
@@ -61,7 +61,7 @@ take-room len z at place k A h =
 
 -- The version of key k of the place, and the past of the writer behind it.
 pub save-room : (len : ℕ) (z : Counts) (place at k : ℕ) → Saves len z place at → k < z .keys
-    → Merges len z (keyAt z place k) (at + 1)
+    → Merges len z (keyAt z place k) (at + writerPastOffset)
 unfolding versionSize writerSize
 save-room len z place at k A h =
     let v = key-lies z place k h in
@@ -71,6 +71,7 @@ save-room len z place at k A h =
     record {
       ranged = A .ranged;
       low = omega arith;
+      near = omega arith;
       target = omega arith;
       source = omega arith;
       apart = inl (omega arith);

@@ -1,10 +1,9 @@
 -- An issue's stores one after the other: last issue number, writer, master, run.
 -- run-put: a run stored in a store just written.
 -- saved-number, savable-in: where a key is saved. countedStore: number and writer are stored.
--- writer-done, kept-formed, master-done: from the words that the phases leave to the store.
+-- writer-done, master-done: from the words that the phases leave to the store.
 -- Assumes nothing.
 use mathlib.Core.Path.{_≡_, sym, ap, _∙_}
-use mathlib.Core.Bool.{So}
 use mathlib.Core.List.{List}
 use Prim.Native.Nat.{ℕ, _+_, _<_, _^_}
 use native.Mathlib.Omega.{arith}
@@ -16,7 +15,6 @@ use Rattle.sizes.specs.Bounds.{masterAt, writerAt, runAt, snapshotAt}
 use Rattle.model.specs.Algebra.{Place}
 use Rattle.model.specs.Version.{Version}
 use Rattle.model.specs.Store.{Writer, Run, Store, withLast, withMaster, withWriter, withRun}
-use Rattle.model.specs.Form.{placeFormed}
 use Rattle.model.specs.Issue.{takenIn, rowsSet, newPast, newVersion, issuedMaster, issuedWriter, savedStore, issuedStore, issuedNumber}
 use Rattle.layout.specs.Reading.{readPlace, readWriter, countsIn, storeOf}
 use Rattle.layout.specs.Stored.{putPlace, putWriter, putRun}
@@ -27,7 +25,7 @@ use Rattle.layout.proofs.Rules.Issue.{taken-fits, rows-fit}
 use Rattle.layout.proofs.Updates.{put-last, put-master, put-writer, put-run}
 use Rattle.layout.proofs.Readings.{master-in, writer-in, snapshot-in}
 use Rattle.form.specs.Parts.{FormWith}
-use Rattle.form.proofs.Known.{form-counts, form-again, master-formed}
+use Rattle.form.proofs.Known.{form-counts, form-again}
 use Rattle.issue.specs.Saves.{Savable}
 
 -- ---- a store that was just written: its parts, and another one of them
@@ -78,7 +76,8 @@ countedStore s r w S = withWriter (withLast s (s .last + 1)) w (issuedWriter s r
 saved-store : (s : Store) (r w S : ℕ) → 0 < S
     → issuedStore s r w S
     ≡ withMaster (countedStore s r w S)
-    (issuedMaster S (newVersion (s .last + 1) (newPast s r w S)) (s .master))
+    (issuedMaster (s .counts .writers) S (newVersion (s .last + 1) w (newPast s r w S))
+    (s .master))
 unfolding issuedStore savedStore
 saved-store s r w S h = rw (ne-eqb S 0 (omega arith))
 
@@ -101,9 +100,13 @@ module _ (l : List ℕ) (z : Counts) (H : FormWith l z) (r w S : ℕ) (hr : r < 
   abbrev s₂ : Store
   s₂ = countedStore s r w S
 
-  -- The master after it.
+  -- The master after it, with counts in hand.
+  abbrev master-of : Counts → Place Version
+  master-of y =
+      issuedMaster (y .writers) S (newVersion (s .last + 1) w (newPast s r w S)) (s .master)
+
   abbrev new : Place Version
-  new = issuedMaster S (newVersion (s .last + 1) (newPast s r w S)) (s .master)
+  new = master-of (s .counts)
 
   fits₁ : FitStore s₁
   fits₁ = fit-last s (store-fits l) (s .last + 1)
@@ -163,17 +166,9 @@ module _ (l : List ℕ) (z : Counts) (H : FormWith l z) (r w S : ℕ) (hr : r < 
       (ap (putWriter z (written s₁ l) (writerAt z w)) (sym saved-as)
       ∙ writer-put s₁ l z same₁ w (issuedWriter s r w S) hw)
 
-  master-kept : (m₂ : List ℕ) → m₂ ≡ written s₂ l
-      → So (placeFormed z (readPlace z m₂ (masterAt z)))
-  unfolding withWriter withLast
-  master-kept m₂ e₂ =
-      let same : readPlace z m₂ (masterAt z) ≡ readPlace z l (masterAt z) =
-      rw e₂ (master-back s₂ l z fits₂ same₂ ∙ master-in l z (H .counts)) in
-      rw same (master-formed l z H)
-
   master-stored : (m₂ m₃ : List ℕ) (i : ℕ) → i ≡ s .last + 1 → m₂ ≡ written s₂ l
       → m₃ ≡ putPlace z m₂ (masterAt z)
-      (issuedMaster S (newVersion i (readWriter z m₂ (writerAt z w) .past))
+      (issuedMaster (z .writers) S (newVersion i w (readWriter z m₂ (writerAt z w) .past))
       (readPlace z m₂ (masterAt z)))
       → m₃ ≡ written (withMaster s₂ new) l
   unfolding withWriter withLast issuedWriter
@@ -181,7 +176,10 @@ module _ (l : List ℕ) (z : Counts) (H : FormWith l z) (r w S : ℕ) (hr : r < 
       let writer : readWriter z (written s₂ l) (writerAt z w) ≡ issuedWriter s r w S =
       writer-back s₂ l z fits₂ same₂ w hw ∙ putAt-same (s .writer) w (issuedWriter s r w S) in
       e₃
-      ∙ rw (a, e₂, writer, master-back s₂ l z fits₂ same₂) (master-put s₂ l z same₂ new)
+      ∙ rw (a, e₂, writer, master-back s₂ l z fits₂ same₂)
+      (ap (λ (y : Counts). putPlace z (written s₂ l) (masterAt z) (master-of y))
+      (sym (form-counts l z H))
+      ∙ master-put s₂ l z same₂ new)
 
   -- From what the code reads and stores, by its own indices and numbers: number and writer,
   pub writer-done : (at place read i n : ℕ) (m₁ m₂ : List ℕ) → at ≡ writerAt z w
@@ -197,16 +195,12 @@ module _ (l : List ℕ) (z : Counts) (H : FormWith l z) (r w S : ℕ) (hr : r < 
   writer-done at place read i n m₁ m₂ p q a b c e₁ e₂ =
       writer-stored m₁ m₂ read n a c (e₁ ∙ rw b number-stored) (rw (p, q) at e₂)
 
-  -- the master, which is still the one that was in form,
-  pub kept-formed : (master : ℕ) (m₂ : List ℕ) → master ≡ masterAt z → m₂ ≡ written s₂ l
-      → So (placeFormed z (readPlace z m₂ master))
-  kept-formed master m₂ d e₂ = rw d (master-kept m₂ e₂)
-
-  -- and is stored last.
+  -- and the master.
   pub master-done : (master at i : ℕ) (m₂ m₃ : List ℕ) → 0 < S → master ≡ masterAt z
       → at ≡ writerAt z w → i ≡ s .last + 1 → m₂ ≡ written s₂ l
       → m₃ ≡ putPlace z m₂ master
-      (issuedMaster S (newVersion i (readWriter z m₂ at .past)) (readPlace z m₂ master))
+      (issuedMaster (z .writers) S (newVersion i w (readWriter z m₂ at .past))
+      (readPlace z m₂ master))
       → m₃ ≡ written (issuedStore s r w S) l
   master-done master at i m₂ m₃ h d p b e₂ e₃ =
       rw (saved-store s r w S h) (master-stored m₂ m₃ i b e₂ (rw (p, d) at e₃))

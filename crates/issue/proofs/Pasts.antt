@@ -11,7 +11,7 @@ use lib.ListN.{length, getD, set}
 use lib.Seq.{sets, set-getD}
 use Rattle.clock.specs.Clock.{Clock}
 use Rattle.sizes.specs.declared.Counts.{Counts}
-use Rattle.sizes.specs.Bounds.{writerSize}
+use Rattle.sizes.specs.Bounds.{pastOffset, writerPastOffset, writerSize}
 use Rattle.model.specs.Store.{Writer}
 use Rattle.layout.specs.Words.{pastWords, writerWords}
 use Rattle.layout.specs.Reading.{readPast, readVersion, readWriter}
@@ -24,14 +24,14 @@ use Rattle.issue.specs.Saves.{withPast}
 -- ---- writers: a count, and a past behind it
 
 pub writer-past : (z : Counts) (l : List ℕ) (at : ℕ) (p : ℕ → Clock)
-    → putPast z l (at + 1) p ≡ putWriter z l at (withPast (readWriter z l at) p)
+    → putPast z l (at + writerPastOffset) p ≡ putWriter z l at (withPast (readWriter z l at) p)
 unfolding writerWords readWriter
 writer-past z l at p =
     ap (λ (j : ℕ). sets l j (pastWords z p)) (add-one at)
     ∙ ap (λ (m : List ℕ). sets m (suc at) (pastWords z p)) (sym (set-getD l at 0))
 
 pub writer-read : (z : Counts) (l : List ℕ) (at : ℕ)
-    → readWriter z l at .past ≡ readPast z l (at + 1)
+    → readWriter z l at .past ≡ readPast z l (at + writerPastOffset)
 unfolding readWriter
 writer-read z l at = refl
 
@@ -52,9 +52,9 @@ writer-ext z l at x y e f =
     let words : pastWords z (x .past) ≡ pastWords z (y .past) = past-ext z (x .past) (y .past) f in
     rw (e, words)
 
--- ---- versions: an issue number, and a past behind it
+-- ---- versions: an issue number, a mask, and a past behind them
 
 pub version-read : (z : Counts) (l : List ℕ) (at : ℕ)
-    → readVersion z l at .past ≡ readPast z l (at + 1)
+    → readVersion z l at .past ≡ readPast z l (at + pastOffset)
 unfolding readVersion
 version-read z l at = refl

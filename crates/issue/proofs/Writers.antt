@@ -14,7 +14,7 @@ use Rattle.words.specs.Lists.{putAt}
 use Rattle.masks.specs.Mask.{testBit}
 use Rattle.clock.specs.Clock.{Clock, join}
 use Rattle.sizes.specs.declared.Counts.{Counts}
-use Rattle.sizes.specs.Bounds.{writerSize, keyAt, writerRowAt}
+use Rattle.sizes.specs.Bounds.{pastOffset, writerPastOffset, writerSize, keyAt, writerRowAt}
 use Rattle.model.specs.Algebra.{Place}
 use Rattle.model.specs.Version.{Version, joinPasts}
 use Rattle.model.specs.Store.{Writer}
@@ -46,8 +46,9 @@ module _ (z : Counts) (l : List ℕ) (at : ℕ) where
   writer-again = sym (part-again (writer-laws z) l at)
 
   pub take-yes : (place read k : ℕ) → k < z .keys → So (testBit read k)
-      → putPast z l (at + 1)
-      (joinPasts (readPast z l (at + 1)) (readPast z l (keyAt z place k + 1)))
+      → putPast z l (at + writerPastOffset)
+      (joinPasts (readPast z l (at + writerPastOffset))
+      (readPast z l (keyAt z place k + pastOffset)))
       ≡ takeStep z at place read k l
   take-yes place read k h t =
       rw (t, place-at z l place k h, version-read z l (keyAt z place k))
@@ -61,7 +62,7 @@ module _ (z : Counts) (l : List ℕ) (at : ℕ) where
   unfolding writerSize
   row-yes w S n k h i j t =
       rw (t, row-spot z at k w)
-      (set-count z l (at + 1) k w n (omega arith) j i
+      (set-count z l (at + writerPastOffset) k w n (omega arith) j i
       ∙ writer-past z l at _ ∙ rw (writer-read z l at))
 
   pub row-no : (w S n k : ℕ) → testBit S k ≡ false → l ≡ rowStep z at w S n k l

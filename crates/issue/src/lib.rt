@@ -196,6 +196,6 @@ fn save_keys(words: &mut [u32], z: Counts, r: usize, w: usize, mask: u32) -> Iss
     let tally = next_numbers(words, z, w);
     set_last_issue(words, tally.issue);
     save_writer(words, z, at, snapshot, read, w, mask, tally.count);
-    merge_saved(words, z, areas.master, at, mask, tally.issue);
+    merge_saved(words, z, areas.master, at, w, mask, tally.issue);
     tally.issue
 }

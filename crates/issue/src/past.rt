@@ -5,20 +5,18 @@ use numbers::IssueNumber;
 use numbers::WriterCount;
 use numbers::set_count;
 use sizes::Counts;
+use version::merge::merge_version;
 use version::merge_past;
-use version::merge_version;
 use version::row_of;
 ghost use mathlib.Core.Path.{_≡_};
-ghost use mathlib.Core.Bool.{So};
-ghost use Prim.Native.Nat.{_≤_, _<_};
+ghost use Prim.Native.Nat.{_<_};
 ghost use lib.ListN.{length};
 ghost use Rattle.masks.specs.Mask.{testBit};
-ghost use Rattle.model.specs.Version.{larger};
-ghost use Rattle.model.specs.Form.{placeFormed};
+ghost use Rattle.model.specs.Version.{merge};
 ghost use Rattle.model.specs.Issue.{takenIn, rowsSet, newVersion, issuedMaster};
 ghost use Rattle.layout.specs.Reading.{readPlace, readWriter};
 ghost use Rattle.layout.specs.Stored.{putPlace, putWriter};
-ghost use Rattle.version.specs.Places.{putKey};
+ghost use Rattle.version.specs.Places.{versionOf, putKey};
 ghost use Rattle.issue.specs.Saves.{withPast, takes, rowSet, WriterArea, Takes, Saves};
 
 // The writer at an index takes in the past of key k of the place, if k is in the mask.
@@ -108,8 +106,8 @@ pub fn save_writer(
     set_count(words, at, new);
 }
 
-// Merges key k of the place with the saved version, if k is in the mask: the issue number, and the
-// past of the writer at an index.
+// Merges key k of the place with the saved version, if k is in the mask: the issue number, the
+// mask of leading writers, and the past of the writer at an index.
 fn merge_if(
     words: &mut [u32],
     z: Counts,
@@ -117,40 +115,44 @@ fn merge_if(
     at: usize,
     mask: u32,
     number: IssueNumber,
+    leaders: u32,
     k: usize,
 )
     requires { ⌜ Saves (length (now words)) z place at ⌝ }
     requires { ⌜ k < z .keys ⌝ }
     ensures { λ _. ⌜ now (words .exit) ≡ putKey z (now (words .entry)) place (testBit mask) k
-        (larger (readPlace z (now (words .entry)) place k)
-        (newVersion (number .0) (readWriter z (now (words .entry)) at .past))) ⌝ }
+        (merge (z .writers) k (readPlace z (now (words .entry)) place k)
+        (versionOf (number .0) leaders (readWriter z (now (words .entry)) at .past))) ⌝ }
 {
     if has(mask, k as u32) {
         let version = z.key_at(place, k);
         let past = z.writer_row_at(at, 0);
-        merge_version(words, z, version, number, past);
+        merge_version(words, z, k, version, number, leaders, past);
     }
 }
 
-// Merges the keys of the mask, of a place that is in form, with the saved version.
+// Merges the keys of the mask, of a place, with the version that writer w, at an index, saved.
 pub fn merge_saved(
     words: &mut [u32],
     z: Counts,
     place: usize,
     at: usize,
+    w: usize,
     mask: u32,
     number: IssueNumber,
 )
     requires { ⌜ Saves (length (now words)) z place at ⌝ }
-    requires { ⌜ So (placeFormed z (readPlace z (now words) place)) × (1 ≤ number .0) ⌝ }
+    requires { ⌜ w < z .writers ⌝ }
     ensures { λ _. ⌜ now (words .exit) ≡ putPlace z (now (words .entry)) place
-        (issuedMaster mask (newVersion (number .0) (readWriter z (now (words .entry)) at .past))
+        (issuedMaster (z .writers) mask
+        (newVersion (number .0) w (readWriter z (now (words .entry)) at .past))
         (readPlace z (now (words .entry)) place)) ⌝ }
 {
+    let leaders: u32 = 1 << w;
     let n = z.keys;
     let mut k = 0;
     while k < n {
-        merge_if(words, z, place, at, mask, number, k);
+        merge_if(words, z, place, at, mask, number, leaders, k);
         k += 1;
     }
 }

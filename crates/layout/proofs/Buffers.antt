@@ -15,7 +15,7 @@ use Rattle.clock.specs.Clock.{present}
 use Rattle.sizes.specs.Bounds.{countsOf, between, ranged, pastSize, versionSize, placeSize, siteSize, writerSize, runSize, masterAt, sitesAt, writersAt, runsAt, tailSize, tailAt, totalOf}
 use Rattle.model.specs.Version.{held}
 use Rattle.model.specs.Store.{fresh}
-use Rattle.model.specs.Form.{zeroRows, versionFormed, placeFormed, zeroJob, freeFormed, runFormed, wellFormed}
+use Rattle.model.specs.Form.{zeroRows, zeroVersion, leadersFormed, versionFormed, placeFormed, zeroJob, freeFormed, runFormed, wellFormed}
 use Rattle.model.specs.Outcome.{answer, refuse, unless, allowed, runCause}
 use Rattle.model.specs.Runs.{dropCause, dropDone, dropRule}
 use Rattle.model.specs.Calls.{dropRun, ruleOf}
@@ -66,7 +66,7 @@ pub record Asked : Type 0 where
   pub on-total : answer (callOn (on (dropRun 1)) (raised 9)) ≡ not-taken 1
   pub new-short : answer (callOn (new 1 1 1 1) short) ≡ not-taken 1
   pub new-range : answer (callOn (new 0 1 1 1) short) ≡ not-taken 2
-  pub new-taken : answer (callOn (new 1 1 1 1) (raised 9)) ≡ ok₁ 46
+  pub new-taken : answer (callOn (new 1 1 1 1) (raised 9)) ≡ ok₁ 49
 
 pub record Buffers : Type 0 where
   pub whole : inForm right ≡ true
@@ -78,15 +78,18 @@ pub record Buffers : Type 0 where
   pub wrong-total : totals ≡ replicate 2 false
   pub wrong-count : counts ≡ replicate 6 false
   -- The last issue number and the writers are free; a master's version isn't.
-  pub free-words : map inForm (raised 4 ∷ raised 14 ∷ raised 15 ∷ []) ≡ replicate 3 true
-  pub unheld-row : map inForm (raised 10 ∷ raised 11 ∷ []) ≡ replicate 2 false
-  pub held-row : inForm (sets right 10 (1 ∷ 1 ∷ [])) ≡ true
+  pub free-words : map inForm (raised 4 ∷ raised 16 ∷ raised 17 ∷ []) ≡ replicate 3 true
+  pub unheld-row : map inForm (raised 10 ∷ raised 11 ∷ raised 12 ∷ []) ≡ replicate 3 false
+  pub held-row : inForm (sets right 10 (1 ∷ 1 ∷ 1 ∷ [])) ≡ true
+  pub held-mask : map inForm (sets right 10 (1 ∷ 0 ∷ 1 ∷ []) ∷ sets right 10 (1 ∷ 2 ∷ 1 ∷ []) ∷ [])
+      ≡ replicate 2 false
   pub calls : Asked
 
 pub buffers : Buffers
 unfolding anyBelow allBelow upto blocks present between ranged pastSize versionSize placeSize
     siteSize writerSize runSize masterAt sitesAt writersAt runsAt tailSize tailAt totalOf held
-    fresh zeroRows versionFormed placeFormed zeroJob freeFormed runFormed wellFormed clockWords
+    fresh zeroRows zeroVersion leadersFormed versionFormed placeFormed zeroJob freeFormed
+    runFormed wellFormed clockWords
     pastWords versionWords placeWords siteWords sitesWords writerWords writersWords jobWords
     jobsWords runWords runsWords tailWords headerWords storeWords readClock readPast readVersion
     readPlace readSite readWriter readJob readJobs readRun readTail countsIn storeOf headerRight
@@ -104,6 +107,7 @@ buffers = record {
   free-words = refl;
   unheld-row = refl;
   held-row = refl;
+  held-mask = refl;
   calls = record {
     range = refl;
     on-short = refl;

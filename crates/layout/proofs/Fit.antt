@@ -15,7 +15,7 @@ use Rattle.sizes.specs.declared.Counts.{Counts}
 use Rattle.model.specs.Algebra.{Place}
 use Rattle.model.specs.Version.{Version, unheld, larger, merge}
 use Rattle.model.specs.Store.{Writer, Run, Site, Store, emptyPlace, noSite, freeRun, zeroStore, fresh, siteWith, withLast, withMaster, withSites, withCache, withCaches, withWriter, withRun}
-use Rattle.model.proofs.Merges.{merge-cases, merge-idem}
+use Rattle.model.proofs.Merges.{held-unheld, merge-cases, merge-unheld-left}
 use Rattle.layout.proofs.Codec.{FitMany}
 use Rattle.layout.proofs.Parts.{FitPast, FitVersion, FitPlace, FitSite, FitSites, FitWriter, FitRun}
 use Rattle.layout.proofs.Whole.{FitStore}
@@ -76,10 +76,10 @@ fit-choice z b p q F G = record {
   rest = λ k h. test (b k) (λ t. rw t (F .rest k h)) (λ t. rw t (G .rest k h));
 }
 
-fit-larger : (z : Counts) (a b : Version) → FitVersion z a → FitVersion z b
-    → FitVersion z (larger a b)
+fit-larger : (z : Counts) (k : ℕ) (a b : Version) → FitVersion z a → FitVersion z b
+    → FitVersion z (larger (z .writers) k a b)
 unfolding larger join
-fit-larger z a b F G = record {
+fit-larger z k a b F G = record {
   past = record {
     each = λ d h. record {
       each = λ w i. record {};
@@ -89,17 +89,19 @@ fit-larger z a b F G = record {
   };
 }
 
-pub fit-merge : (z : Counts) (a b : Version) → FitVersion z a → FitVersion z b
-    → FitVersion z (merge a b)
-fit-merge z a b F G =
-    merge-cases (FitVersion z) a b (λ _ _. fit-larger z a b F G) (λ _ _. F) (λ _. G)
+pub fit-merge : (z : Counts) (k : ℕ) (a b : Version) → FitVersion z a → FitVersion z b
+    → FitVersion z (merge (z .writers) k a b)
+fit-merge z k a b F G =
+    merge-cases (z .writers) k (FitVersion z) a b (λ _ _. fit-larger z k a b F G) (λ _ _. F)
+    (λ _. G)
 
 -- Two places merged.
 pub fit-merged : (z : Counts) (p q : Place Version) → FitPlace z p → FitPlace z q
-    → FitPlace z (λ k. merge (p k) (q k))
+    → FitPlace z (λ k. merge (z .writers) k (p k) (q k))
 fit-merged z p q F G = record {
-  each = λ k h. fit-merge z (p k) (q k) (F .each k h) (G .each k h);
-  rest = λ k h. rw (F .rest k h, G .rest k h) (merge-idem unheld);
+  each = λ k h. fit-merge z k (p k) (q k) (F .each k h) (G .each k h);
+  rest = λ k h.
+      rw (F .rest k h, G .rest k h) (merge-unheld-left (z .writers) k unheld unheld held-unheld);
 }
 
 -- A past is zero outside of the counts, and fits if it is.

@@ -15,6 +15,7 @@ use Rattle.sizes.specs.Bounds.{maxJobs, jobSize, upstreamOffset, jobsOffset, do
 use Rattle.model.specs.Algebra.{Place}
 use Rattle.model.specs.Version.{Version, unheld}
 use Rattle.model.specs.Store.{Writer, Job, Run, Site, noWriter, noJob, noSite, freeRun}
+use Rattle.model.proofs.Merges.{version-path}
 use Rattle.layout.specs.Words.{clockWords, pastWords, versionWords, placeWords, siteWords, sitesWords, writerWords, writersWords, jobWords, jobsWords, runWords, runsWords}
 use Rattle.layout.specs.Reading.{readWord, readClock, readPast, readVersion, readPlace, readSite, readWriter, readJob, readJobs, readRun}
 use Rattle.layout.proofs.Codec.{Laws, FitMany, many}
@@ -77,11 +78,18 @@ pub version-laws : (z : Counts)
 unfolding versionSize versionWords readVersion
 version-laws z = record {
   long = λ v. omega (arith, past-laws z .long (v .past));
-  round = numbered-round z;
-  fits = λ l at. record { past = past-laws z .fits l (at + 1) };
+  round = λ l at.
+      let e : at + 2 ≡ at + 1 + 1 = omega arith in
+      let o : 2 + pastSize z ≡ 1 + (1 + pastSize z) = omega arith in
+      rw (e, o) (ap (λ (t : List ℕ). readWord l at ∷ t) (numbered-round z l (at + 1))
+      ∙ window-cons l at (1 + pastSize z));
+  fits = λ l at. record { past = past-laws z .fits l (at + 2) };
   same = λ a b F G e.
-      let c = numbered-same z (a .issue) (b .issue) (a .past) (b .past) (F .past) (G .past) e in
-      let p = c .0 in let q = c .1 in λ i. record { issue = p i; past = q i };
+      let c = cons-same (a .issue) (b .issue) (a .leaders ∷ pastWords z (a .past))
+      (b .leaders ∷ pastWords z (b .past)) e in
+      let d = numbered-same z (a .leaders) (b .leaders) (a .past) (b .past) (F .past) (G .past)
+      (c .1) in
+      version-path (c .0) (d .0) (d .1);
 }
 
 abbrev pub FitPlace : Counts → Place Version → Type 0

@@ -10,7 +10,7 @@ use Rattle.words.proofs.Lists.{upto-in}
 use Rattle.clock.specs.Clock.{Clock, present, clockAt}
 use Rattle.clock.proofs.Order.{present-same}
 use Rattle.sizes.specs.declared.Counts.{Counts}
-use Rattle.sizes.specs.Bounds.{maxJobs, jobSize, siteSize, writerSize, runSize, masterAt, sitesAt, writersAt, runsAt, siteAt, writerAt, runAt, snapshotAt, keyAt, rowAt}
+use Rattle.sizes.specs.Bounds.{pastOffset, maxJobs, jobSize, siteSize, writerSize, runSize, masterAt, sitesAt, writersAt, runsAt, siteAt, writerAt, runAt, snapshotAt, keyAt, rowAt}
 use Rattle.model.specs.Version.{held}
 use Rattle.model.specs.Store.{noSite, noWriter, noJob, freeRun}
 use Rattle.layout.specs.Reading.{readWord, readClock, readPast, readVersion, readPlace, readSite, readWriter, readJob, readJobs, readRun, countsIn, storeOf}
@@ -71,8 +71,8 @@ module _ (z : Counts) (l : List ℕ) where
   unfolding readVersion readPast readClock rowAt
   count-word at d w h i =
       ap (λ (c : Clock). c w)
-      (upto-in (z .keys) (λ w. 0) (λ d. readClock z l (at + 1 + d * z .writers)) d h)
-      ∙ upto-in (z .writers) 0 (λ w. readWord l (at + 1 + d * z .writers + w * 1)) w i
+      (upto-in (z .keys) (λ w. 0) (λ d. readClock z l (at + pastOffset + d * z .writers)) d h)
+      ∙ upto-in (z .writers) 0 (λ w. readWord l (at + pastOffset + d * z .writers + w * 1)) w i
       ∙ ap (readWord l) (omega arith)
 
   -- Row d of key k of the place at an index.

@@ -6,7 +6,7 @@ use Prim.Native.Nat.{ℕ, _+_, _*_}
 use lib.ListN.{getD}
 use Rattle.words.specs.Lists.{upto}
 use Rattle.clock.specs.Clock.{Clock}
-use Rattle.sizes.specs.Bounds.{pastOffset, writerPastOffset, keysOffset, writersOffset, sitesOffset, runsOffset, lastOffset, maxJobs, jobSize, readsOffset, upstreamOffset, jobsOffset, doneOffset, readOffset, planOffset, snapshotOffset, versionSize, siteSize, writerSize, runSize, masterAt, sitesAt, writersAt, runsAt, tailAt}
+use Rattle.sizes.specs.Bounds.{leadersOffset, pastOffset, writerPastOffset, keysOffset, writersOffset, sitesOffset, runsOffset, lastOffset, maxJobs, jobSize, readsOffset, upstreamOffset, jobsOffset, doneOffset, readOffset, planOffset, snapshotOffset, versionSize, siteSize, writerSize, runSize, masterAt, sitesAt, writersAt, runsAt, tailAt}
 use Rattle.sizes.specs.declared.Counts.{Counts}
 use Rattle.model.specs.Algebra.{Place}
 use Rattle.model.specs.Version.{Version, unheld}
@@ -22,7 +22,11 @@ unfoldable pub readPast : Counts → List ℕ → ℕ → ℕ → Clock
 readPast z l at = upto (z .keys) (λ w. 0) (λ d. readClock z l (at + d * z .writers))
 
 unfoldable pub readVersion : Counts → List ℕ → ℕ → Version
-readVersion z l at = record { issue = readWord l at; past = readPast z l (at + pastOffset) }
+readVersion z l at = record {
+  issue = readWord l at;
+  leaders = readWord l (at + leadersOffset);
+  past = readPast z l (at + pastOffset);
+}
 
 unfoldable pub readPlace : Counts → List ℕ → ℕ → Place Version
 readPlace z l at = upto (z .keys) unheld (λ k. readVersion z l (at + k * versionSize z))

@@ -18,9 +18,9 @@ clockWords z c = blocks (z .writers) (λ w. c w ∷ [])
 unfoldable pub pastWords : Counts → (ℕ → Clock) → List ℕ
 pastWords z p = blocks (z .keys) (λ d. clockWords z (p d))
 
--- "issue number, then row 0, row 1 and so on"
+-- "issue number, then row 0, row 1 and so on"; CR 3: "the mask follows the issue number"
 unfoldable pub versionWords : Counts → Version → List ℕ
-versionWords z v = v .issue ∷ pastWords z (v .past)
+versionWords z v = v .issue ∷ v .leaders ∷ pastWords z (v .past)
 
 unfoldable pub placeWords : Counts → Place Version → List ℕ
 placeWords z p = blocks (z .keys) (λ k. versionWords z (p k))

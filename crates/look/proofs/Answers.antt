@@ -3,7 +3,7 @@
 -- standing-in: how it stands. Says: what the answer shows, and which row it has; look-refused,
 -- look-done. row-lies.
 -- Assumes nothing.
-use mathlib.Core.Path.{_≡_, refl, sym, ap, ap₂, _∙_}
+use mathlib.Core.Path.{_≡_, refl, sym, ap, _∙_}
 use mathlib.Core.Bool.{not, So}
 use mathlib.Core.Logic.{_≢_}
 use mathlib.Core.List.{List, [], _∷_, _++_}
@@ -17,6 +17,7 @@ use Rattle.clock.specs.declared.Standing.{Standing}
 use Rattle.clock.specs.Clock.{standing, standingNumber, clockAt}
 use Rattle.sizes.specs.declared.Counts.{Counts}
 use Rattle.sizes.specs.Bounds.{masterAt, keyAt, rowAt}
+use Rattle.numbers.specs.declared.IssueNumber.{IssueNumber}
 use Rattle.model.specs.Version.{Version, held}
 use Rattle.model.specs.Outcome.{refused, told, answer, refuse}
 use Rattle.model.specs.Look.{placeKinds, lookPlace, lookLimit, lookCause, lookStanding, lookNumbers, lookReply}
@@ -108,24 +109,26 @@ module _ (l : List ℕ) (p i k : ℕ) where
       rw (place-in l z d p i h, master-in l z d, counts-in l, ← d)
       (standing-word z l (placeAt z p i) k (masterAt z) k k g g g)
 
+  -- m: the mask that was read.
   pub look-done : (z : Counts) → z ≡ countsIn l → So (inForm l) → Found l z p i k
+      → (m : ℕ) → m ≡ readPlace z l (placeAt z p i) k .leaders
       → (s : Standing) → s ≡ standing (z .writers) (clockAt l (ownRowAt z p i k))
       (clockAt l (rowAt z (keyAt z (masterAt z) k) k))
-      → Says (Done (record { 0 = readWord l (keyAt z (placeAt z p i) k) }) (ownRowAt z p i k)
+      → Says (Done (record { 0 = readWord l (keyAt z (placeAt z p i) k) }) m (ownRowAt z p i k)
       (z .writers) s)
   unfolding lookNumbers seen shown answer OwnRow ownRowAt readVersion
-  look-done z d F T s q =
+  look-done z d F T m e s q =
       let at = placeAt z p i in
       let issue = ap (λ (v : Version). v .issue) (place-at z l at k (T .key)) in
       let row = row-window z l at k k (T .key) (T .key) in
-      let r = Done (record { 0 = readWord l (keyAt z at k) }) (ownRowAt z p i k) (z .writers) s in
+      let number : IssueNumber = record { 0 = readWord l (keyAt z at k) } in
+      let r = Done number m (ownRowAt z p i k) (z .writers) s in
       let stands = q ∙ sym (standing-in z d (T .number) (T .key)) in
       let says : shown l r ≡ answer (callOn (on (ask (look p i k))) l) =
       rw (T .result, ← stands, place-in l z d p i (T .number), counts-in l, ← d)
-      (ap₂ (λ (n : ℕ) (t : List ℕ). 0 ∷ n ∷ (t ++ standingNumber s ∷ [])) (sym issue)
-      (sym row)) in
-      let e = ap (λ (y : Counts). ownRowAt y p i k) d in
-      (says, (e, ap (λ (y : Counts). y .writers) d))
+      (rw (issue, e, row)) in
+      let here = ap (λ (y : Counts). ownRowAt y p i k) d in
+      (says, (here, ap (λ (y : Counts). y .writers) d))
 
   -- Such a row lies in the buffer.
   pub row-lies : (r : Looked) → So (inForm l)
@@ -133,7 +136,7 @@ module _ (l : List ℕ) (p i k : ℕ) where
       → OwnRow (countsIn l) p i k r → RowIn l r
   unfolding seen shown answer OwnRow RowIn ownRowAt
   row-lies (Refused n) F e o = tt
-  row-lies (Done n at c s) F e o =
+  row-lies (Done n m at c s) F e o =
       let x = lookCause (storeOf l) p i k in
       test (eqb x 0)
       (λ t. let T = found (countsIn l) refl F (eqb-eq x 0 t) in
@@ -141,5 +144,5 @@ module _ (l : List ℕ) (p i k : ℕ) where
       rw (o .0, o .1)
       (row-in (length l) (countsIn l) _ A k k (T .key) (T .key), A .ranged .writers-high))
       (λ t. let no = refused-by F (eqb-ne x 0 t) in
-      let two : 0 ∷ n .0 ∷ (window l at c ++ standingNumber s ∷ []) ≡ 2 ∷ x ∷ [] = e ∙ rw no in
+      let two : 0 ∷ n .0 ∷ m ∷ (window l at c ++ standingNumber s ∷ []) ≡ 2 ∷ x ∷ [] = e ∙ rw no in
       absurd (omega (arith, ap (λ (t : List ℕ). getD t 0 0) two)))

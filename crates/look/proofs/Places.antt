@@ -12,7 +12,7 @@ use Rattle.words.specs.Lists.{window}
 use Rattle.words.proofs.Bools.{test}
 use Rattle.words.proofs.Lists.{upto-in}
 use Rattle.sizes.specs.declared.Counts.{Counts}
-use Rattle.sizes.specs.Bounds.{Ranged, totalOf, keyAt, rowAt}
+use Rattle.sizes.specs.Bounds.{pastOffset, Ranged, totalOf, keyAt, rowAt}
 use Rattle.model.specs.Look.{lookPlace, rowNumbers}
 use Rattle.layout.specs.Words.{clockWords}
 use Rattle.layout.specs.Reading.{readClock, readPast, readVersion, readPlace, countsIn, storeOf}
@@ -63,6 +63,7 @@ row-window z l at k d h i =
     let v = keyAt z at k in
     let n = z .writers in
     rw (place-at z l at k h)
-    (ap (rowNumbers n) (upto-in (z .keys) (λ w. 0) (λ d. readClock z l (v + 1 + d * n)) d i)
-    ∙ clock-laws z .round l (v + 1 + d * n)
+    (ap (rowNumbers n)
+    (upto-in (z .keys) (λ w. 0) (λ d. readClock z l (v + pastOffset + d * n)) d i)
+    ∙ clock-laws z .round l (v + pastOffset + d * n)
     ∙ ap (λ (a : ℕ). window l a n) (omega arith))

@@ -1,5 +1,5 @@
-// The call look: the issue number and the own row of a version, read in a buffer, and how it
-// stands against the master's.
+// The call look: the issue number, the leading writers and the own row of a version, read in a
+// buffer, and how it stands against the master's.
 mod row;
 
 use answers::put_two;
@@ -11,6 +11,7 @@ use numbers::version_issue;
 use row::put_version;
 use sizes::Counts;
 use version::held;
+use version::leaders_of;
 use version::row_of;
 use words::wide;
 ghost use mathlib.Core.Path.{_≡_};
@@ -29,10 +30,10 @@ ghost use Rattle.form.specs.Parts.{FormWith};
 ghost use Rattle.look.specs.Places.{placeAt};
 ghost use Rattle.look.specs.Answer.{shown, OwnRow, RowIn};
 
-// The issue number, where the own row's counts begin and how many they are, and the standing; or
-// the number of the cause for which a look is refused.
+// The issue number, the mask of leading writers, where the own row's counts begin and how many
+// they are, and the standing; or the number of the cause for which a look is refused.
 pub enum Looked {
-    Done(IssueNumber, usize, usize, Standing),
+    Done(IssueNumber, u32, usize, usize, Standing),
     Refused(u32),
 }
 
@@ -116,10 +117,11 @@ pub fn look(words: &[u32], place: u32, number: u32, key: u32) -> Looked
     let at = place_at(z, place, i);
     let version = z.key_at(at, k);
     let issue = version_issue(words, version);
+    let leaders = leaders_of(words, z, at, k);
     let row = row_of(z, at, k, k);
     let own = row_of(z, z.areas().master, k, k);
     let standing = compare(words, row, words, own, z.writers);
-    Looked::Done(issue, row, z.writers, standing)
+    Looked::Done(issue, leaders, row, z.writers, standing)
 }
 
 // The words of a look at this buffer, laid over an answer slice.
@@ -130,7 +132,9 @@ pub fn put_looked(answer: &mut [u32], store: &[u32], r: Looked) -> usize
         (now (answer .entry)) (now (answer .exit)) n ⌝ }
 {
     match r {
-        Looked::Done(issue, at, n, s) => put_version(answer, store, issue, at, n, s),
+        Looked::Done(issue, leaders, at, n, s) => {
+            put_version(answer, store, issue, leaders, at, n, s)
+        }
         Looked::Refused(no) => put_two(answer, 2, no),
     }
 }

@@ -1,9 +1,11 @@
-// The words of a version that a look answers: its issue number, a row of counts, and a standing.
+// The words of a version that a look answers: its issue number, its mask of leading writers, a row
+// of counts, and a standing.
 use answers::put_two;
 use clock::Standing;
 use clock::standing_number;
 use numbers::IssueNumber;
 ghost use mathlib.Core.Path.{_≡_};
+ghost use mathlib.Core.List.{[], _∷_};
 ghost use Prim.Native.Nat.{_+_, _≤_};
 ghost use lib.ListN.{length, getD};
 ghost use Rattle.answers.specs.Answers.{answerRoom, Lays};
@@ -11,37 +13,50 @@ ghost use Rattle.words.specs.Words.{put};
 ghost use Rattle.sizes.specs.Bounds.{maxWriters};
 ghost use Rattle.look.specs.Answer.{seen};
 
-// n counts from an index of the buffer on, behind an outcome and a number.
+// An outcome, an issue number and a mask of leading writers.
+fn put_front(answer: &mut [u32], issue: IssueNumber, leaders: u32) -> usize
+    requires { ⌜ answerRoom ≤ length (now answer) ⌝ }
+    ensures { λ r. ⌜ Lays (0 ∷ issue .0 ∷ leaders ∷ [])
+        (now (answer .entry)) (now (answer .exit)) r ⌝ }
+{
+    let number = issue.word();
+    let two = put_two(answer, 0, number);
+    answer[two] = leaders;
+    two + 1
+}
+
+// n counts from an index of the buffer on, behind an outcome, a number and a mask.
 fn put_counts(answer: &mut [u32], store: &[u32], at: usize, n: usize)
     requires { ⌜ (at + n ≤ length (now store)) × (n ≤ maxWriters) ⌝ }
     requires { ⌜ answerRoom ≤ length (now answer) ⌝ }
-    ensures { λ _. ⌜ now (answer .exit) ≡ put (now (answer .entry)) 2 n
+    ensures { λ _. ⌜ now (answer .exit) ≡ put (now (answer .entry)) 3 n
         (λ i. getD (now (store .entry)) (at + i) 0) ⌝ }
 {
     let mut i = 0;
     while i < n {
-        answer[2 + i] = store[at + i];
+        answer[3 + i] = store[at + i];
         i += 1;
     }
 }
 
-// An issue number, a row of n counts from an index of the buffer on, and a standing.
+// An issue number, a mask of leading writers, a row of n counts from an index of the buffer on,
+// and a standing.
 pub fn put_version(
     answer: &mut [u32],
     store: &[u32],
     issue: IssueNumber,
+    leaders: u32,
     at: usize,
     n: usize,
     standing: Standing,
 ) -> usize
     requires { ⌜ (at + n ≤ length (now store)) × (n ≤ maxWriters) ⌝ }
     requires { ⌜ answerRoom ≤ length (now answer) ⌝ }
-    ensures { λ r. ⌜ Lays (seen (now (store .entry)) issue at n standing)
+    ensures { λ r. ⌜ Lays (seen (now (store .entry)) issue leaders at n standing)
         (now (answer .entry)) (now (answer .exit)) r ⌝ }
 {
-    let number = issue.word();
-    let two = put_two(answer, 0, number);
+    let front = put_front(answer, issue, leaders);
     put_counts(answer, store, at, n);
-    answer[two + n] = standing_number(standing);
-    two + n + 1
+    answer[front + n] = standing_number(standing);
+    front + n + 1
 }

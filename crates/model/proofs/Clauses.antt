@@ -6,7 +6,7 @@
 -- Assumes nothing.
 use mathlib.Core.Path.{_≡_, refl}
 use mathlib.Core.Bool.{Bool, true, false, not, _&&_}
-use mathlib.Core.List.{List, [], _∷_}
+use mathlib.Core.List.{List, [], _∷_, _++_}
 use Prim.Native.Nat.{ℕ}
 use lib.ListN.{getD, replicate}
 use Rattle.words.specs.Tests.{anyBelow, allBelow}
@@ -17,8 +17,8 @@ use Rattle.sizes.specs.Bounds.{countsOf, between}
 use Rattle.model.specs.Algebra.{Place}
 use Rattle.model.specs.Version.{Version, unheld, held}
 use Rattle.model.specs.Store.{Job, Run, noJob, noJobs, emptyPlace, freeRun, fresh, planned, doneReads, withMaster, withSites, withCache, withRun}
-use Rattle.model.specs.Form.{zeroRows, versionFormed, placeFormed, validJob, zeroJob, freeFormed, jobsFormed, masksFormed, snapshotFormed, runFormed, wellFormed}
-use Rattle.model.proofs.Readings.{version, place}
+use Rattle.model.specs.Form.{zeroRows, zeroVersion, leadersFormed, versionFormed, placeFormed, validJob, zeroJob, freeFormed, jobsFormed, masksFormed, snapshotFormed, runFormed, wellFormed}
+use Rattle.model.proofs.Readings.{led, version, place}
 
 -- ---- a store with 2 sheets, 2 writers, 2 offices and 2 runs, the last of them given
 
@@ -76,13 +76,23 @@ placed v =
     wellFormed (withMaster s p) ∷ wellFormed (withCache s 0 p) ∷ wellFormed (withCache s 1 p)
     ∷ formed (run 1 1 0 0 (putAt noJobs 0 (job 0 2 0)) p) ∷ []
 
+-- Held, of writer 0 alone, with a mask.
+abbrev ruled : ℕ → Version
+ruled m = led m 1 ([] ∷ (1 ∷ 0 ∷ []) ∷ [])
+
 pub record Versions : Type 0 where
   pub nothing : placed unheld ≡ replicate 4 true
   pub alone : placed (version 1 ([] ∷ (0 ∷ 1 ∷ []) ∷ [])) ≡ replicate 4 true
   pub needing : placed (version 1 ((0 ∷ 1 ∷ []) ∷ (0 ∷ 1 ∷ []) ∷ [])) ≡ replicate 4 true
   -- Unheld with a count in its own row, in another row; held with no own row.
-  pub own-word : placed (version 0 ([] ∷ (0 ∷ 1 ∷ []) ∷ [])) ≡ replicate 4 false
-  pub need-word : placed (version 0 ((0 ∷ 1 ∷ []) ∷ [])) ≡ replicate 4 false
+  pub own-word : placed (led 0 0 ([] ∷ (0 ∷ 1 ∷ []) ∷ [])) ≡ replicate 4 false
+  pub need-word : placed (led 0 0 ((0 ∷ 1 ∷ []) ∷ [])) ≡ replicate 4 false
+  -- CR 3: of two writers any mask but 0, and none with a bit at 2 or above; none if unheld. A
+  -- leader may have no count.
+  pub masks : placed (ruled 2) ++ placed (ruled 3) ≡ replicate 8 true
+  pub no-mask : placed (ruled 0) ≡ replicate 4 false
+  pub high-mask : placed (ruled 4) ++ placed (ruled 7) ≡ replicate 8 false
+  pub mask-word : placed (led 1 0 []) ≡ replicate 4 false
   pub no-row : placed (version 1 ((0 ∷ 1 ∷ []) ∷ [])) ≡ replicate 4 false
 
 -- ---- "a free run is all zero": each word but the state, which is 0
@@ -95,11 +105,12 @@ free-jobs =
     ∷ tells freeRun (run 0 0 0 0 (putAt noJobs 0 (job 0 1 0)) emptyPlace)
     ∷ tells freeRun (run 0 0 0 0 (putAt noJobs 7 (job 0 0 1)) emptyPlace) ∷ []
 
--- Its card: a version, a count of an unheld one.
+-- Its card: a version, a count of an unheld one, and its mask.
 abbrev free-card : List Bool
 free-card =
     tells freeRun (run 0 0 0 0 noJobs card-1)
-    ∷ tells freeRun (run 0 0 0 0 noJobs (place (version 0 ([] ∷ (0 ∷ 1 ∷ []) ∷ []) ∷ []))) ∷ []
+    ∷ tells freeRun (run 0 0 0 0 noJobs (place (led 0 0 ([] ∷ (0 ∷ 1 ∷ []) ∷ []) ∷ [])))
+    ∷ tells freeRun (run 0 0 0 0 noJobs (place (unheld ∷ led 1 0 [] ∷ []))) ∷ []
 
 -- ---- "any other run is in state 1 or 2 and has 1..8 jobs, zero words beyond them, valid jobs"
 
@@ -161,7 +172,7 @@ on-card =
 pub record Clauses : Type 0 where
   pub of-version : Versions
   pub of-free : free-jobs ≡ replicate 6 true
-  pub of-free-card : free-card ≡ replicate 2 true
+  pub of-free-card : free-card ≡ replicate 3 true
   pub of-state : state ≡ replicate 2 true
   pub of-number : number ≡ replicate 2 true
   pub of-beyond : beyond ≡ replicate 4 true
@@ -173,7 +184,8 @@ pub record Clauses : Type 0 where
 
 pub clauses : Clauses
 unfolding anyBelow allBelow putAt testBit withBit withIf maskBelow present between held fresh
-    planned doneReads withMaster withSites withCache withRun zeroRows versionFormed placeFormed
+    planned doneReads withMaster withSites withCache withRun zeroRows zeroVersion
+    leadersFormed versionFormed placeFormed
     validJob zeroJob freeFormed jobsFormed masksFormed snapshotFormed runFormed wellFormed
 clauses = record {
   of-version = record {
@@ -182,6 +194,10 @@ clauses = record {
     needing = refl;
     own-word = refl;
     need-word = refl;
+    masks = refl;
+    no-mask = refl;
+    high-mask = refl;
+    mask-word = refl;
     no-row = refl;
   };
   of-free = refl;

@@ -13,10 +13,10 @@ use Rattle.reach.specs.Path.{lowest, near, distance, nearest, pathBy, shortestP
 use Rattle.clock.specs.Clock.{exceeds, standing, dominates, concurrent, present, join}
 use Rattle.sizes.specs.Bounds.{countsOf, between}
 use Rattle.model.specs.Algebra.{lacking, needsMet, causalCut, overlappingCut}
-use Rattle.model.specs.Version.{held, dependency, supersedes, larger, merge}
+use Rattle.model.specs.Version.{held, dependency, supersedes, leadsOn, mergedLeaders, larger, merge}
 use Rattle.model.specs.Sets.{draws, drawSet, fetchSet, fetched, unfetchable, evictSet, evicted, pullSet, pulled}
 use Rattle.model.specs.Store.{fresh, planned, doneReads, withMaster, withLast, withSites, withCache, withCaches, withWriter, withRun, withState, withSnapshot, withJobDone}
-use Rattle.model.specs.Form.{zeroRows, versionFormed, placeFormed, validJob, zeroJob, freeFormed, jobsFormed, masksFormed, snapshotFormed, runFormed, wellFormed}
+use Rattle.model.specs.Form.{zeroRows, zeroVersion, leadersFormed, versionFormed, placeFormed, validJob, zeroJob, freeFormed, jobsFormed, masksFormed, snapshotFormed, runFormed, wellFormed}
 use Rattle.model.specs.Outcome.{answer, refuse, unless, replied, allowed, runCause}
 use Rattle.model.specs.Caches.{fetchCause, fetchDone, fetchRule, evictCause, evictDone, evictRule}
 use Rattle.model.specs.Runs.{listedJob, listedCount, listedJobs, listValid, openCause, openedRun, openDone, openRule, dropCause, dropDone, dropRule}
@@ -28,7 +28,8 @@ use Rattle.model.specs.Explain.{explainStart, explainEdge, explainGoal, 
 use Rattle.model.specs.Calls.{replyOf, ruleOf}
 use Rattle.model.proofs.Readings.{marked, sentences, unmarked, limits, shelved}
 use Rattle.model.proofs.Looks.{looked}
-use Rattle.model.proofs.Scripts.{answers, case-a-script, case-a-answers, longer-script, longer-answers, refusals-script, refusals-answers, reading-script, reading-answers, again-script, again-answers, broken-script, broken-answers, behind-script, behind-answers}
+use Rattle.model.proofs.Scripts.{ok₁, ok₃, seen, answers, case-a-script, case-a-answers, longer-script, longer-answers, refusals-script, refusals-answers, reading-script, reading-answers, again-script, again-answers, broken-script, broken-answers, behind-script, behind-answers}
+use Rattle.model.proofs.Leaders as leaders
 use Rattle.model.proofs.Explanations as explained
 
 -- The ten marked readings pass, and each script is answered as it should be, answer by answer.
@@ -46,6 +47,24 @@ pub record Computed : Type 0 where
   pub broken : answers broken-script (fresh (countsOf 2 2 2 2)) ≡ broken-answers
   pub behind : answers behind-script (fresh (countsOf 1 2 2 1)) ≡ behind-answers
   pub longer : answers longer-script (fresh (countsOf 3 2 2 2)) ≡ longer-answers
+  pub merging : leaders.merged ≡ replicate 6 true
+  pub rivals : answers leaders.rival-script (fresh (countsOf 1 3 2 1)) ≡ leaders.rival-answers
+  pub seen-first : answers (leaders.second-script 1) (fresh (countsOf 1 2 2 1))
+      ≡ leaders.second-answers 1 2
+  pub unseen-first : answers (leaders.second-script 0) (fresh (countsOf 1 2 2 1))
+      ≡ leaders.second-answers 0 3
+  pub chained : answers leaders.chained-script (fresh (countsOf 2 3 1 1))
+      ≡ leaders.chained-answers
+  pub masks : leaders.masks ≡ replicate 5 true
+  pub beside : answers leaders.beside-script (fresh (countsOf 1 3 1 1)) ≡ leaders.beside-answers
+  pub twice : answers leaders.twice-script (fresh (countsOf 1 2 1 1)) ≡ leaders.twice-answers
+  pub other : answers leaders.other-script (fresh (countsOf 2 3 1 1)) ≡ leaders.other-answers
+  pub pair : answers leaders.pair-script (fresh (countsOf 2 2 1 1)) ≡ leaders.pair-answers
+  pub folded : leaders.folded ≡ ok₁ 1 ∷ seen 1 3 1 1 0 ∷ []
+  pub folded-jobs : leaders.folded-jobs ≡ ok₁ 1 ∷ seen 1 3 1 1 0 ∷ []
+  pub folded-once : leaders.folded-once ≡ ok₁ 1 ∷ seen 1 3 1 1 0 ∷ []
+  pub stepped : leaders.stepped ≡ ok₃ 0 2 0 ∷ seen 5 3 2 3 2 ∷ []
+  pub alone : leaders.alone ≡ ok₁ 1 ∷ seen 1 2 1 0 0 ∷ []
   pub passing : explained.toldAfter
       (explained.passing-before (0 ∷ 1 ∷ 0 ∷ 1 ∷ 4 ∷ 0 ∷ 1 ∷ 2 ∷ 0 ∷ [])) explained.passing-calls
       (fresh (countsOf 3 4 2 2)) ≡ explained.passing-answers
@@ -67,11 +86,13 @@ pub record Computed : Type 0 where
       ≡ explained.refusing-answers
 
 pub computed : Computed
-unfolding needsMet causalCut overlappingCut concurrent doneReads zeroRows versionFormed
-    placeFormed zeroJob freeFormed jobsFormed masksFormed snapshotFormed runFormed wellFormed
+unfolding needsMet causalCut overlappingCut concurrent doneReads zeroRows zeroVersion
+    leadersFormed versionFormed placeFormed zeroJob freeFormed jobsFormed masksFormed
+    snapshotFormed runFormed wellFormed
     anyBelow allBelow only foldBelow putAt upto blocks testBit withBit withIf maskBelow closure
     rounds round exceeds standing dominates present join between lacking held dependency
-    supersedes larger merge draws drawSet fetchSet fetched unfetchable evictSet evicted pullSet
+    supersedes leadsOn mergedLeaders larger merge draws drawSet fetchSet fetched unfetchable
+    evictSet evicted pullSet
     pulled fresh planned withMaster withLast withSites withCache withCaches withWriter withRun
     withState withSnapshot withJobDone validJob answer refuse unless allowed runCause fetchCause
     fetchDone fetchRule evictCause evictDone evictRule listedJob listedCount listedJobs
@@ -98,6 +119,21 @@ computed = record {
   broken = refl;
   behind = refl;
   longer = refl;
+  merging = refl;
+  rivals = refl;
+  seen-first = refl;
+  unseen-first = refl;
+  chained = refl;
+  masks = refl;
+  beside = refl;
+  twice = refl;
+  other = refl;
+  pair = refl;
+  folded = refl;
+  folded-jobs = refl;
+  folded-once = refl;
+  stepped = refl;
+  alone = refl;
   passing = refl;
   unplanned = refl;
   ends = refl;

@@ -1,5 +1,6 @@
 pub mod Outcomes
 pub mod Scripts
+pub mod Leaders
 pub mod Explanations
 pub mod Readings
 pub mod Looks

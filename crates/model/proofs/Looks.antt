@@ -23,10 +23,11 @@ use Rattle.model.specs.Calls.{ask, look}
 use Rattle.model.proofs.Formed.{PlaceFormed, version-row, version-zero, well-out}
 use Rattle.model.proofs.Plans.{run-place}
 use Rattle.model.proofs.Scripts.{seen}
-use Rattle.model.proofs.Readings.{version, place, jobs, answered, zero-zero, zero-one, one-one, two-zero}
+use Rattle.model.proofs.Readings.{led, version, place, jobs, answered, zero-zero, zero-one, one-one, two-zero}
 
 pub look-master : (s : Store) (i k : ℕ) → lookNumbers s 0 i k
-    ≡ s .master k .issue ∷ (rowNumbers (s .counts .writers) (s .master k .past k) ++ 0 ∷ [])
+    ≡ s .master k .issue ∷ s .master k .leaders
+    ∷ (rowNumbers (s .counts .writers) (s .master k .past k) ++ 0 ∷ [])
 unfolding lookNumbers lookStanding lookPlace
 look-master s i k = rw (standing-self (s .counts .writers) (s .master k .past k))
 
@@ -88,20 +89,21 @@ lent-wide =
     withRun (withRun u 0 (carrying (wide 6 (2 ∷ 1 ∷ 3 ∷ [])))) 1
     (carrying (wide 6 (2 ∷ 1 ∷ 4 ∷ [])))
 
--- A look at key 1 of the place: its issue number, the own row (.., 1, ..) and the standing.
+-- A look at key 1 of the place: its issue number, writer 0, the own row (.., 1, ..) and the
+-- standing.
 abbrev seen-wide : ℕ → ℕ → ℕ → ℕ → ℕ → ℕ → Bool
 seen-wide p i n a c st =
-    answered lent-wide (ask (look p i 1)) (0 ∷ n ∷ a ∷ 1 ∷ c ∷ st ∷ [])
+    answered lent-wide (ask (look p i 1)) (0 ∷ n ∷ 1 ∷ a ∷ 1 ∷ c ∷ st ∷ [])
 
 abbrev pub looked : List Bool
 looked =
-    let s = lent (version 7 (two-zero ∷ (0 ∷ 5 ∷ []) ∷ [])
+    let s = lent (led 2 7 (two-zero ∷ (0 ∷ 5 ∷ []) ∷ [])
     ∷ version 1 (zero-zero ∷ zero-one ∷ []) ∷ []) in
-    answered s (ask (look 1 0 0)) (seen 7 2 0 3) ∷ answered s (ask (look 1 0 1)) (seen 1 0 1 2)
-    ∷ answered s (ask (look 0 0 0)) (seen 3 1 1 0)
+    answered s (ask (look 1 0 0)) (seen 7 2 2 0 3) ∷ answered s (ask (look 1 0 1)) (seen 1 1 0 1 2)
+    ∷ answered s (ask (look 0 0 0)) (seen 3 1 1 1 0)
     ∷ answered (lent (version 7 (one-one ∷ (4 ∷ 5 ∷ []) ∷ []) ∷ [])) (ask (look 1 0 0))
-    (seen 7 1 1 0)
-    ∷ answered (lent (version 1 ((2 ∷ 1 ∷ []) ∷ []) ∷ [])) (ask (look 1 0 0)) (seen 1 2 1 2)
-    ∷ answered (lent (version 9 (zero-one ∷ []) ∷ [])) (ask (look 1 0 0)) (seen 9 0 1 1)
+    (seen 7 1 1 1 0)
+    ∷ answered (lent (version 1 ((2 ∷ 1 ∷ []) ∷ []) ∷ [])) (ask (look 1 0 0)) (seen 1 1 2 1 2)
+    ∷ answered (lent (version 9 (zero-one ∷ []) ∷ [])) (ask (look 1 0 0)) (seen 9 1 0 1 1)
     ∷ seen-wide 1 0 4 3 2 3 ∷ seen-wide 1 1 4 2 2 1 ∷ seen-wide 2 0 6 2 3 0
     ∷ seen-wide 2 1 6 2 4 2 ∷ seen-wide 0 0 5 2 3 0 ∷ []

@@ -31,12 +31,12 @@ dependency-mono W k a b d c s =
     dependency-iff W k b d .1 (u .0, present-mono W (b .past d) (a .past d) c (u .1))
 
 -- What a merge needs a held side needs.
-pub dependency-merge : (W k : ℕ) (a b : Version) (d : ℕ) → So (held (merge a b))
-    → So (dependency W k (merge a b) d)
+pub dependency-merge : (W k : ℕ) (a b : Version) (d : ℕ) → So (held (merge W k a b))
+    → So (dependency W k (merge W k a b) d)
     → (So (held a) × So (dependency W k a d)) ⊎ (So (held b) × So (dependency W k b d))
 dependency-merge W k a b d h s =
-    let u = dependency-iff W k (merge a b) d .0 s in
-    elim (merge-present W d a b h (u .1)) [
+    let u = dependency-iff W k (merge W k a b) d .0 s in
+    elim (merge-present W k d a b h (u .1)) [
       | inl x ↦ inl (x .0, dependency-iff W k a d .1 (u .0, x .1))
       | inr x ↦ inr (x .0, dependency-iff W k b d .1 (u .0, x .1))
     ]
@@ -66,18 +66,18 @@ supersedes-mono W d a b q h c s =
     supersedes-iff W d b q .1 (h, dominates-trans W (b .past d) (a .past d) q c (u .1))
 
 pub supersedes-merge-left : (W d : ℕ) (a b : Version) (q : Clock) → So (supersedes W d a q)
-    → So (supersedes W d (merge a b) q)
+    → So (supersedes W d (merge W d a b) q)
 supersedes-merge-left W d a b q s =
     let p = supersedes-iff W d a q .0 s .0 in
-    supersedes-mono W d a (merge a b) q (merge-held-left a b p)
-    (merge-left W d a b p) s
+    supersedes-mono W d a (merge W d a b) q (merge-held-left W d a b p)
+    (merge-left W d d a b p) s
 
 pub supersedes-merge-right : (W d : ℕ) (a b : Version) (q : Clock) → So (supersedes W d b q)
-    → So (supersedes W d (merge a b) q)
+    → So (supersedes W d (merge W d a b) q)
 supersedes-merge-right W d a b q s =
     let p = supersedes-iff W d b q .0 s .0 in
-    supersedes-mono W d b (merge a b) q (merge-held-right a b p)
-    (merge-right W d a b p) s
+    supersedes-mono W d b (merge W d a b) q (merge-held-right W d a b p)
+    (merge-right W d d a b p) s
 
 -- A version that meets the need of a key, if there is one, has the row of that key.
 row-met : (W k d : ℕ) (a v : Version) → d ≢ k
@@ -89,19 +89,19 @@ row-met W k d a v e f =
     (λ n w l. omega (arith, absent W (a .past d) n w l))
 
 -- A version that meets what each held side needs meets what the merge needs.
-pub merge-met : (W k d : ℕ) (a b v : Version) → So (held (merge a b))
-    → So (dependency W k (merge a b) d)
+pub merge-met : (W k d : ℕ) (a b v : Version) → So (held (merge W k a b))
+    → So (dependency W k (merge W k a b) d)
     → (So (held a) → So (dependency W k a d) → So (supersedes W d v (a .past d)))
     → (So (held b) → So (dependency W k b d) → So (supersedes W d v (b .past d)))
-    → So (supersedes W d v (merge a b .past d))
+    → So (supersedes W d v (merge W k a b .past d))
 merge-met W k d a b v h n f g =
-    let e = dependency-iff W k (merge a b) d .0 n .0 in
+    let e = dependency-iff W k (merge W k a b) d .0 n .0 in
     let holds : So (held v) = elim (dependency-merge W k a b d h n) [
       | inl x ↦ supersedes-iff W d v (a .past d) .0 (f (x .0) (x .1)) .0
       | inr x ↦ supersedes-iff W d v (b .past d) .0 (g (x .0) (x .1)) .0
     ] in
-    supersedes-iff W d v (merge a b .past d) .1 (
+    supersedes-iff W d v (merge W k a b .past d) .1 (
       holds,
-      merge-least W d a b (v .past d) h (λ p. row-met W k d a v e (f p))
+      merge-least W k d a b (v .past d) h (λ p. row-met W k d a v e (f p))
           (λ p. row-met W k d b v e (g p)),
     )

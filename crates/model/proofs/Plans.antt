@@ -20,9 +20,9 @@ use Rattle.sizes.proofs.Offsets.{between-out, between-in}
 use Rattle.model.specs.Algebra.{Place, implies}
 use Rattle.model.specs.Version.{Version, unheld, held}
 use Rattle.model.specs.Store.{Job, Run, freeRun, noJob, planned, doneReads}
-use Rattle.model.specs.Form.{validJob, zeroJob, zeroRows, versionFormed, placeFormed, freeFormed, jobsFormed, masksFormed, snapshotFormed, runFormed}
+use Rattle.model.specs.Form.{validJob, zeroJob, zeroVersion, versionFormed, placeFormed, freeFormed, jobsFormed, masksFormed, snapshotFormed, runFormed}
 use Rattle.model.proofs.Cuts.{implies-in, implies-out}
-use Rattle.model.proofs.Formed.{PlaceFormed, place-out, place-in, zero-rows}
+use Rattle.model.proofs.Formed.{PlaceFormed, place-out, place-in, zero-version}
 
 -- ---- jobs
 
@@ -182,7 +182,7 @@ pub free-formed : (z : Counts) → So (runFormed z freeRun)
 unfolding runFormed freeFormed held
 free-formed z =
     and-intro (all-intro maxJobs (λ i. zeroJob noJob) (λ i h. zero-job))
-    (all-intro (z .keys) (λ k. not (held unheld) && zeroRows z unheld) (λ k h. zero-rows z))
+    (all-intro (z .keys) (λ k. not (held unheld) && zeroVersion z unheld) (λ k h. zero-version z))
 
 -- A free run has read nothing, and its card is in form (nothing is held).
 free-out : (z : Counts) (a : Run) → So (freeFormed z a)
@@ -191,7 +191,7 @@ unfolding freeFormed versionFormed
 free-out z a p =
     let jobs = allBelow maxJobs (λ i. zeroJob (a .job i)) in
     let out : ℕ → Bool = λ k. not (held (a .branch .snapshot k)) in
-    let zeros : ℕ → Bool = λ k. zeroRows z (a .branch .snapshot k) in
+    let zeros : ℕ → Bool = λ k. zeroVersion z (a .branch .snapshot k) in
     let place = allBelow (z .keys) (λ k. out k && zeros k) in
     let read = eqb (a .branch .read) 0 in
     let done = eqb (a .done) 0 in

@@ -26,7 +26,7 @@ module _ (W K : ℕ) (plan : Items) (snapshot cache : Place Version) (reads : It
 
   -- What holds of the merge for a key of C, and of the snapshot's version for another, holds.
   cases : (P : Version → Type 0) (k : ℕ)
-      → (So (C k) → P (merge (snapshot k) (cache k))) → (C k ≡ false → P (snapshot k))
+      → (So (C k) → P (merge W k (snapshot k) (cache k))) → (C k ≡ false → P (snapshot k))
       → P (after k)
   cases = pulled-cases (versions W) K plan snapshot cache reads
 
@@ -35,15 +35,15 @@ module _ (W K : ℕ) (plan : Items) (snapshot cache : Place Version) (reads : It
       → (held (snapshot k) ≡ false → So (held (cache k))) → So (held (after k))
   pulled-held k p f =
       cases (λ v. So (held v)) k
-      (λ _. test (held (snapshot k)) (merge-held-left (snapshot k) (cache k))
-      (λ n. merge-held-right (snapshot k) (cache k) (f n)))
+      (λ _. test (held (snapshot k)) (merge-held-left W k (snapshot k) (cache k))
+      (λ n. merge-held-right W k (snapshot k) (cache k) (f n)))
       (λ n. test (held (snapshot k)) (λ h. h)
       (λ m. clash (pullSet-start (versions W) K plan snapshot cache reads k p m) n))
 
   -- What the snapshot held it still holds,
   pub pulled-keeps : (k : ℕ) → So (held (snapshot k)) → So (held (after k))
   pulled-keeps k h =
-      cases (λ v. So (held v)) k (λ _. merge-held-left (snapshot k) (cache k) h) (λ _. h)
+      cases (λ v. So (held v)) k (λ _. merge-held-left W k (snapshot k) (cache k) h) (λ _. h)
 
   -- and what it met is still met.
   pulled-meets : (d : ℕ) (q : Clock) → So (supersedes W d (snapshot d) q)

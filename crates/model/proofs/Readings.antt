@@ -34,9 +34,13 @@ same (x ∷ xs) (y ∷ ys) = eqb x y && same xs ys
 abbrev pub clock : List ℕ → Clock
 clock l w = getD l w 0
 
--- A version with these rows, one after the other from key 0 on.
+-- A version with this mask of leading writers and these rows, one after the other from key 0 on.
+abbrev pub led : ℕ → ℕ → List (List ℕ) → Version
+led m n rows = record { issue = n; leaders = m; past = λ d. clock (getD rows d []) }
+
+-- Writer 0 leads.
 abbrev pub version : ℕ → List (List ℕ) → Version
-version n rows = record { issue = n; past = λ d. clock (getD rows d []) }
+version n rows = led 1 n rows
 
 abbrev pub place : List Version → Place Version
 place l k = getD l k unheld
@@ -44,8 +48,9 @@ place l k = getD l k unheld
 abbrev pub sameVersion : Version → Version → Bool
 sameVersion a b =
     eqb (a .issue) (b .issue)
+    && (eqb (a .leaders) (b .leaders)
     && (same (rowNumbers 2 (a .past 0)) (rowNumbers 2 (b .past 0))
-    && same (rowNumbers 2 (a .past 1)) (rowNumbers 2 (b .past 1)))
+    && same (rowNumbers 2 (a .past 1)) (rowNumbers 2 (b .past 1))))
 
 abbrev pub zero-zero : List ℕ
 zero-zero = 0 ∷ 0 ∷ []
@@ -92,13 +97,13 @@ abbrev pub fourth : Bool
 fourth =
     let a = version 1 (two-zero ∷ []) in
     let b = version 2 ((1 ∷ 3 ∷ []) ∷ []) in
-    sameVersion (merge a b) (version 2 ((2 ∷ 3 ∷ []) ∷ []))
+    sameVersion (merge 2 0 a b) (version 2 ((2 ∷ 3 ∷ []) ∷ []))
 
 -- "merge with an unheld version is the other"
 abbrev pub fifth : Bool
 fifth =
     let a = version 3 (two-zero ∷ zero-one ∷ []) in
-    sameVersion (merge a unheld) a && sameVersion (merge unheld a) a
+    sameVersion (merge 2 0 a unheld) a && sameVersion (merge 2 0 unheld a) a
 
 -- "sheet u needs e at (1,0); the shelf's e is newer and needs k. Evicting k takes e and u, though
 -- u doesn't need k": k is 0, e is 1 and u is 2.

@@ -20,9 +20,10 @@ ok₁ a = 0 ∷ a ∷ []
 abbrev pub ok₃ : ℕ → ℕ → ℕ → List ℕ
 ok₃ a b c = 0 ∷ a ∷ b ∷ c ∷ []
 
--- A look at a version of two writers: its issue number, its own row, and the standing.
-abbrev pub seen : ℕ → ℕ → ℕ → ℕ → List ℕ
-seen n a b st = 0 ∷ n ∷ a ∷ b ∷ st ∷ []
+-- A look at a version of two writers: its issue number, its leading writers, its own row, and the
+-- standing.
+abbrev pub seen : ℕ → ℕ → ℕ → ℕ → ℕ → List ℕ
+seen n m a b st = 0 ∷ n ∷ m ∷ a ∷ b ∷ st ∷ []
 
 abbrev pub broke : ℕ → List ℕ
 broke m = 1 ∷ m ∷ []
@@ -43,7 +44,7 @@ abbrev pub case-a-answers : List (List ℕ)
 case-a-answers =
     ok₁ 1 ∷ ok₃ 0 0 0 ∷ ok₁ 1 ∷ ok₁ 3
     ∷ ok₁ 1 ∷ ok₃ 0 1 0 ∷ ok₁ 2
-    ∷ ok₁ 2 ∷ not-taken 6 ∷ ok₃ 0 1 0 ∷ ok₃ 2 0 0 ∷ seen 1 1 0 1
+    ∷ ok₁ 2 ∷ not-taken 6 ∷ ok₃ 0 1 0 ∷ ok₃ 2 0 0 ∷ seen 1 1 1 0 1
     ∷ ok₁ 3 ∷ ok₁ 3 ∷ []
 
 -- ---- a longer script, after `new 3 2 2 2`: rival writes merge, keys are evicted, a run is
@@ -72,13 +73,13 @@ longer-script =
 abbrev pub longer-answers : List (List ℕ)
 longer-answers =
     ok₁ 1 ∷ ok₃ 0 0 0 ∷ ok₁ 1
-    ∷ ok₁ 1 ∷ ok₃ 0 0 0 ∷ ok₁ 2 ∷ seen 2 1 1 0
-    ∷ ok₁ 3 ∷ ok₁ 3 ∷ not-taken 8 ∷ ok₁ 3 ∷ seen 1 1 0 0
+    ∷ ok₁ 1 ∷ ok₃ 0 0 0 ∷ ok₁ 2 ∷ seen 2 3 1 1 0
+    ∷ ok₁ 3 ∷ ok₁ 3 ∷ not-taken 8 ∷ ok₁ 3 ∷ seen 1 1 1 0 0
     ∷ ok₁ 2 ∷ ok₃ 0 1 0
     ∷ ok₁ 1 ∷ ok₃ 0 1 0 ∷ ok₁ 3 ∷ ok₁ 7
     ∷ broke 1 ∷ not-taken 4 ∷ not-taken 3 ∷ ok₁ 0
-    ∷ ok₁ 2 ∷ ok₁ 5 ∷ ok₃ 1 0 0 ∷ not-taken 6 ∷ ok₃ 4 0 0 ∷ seen 3 2 0 0
-    ∷ ok₁ 4 ∷ seen 4 2 2 0 ∷ not-taken 4 ∷ []
+    ∷ ok₁ 2 ∷ ok₁ 5 ∷ ok₃ 1 0 0 ∷ not-taken 6 ∷ ok₃ 4 0 0 ∷ seen 3 1 2 0 0
+    ∷ ok₁ 4 ∷ seen 4 2 2 2 0 ∷ not-taken 4 ∷ []
 
 -- ---- after `new 2 2 1 2`: refusals in the table's order; a key outside of the plan isn't
 -- carried; an old version that meets the needs stays
@@ -100,8 +101,9 @@ refusals-answers =
     ∷ not-taken 5 ∷ ok₁ 1 ∷ not-taken 4 ∷ not-taken 7 ∷ not-taken 7 ∷ not-taken 3
     ∷ not-taken 3 ∷ not-taken 6 ∷ ok₁ 0 ∷ not-taken 4 ∷ not-taken 4 ∷ not-taken 7
     ∷ not-taken 3 ∷ not-taken 3 ∷ not-taken 8 ∷ not-taken 3 ∷ ok₁ 1 ∷ not-taken 3 ∷ ok₃ 0 0 0
-    ∷ not-taken 6 ∷ not-taken 6 ∷ ok₁ 1 ∷ ok₁ 3 ∷ ok₁ 1 ∷ ok₃ 0 2 0 ∷ seen 1 1 0 0 ∷ not-taken 8
-    ∷ seen 1 1 0 0 ∷ not-taken 3 ∷ not-taken 3 ∷ not-taken 3 ∷ ok₁ 2 ∷ ok₁ 2 ∷ seen 1 1 0 1 ∷ ok₁ 1
+    ∷ not-taken 6 ∷ not-taken 6 ∷ ok₁ 1 ∷ ok₁ 3 ∷ ok₁ 1 ∷ ok₃ 0 2 0 ∷ seen 1 1 1 0 0 ∷ not-taken 8
+    ∷ seen 1 1 1 0 0 ∷ not-taken 3 ∷ not-taken 3 ∷ not-taken 3 ∷ ok₁ 2 ∷ ok₁ 2 ∷ seen 1 1 1 0 1 ∷
+    ok₁ 1
     ∷ []
 
 -- ---- after `new 2 2 2 1`: what a run has read stands behind what it issues
@@ -113,7 +115,7 @@ reading-script =
 
 abbrev pub reading-answers : List (List ℕ)
 reading-answers =
-    ok₁ 1 ∷ ok₃ 0 0 0 ∷ ok₁ 1 ∷ ok₁ 1 ∷ ok₃ 0 0 1 ∷ ok₁ 2 ∷ ok₁ 3 ∷ seen 2 0 1 0 ∷ ok₁ 3 ∷ []
+    ok₁ 1 ∷ ok₃ 0 0 0 ∷ ok₁ 1 ∷ ok₁ 1 ∷ ok₃ 0 0 1 ∷ ok₁ 2 ∷ ok₁ 3 ∷ seen 2 2 0 1 0 ∷ ok₁ 3 ∷ []
 
 -- ---- after `new 2 2 1 1`: the shelf's 0 meets the need of the fetched 1 and counts as the
 -- ---- shelf's; later it doesn't, comes again through T and counts as the master's
@@ -158,6 +160,6 @@ behind-script =
 
 abbrev pub behind-answers : List (List ℕ)
 behind-answers =
-    ok₁ 1 ∷ ok₃ 0 0 0 ∷ ok₁ 1 ∷ seen 1 1 0 0 ∷ ok₁ 1 ∷ seen 1 1 0 0
-    ∷ ok₁ 1 ∷ ok₃ 0 0 0 ∷ ok₁ 2 ∷ seen 1 1 0 1 ∷ seen 2 1 1 0
-    ∷ ok₁ 1 ∷ ok₃ 0 1 0 ∷ ok₁ 1 ∷ seen 2 1 1 0 ∷ seen 1 1 0 1 ∷ []
+    ok₁ 1 ∷ ok₃ 0 0 0 ∷ ok₁ 1 ∷ seen 1 1 1 0 0 ∷ ok₁ 1 ∷ seen 1 1 1 0 0
+    ∷ ok₁ 1 ∷ ok₃ 0 0 0 ∷ ok₁ 2 ∷ seen 1 1 1 0 1 ∷ seen 2 3 1 1 0
+    ∷ ok₁ 1 ∷ ok₃ 0 1 0 ∷ ok₁ 1 ∷ seen 2 3 1 1 0 ∷ seen 1 1 1 0 1 ∷ []

@@ -18,9 +18,19 @@ use Rattle.model.specs.Store.{Job, Run, Store, planned, doneReads}
 unfoldable pub zeroRows : Counts → Version → Bool
 zeroRows z v = allBelow (z .keys) (λ d. not (present (z .writers) (v .past d)))
 
+-- Besides its issue number only zero words.
+unfoldable pub zeroVersion : Counts → Version → Bool
+zeroVersion z v = eqb (v .leaders) 0 && zeroRows z v
+
+-- CR 3: "a held version's mask isn't zero and has no bit at W or above"
+unfoldable pub leadersFormed : ℕ → ℕ → Bool
+leadersFormed W m = leb 1 m && ltb m (2 ^ W)
+
 -- "an unheld version has only zero words and a held one a non-zero own row"
 unfoldable pub versionFormed : Counts → ℕ → Version → Bool
-versionFormed z k v = cond (held v) (present (z .writers) (v .past k)) (zeroRows z v)
+versionFormed z k v =
+    cond (held v) (leadersFormed (z .writers) (v .leaders) && present (z .writers) (v .past k))
+    (zeroVersion z v)
 
 unfoldable pub placeFormed : Counts → Place Version → Bool
 placeFormed z p = allBelow (z .keys) (λ k. versionFormed z k (p k))
@@ -40,7 +50,7 @@ freeFormed z r =
     eqb (r .jobs) 0 && (eqb (r .done) 0 && (eqb (r .branch .read) 0
     && (allBelow maxJobs (λ i. zeroJob (r .job i))
     && allBelow (z .keys) (λ k.
-    not (held (r .branch .snapshot k)) && zeroRows z (r .branch .snapshot k)))))
+    not (held (r .branch .snapshot k)) && zeroVersion z (r .branch .snapshot k)))))
 
 -- "has 1..8 jobs, zero words beyond them, valid jobs"
 unfoldable pub jobsFormed : Counts → Run → Bool

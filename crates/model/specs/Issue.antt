@@ -55,13 +55,13 @@ newPast s r w S =
     let x = s .writer w in
     rowsSet S w (x .count + 1) (takenIn (s .counts .keys) (a .read) (a .snapshot) (x .past))
 
--- "the version of that past and issue number"
-unfoldable pub newVersion : ℕ → (ℕ → Clock) → Version
-newVersion n past = record { issue = n; past = past }
+-- "the version of that past and issue number". CR 3: "A new version's mask is its own writer", w.
+unfoldable pub newVersion : ℕ → ℕ → (ℕ → Clock) → Version
+newVersion n w past = record { issue = n; leaders = 2 ^ w; past = past }
 
--- "the master's k, for each k in S, is merged with the version"
-unfoldable pub issuedMaster : ℕ → Version → Place Version → Place Version
-issuedMaster S new master k = cond (testBit S k) (merge (master k) new) (master k)
+-- "the master's k, for each k in S, is merged with the version", of W writers.
+unfoldable pub issuedMaster : ℕ → ℕ → Version → Place Version → Place Version
+issuedMaster W S new master k = cond (testBit S k) (merge W k (master k) new) (master k)
 
 -- The writer after it.
 unfoldable pub issuedWriter : Store → ℕ → ℕ → ℕ → Writer
@@ -72,7 +72,7 @@ unfoldable pub savedStore : Store → ℕ → ℕ → ℕ → Store
 savedStore s r w S =
     let n = s .last + 1 in
     withMaster (withWriter (withLast s n) w (issuedWriter s r w S))
-    (issuedMaster S (newVersion n (newPast s r w S)) (s .master))
+    (issuedMaster (s .counts .writers) S (newVersion n w (newPast s r w S)) (s .master))
 
 -- "with S empty only the run is freed, and 0 answered"
 unfoldable pub issuedStore : Store → ℕ → ℕ → ℕ → Store

@@ -1,4 +1,5 @@
--- Look: the issue number and own row of a version, and how it stands against the master's.
+-- Look: the issue number, leading writers and own row of a version, and how it stands against
+-- the master's.
 -- Assumes nothing.
 use mathlib.Core.Bool.{cond, not}
 use mathlib.Core.List.{List, [], _∷_, _++_}
@@ -42,12 +43,14 @@ rowNumbers W c = blocks W (λ w. c w ∷ [])
 unfoldable pub lookStanding : ℕ → ℕ → Version → Version → Standing
 lookStanding W k v master = standing W (v .past k) (master .past k)
 
--- "answers issue number and own row. Changes nothing." The standing is "printed last".
+-- "answers issue number and own row. Changes nothing." CR 3: "the mask follows the issue number";
+-- CR 1: the standing is "printed last".
 unfoldable pub lookNumbers : Store → ℕ → ℕ → ℕ → List ℕ
 lookNumbers s p i k =
     let W = s .counts .writers in
     let v = lookPlace s p i k in
-    v .issue ∷ (rowNumbers W (v .past k) ++ standingNumber (lookStanding W k v (s .master k)) ∷ [])
+    v .issue ∷ v .leaders
+    ∷ (rowNumbers W (v .past k) ++ standingNumber (lookStanding W k v (s .master k)) ∷ [])
 
 unfoldable pub lookReply : ℕ → ℕ → ℕ → Store → Reply
 lookReply p i k s =

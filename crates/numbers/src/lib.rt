@@ -4,7 +4,7 @@ use sizes::header::HeaderOffset;
 use words::larger;
 ghost use mathlib.Core.Path.{_≡_};
 ghost use Prim.Native.Nat.{_+_, _≤_, _<_, max};
-ghost use lib.Dec.{eqb, leb};
+ghost use lib.Dec.{eqb, leb, ltb};
 ghost use lib.ListN.{length, getD, set};
 ghost use Rattle.sizes.specs.Bounds.{headerSize, lastOffset};
 ghost use Rattle.model.specs.Issue.{maxWord};
@@ -76,6 +76,27 @@ impl IssueNumber {
 }
 
 impl WriterCount {
+    // Whether it is larger than another.
+    pub fn exceeds(self, other: WriterCount) -> bool
+        ensures { λ r. ⌜ r ≡ ltb (other .0) (self .0) ⌝ }
+    {
+        other.0 < self.0
+    }
+
+    // Whether it is the same as another.
+    pub fn equals(self, other: WriterCount) -> bool
+        ensures { λ r. ⌜ r ≡ eqb (self .0) (other .0) ⌝ }
+    {
+        self.0 == other.0
+    }
+
+    // Whether the writer is present: its count isn't 0.
+    pub fn is_present(self) -> bool
+        ensures { λ r. ⌜ r ≡ leb 1 (self .0) ⌝ }
+    {
+        0 < self.0
+    }
+
     // Whether the writer can make no further issue.
     pub fn is_full(self) -> bool
         ensures { λ r. ⌜ r ≡ eqb (self .0) maxWord ⌝ }

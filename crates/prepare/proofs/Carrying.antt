@@ -25,7 +25,7 @@ use Rattle.layout.proofs.Readings.{cache-in}
 use Rattle.layout.proofs.Updates.{put-snapshot}
 use Rattle.version.specs.Places.{Area}
 use Rattle.version.proofs.Stores.{place-beside, snapshot-area}
-use Rattle.form.proofs.Known.{form-area, form-counts, form-again, cache-formed}
+use Rattle.form.proofs.Known.{form-area, form-counts, form-again}
 use Rattle.form.specs.Parts.{readsOf}
 use Rattle.form.proofs.Snapshots.{test-plan}
 use Rattle.trial.specs.Jobs.{UsedRun}
@@ -68,7 +68,6 @@ module _ (l : List ℕ) (z : Counts) (r : ℕ) (U : UsedRun l z r) where
         record {
           area = rw long fits;
           behind = λ o h. rw c (snapshot-behind l z r U o h);
-          formed = λ o h. rw (cache-beside o h) (cache-formed l z (U .form) o h);
           empty = rw e (place-twice z l at emptyPlace emptyPlace (fits .fits));
         }
 
@@ -88,11 +87,12 @@ module _ (l : List ℕ) (z : Counts) (r : ℕ) (U : UsedRun l z r) where
           let a = s .run r in
           let S : ℕ → ℕ → Bool = λ k o.
           usesSite (a .jobs) (a .job) o && planned (a .jobs) (a .job) k in
-          rw (f, g, test-plan (a .jobs) (a .job) (jobs-known l z r U .plan .jobs .high))
+          let plan-is = test-plan (a .jobs) (a .job) (jobs-known l z r U .plan .jobs .high) in
+          rw (f, g, plan-is, form-counts l z (U .form))
           (fun-ext (λ k. fold-same (z .sites)
-          (λ o v. cond (S k o) (merge v (readPlace z m (siteAt z o) k)) v)
-          (λ o v. cond (S k o) (merge v (s .site o .cache k)) v)
-          (λ o v h. ap (λ (p : Place Version). cond (S k o) (merge v (p k)) v)
+          (λ o v. cond (S k o) (merge (z .writers) k v (readPlace z m (siteAt z o) k)) v)
+          (λ o v. cond (S k o) (merge (z .writers) k v (s .site o .cache k)) v)
+          (λ o v h. ap (λ (p : Place Version). cond (S k o) (merge (z .writers) k v (p k)) v)
           (cache-beside o h ∙ sym (cache-in l z (U .form .counts) o h)))
           unheld))
 

@@ -3,7 +3,7 @@
 -- site-merged, site-passed: the code of one turn. merge-..: the loop over the sites.
 -- Assumes nothing.
 use mathlib.Core.Path.{_≡_, sym, ap, ap₂, _∙_, fun-ext}
-use mathlib.Core.Bool.{Bool, false, cond, So, _&&_}
+use mathlib.Core.Bool.{false, cond, So, _&&_}
 use mathlib.Core.Logic.{inr}
 use mathlib.Core.List.{List, []}
 use Prim.Native.Nat.{ℕ, zero, suc, _+_, _≤_, _<_}
@@ -22,9 +22,7 @@ use Rattle.sizes.specs.Bounds.{placeSize, siteAt}
 use Rattle.model.specs.Algebra.{Place}
 use Rattle.model.specs.Version.{Version, unheld, merge, versions}
 use Rattle.model.specs.Store.{emptyPlace}
-use Rattle.model.specs.Form.{placeFormed}
 use Rattle.model.specs.Prepare.{sitesMerged}
-use Rattle.model.proofs.Formed.{PlaceFormed, place-out, place-in, formed-empty, formed-choice, version-merge}
 use Rattle.layout.specs.Words.{placeWords}
 use Rattle.layout.specs.Reading.{readClock, readPast, readVersion, readPlace}
 use Rattle.layout.specs.Stored.{putPlace}
@@ -66,7 +64,7 @@ place-twice z l at p q h =
 pub site-merged : (z : Counts) (l : List ℕ) (at o from sites plan : ℕ) (m : List ℕ)
     → So (testBit sites o) → from ≡ siteAt z o
     → m ≡ putPlace z l at (choice (testBit plan)
-    (λ k. merge (readPlace z l at k) (readPlace z l from k)) (readPlace z l at))
+    (λ k. merge (z .writers) k (readPlace z l at k) (readPlace z l from k)) (readPlace z l at))
     → m ≡ putPlace z l at (siteMerged z l at o sites plan)
 unfolding siteMerged
 site-merged z l at o from sites plan m p q e = rw (p, ← q) e
@@ -93,21 +91,16 @@ module _ (z : Counts) (l : List ℕ) (at sites plan : ℕ) (C : MergeArea l z at
   unfolding sitesMerged foldBelow
   merge-start = sym (C .empty)
 
-  after-good : (n : ℕ) → n ≤ z .sites
-      → FitPlace z (after n) × PlaceFormed z (after n)
+  after-fits : (n : ℕ) → FitPlace z (after n)
   unfolding sitesMerged foldBelow
-  after-good zero h = (fit-empty z, formed-empty z)
-  after-good (suc n) h =
-      let G = after-good n (omega arith) in
+  after-fits zero = fit-empty z
+  after-fits (suc n) =
+      let F = after-fits n in
       let p = after n in
       let q = readPlace z l (siteAt z n) in
-      let Q = place-out z q (C .formed n h) in
-      let S : ℕ → Bool = λ k. testBit sites n && testBit plan k in (
-        fit-choice z S (λ k. merge (p k) (q k)) p
-            (fit-merged z p q (G .0) (place-laws z .fits l (siteAt z n))) (G .0),
-        formed-choice z S (λ k. merge (p k) (q k)) p
-            (λ k i. version-merge z k (p k) (q k) (G .1 k i) (Q k i)) (G .1),
-      )
+      fit-choice z (λ k. testBit sites n && testBit plan k)
+      (λ k. merge (z .writers) k (p k) (q k)) p
+      (fit-merged z p q F (place-laws z .fits l (siteAt z n))) F
 
   pub merge-lies : (o : ℕ) → o < z .sites → Areas (length l) z at (siteAt z o)
   merge-lies o h =
@@ -126,22 +119,15 @@ module _ (z : Counts) (l : List ℕ) (at sites plan : ℕ) (C : MergeArea l z at
   module _ (n : ℕ) (h : n < z .sites) (m : List ℕ) (e : m ≡ putPlace z l at (after n)) where
     snapshot-read : readPlace z m at ≡ after n
     snapshot-read =
-        rw e (part-back (place-laws z) l at (after n) (after-good n (omega arith) .0)
-        (C .area .fits))
+        rw e (part-back (place-laws z) l at (after n) (after-fits n) (C .area .fits))
 
     site-read : readPlace z m (siteAt z n) ≡ readPlace z l (siteAt z n)
     site-read = rw e (place-beside z l at (siteAt z n) (after n) (inr (C .behind n h)))
 
-    pub merge-formed : So (placeFormed z (readPlace z m at))
-        × So (placeFormed z (readPlace z m (siteAt z n)))
-    merge-formed = (
-      rw snapshot-read (place-in z (after n) (after-good n (omega arith) .1)),
-      rw site-read (C .formed n h),
-    )
-
     -- A place p with q merged into it.
     abbrev turned : Place Version → Place Version → Place Version
-    turned p q k = cond (testBit sites n && testBit plan k) (merge (p k) (q k)) (p k)
+    turned p q k =
+        cond (testBit sites n && testBit plan k) (merge (z .writers) k (p k) (q k)) (p k)
 
     pub merge-turn : (k : List ℕ) → k ≡ putPlace z m at (siteMerged z m at n sites plan)
         → k ≡ putPlace z l at (after (n + 1))

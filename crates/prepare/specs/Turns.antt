@@ -4,7 +4,7 @@
 -- MergeArea: a snapshot that the caches are merged into.
 -- Assumes nothing.
 use mathlib.Core.Path.{_≡_}
-use mathlib.Core.Bool.{So, _&&_}
+use mathlib.Core.Bool.{_&&_}
 use mathlib.Core.List.{List}
 use Prim.Native.Nat.{ℕ, _+_, _≤_, _<_}
 use lib.ListN.{length}
@@ -15,7 +15,6 @@ use Rattle.sizes.specs.Bounds.{placeSize, siteAt}
 use Rattle.model.specs.Algebra.{Place}
 use Rattle.model.specs.Version.{Version, merge, versions}
 use Rattle.model.specs.Store.{Store, emptyPlace, planned, withCaches, withRun, withSnapshot}
-use Rattle.model.specs.Form.{placeFormed}
 use Rattle.model.specs.Prepare.{jobStart, fetchReads, preparedCaches, usesSite, sitesMerged, siteCaches}
 use Rattle.layout.specs.Reading.{readPlace}
 use Rattle.layout.specs.Stored.{putPlace}
@@ -60,13 +59,13 @@ merged s r =
 unfoldable pub siteMerged : Counts → List ℕ → ℕ → ℕ → ℕ → ℕ → Place Version
 siteMerged z l at o sites plan =
     choice (λ k. testBit sites o && testBit plan k)
-    (λ k. merge (readPlace z l at k) (readPlace z l (siteAt z o) k)) (readPlace z l at)
+    (λ k. merge (z .writers) k (readPlace z l at k) (readPlace z l (siteAt z o) k))
+    (readPlace z l at)
 
 -- ---- the buffer
 
--- An empty snapshot at an index behind the caches of the sites, which are in form.
+-- An empty snapshot at an index behind the caches of the sites.
 pub record MergeArea (l : List ℕ) (z : Counts) (at : ℕ) : Type 0 where
   pub area : Area (length l) z at
   pub behind : (o : ℕ) → o < z .sites → siteAt z o + placeSize z ≤ at
-  pub formed : (o : ℕ) → o < z .sites → So (placeFormed z (readPlace z l (siteAt z o)))
   pub empty : putPlace z l at emptyPlace ≡ l

@@ -5,18 +5,16 @@ use sizes::Counts;
 use trial::jobs::job_count;
 use trial::jobs::job_of;
 use trial::jobs::plan_keys;
-use version::merge_keys;
+use version::merge::merge_keys;
 use words::wide;
 use words::zero;
 ghost use mathlib.Core.Path.{_≡_};
-ghost use mathlib.Core.Bool.{So};
 ghost use Prim.Native.Nat.{_<_};
 ghost use lib.ListN.{length};
 ghost use Rattle.masks.specs.Mask.{testBit};
 ghost use Rattle.sizes.specs.Bounds.{siteAt};
 ghost use Rattle.model.specs.Version.{versions};
 ghost use Rattle.model.specs.Store.{emptyPlace};
-ghost use Rattle.model.specs.Form.{placeFormed};
 ghost use Rattle.model.specs.Prepare.{usesSite, sitesMerged};
 ghost use Rattle.layout.specs.Reading.{readPlace, storeOf};
 ghost use Rattle.layout.specs.Stored.{putPlace};
@@ -56,8 +54,6 @@ pub fn clear_place(words: &mut [u32], z: Counts, at: usize)
 pub fn merge_site(words: &mut [u32], z: Counts, snapshot: usize, o: usize, sites: u32, plan: u32)
     requires { ⌜ Areas (length (now words)) z snapshot (siteAt z o) ⌝ }
     requires { ⌜ o < z .sites ⌝ }
-    requires { ⌜ So (placeFormed z (readPlace z (now words) snapshot))
-        × So (placeFormed z (readPlace z (now words) (siteAt z o))) ⌝ }
     ensures { λ _. ⌜ now (words .exit) ≡ putPlace z (now (words .entry)) snapshot
         (siteMerged z (now (words .entry)) snapshot o sites plan) ⌝ }
 {

@@ -114,7 +114,7 @@ pub extern "C" fn sheetdesk_explain(store: &[u32], run: u32, job: u32, out: &mut
 pub extern "C" fn sheetdesk_version() -> u32
     ensures { λ r. ⌜ r ≡ interfaceVersion ⌝ }
 {
-    3
+    4
 }
 
 // The version of the layout: it rises when the words of a desk change.
@@ -122,5 +122,5 @@ pub extern "C" fn sheetdesk_version() -> u32
 pub extern "C" fn sheetdesk_layout() -> u32
     ensures { λ r. ⌜ r ≡ layoutVersion ⌝ }
 {
-    1
+    2
 }

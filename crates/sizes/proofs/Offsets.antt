@@ -11,7 +11,7 @@ use lib.Dec.{leb}
 use Rattle.words.proofs.Bools.{and-intro, and-left, and-right, leb-le, le-leb}
 use Rattle.words.proofs.Slots.{slot-end}
 use Rattle.sizes.specs.declared.Counts.{Counts}
-use Rattle.sizes.specs.Bounds.{maxKeys, maxWriters, maxSites, maxRuns, maxJobs, maxTotal, jobSize, planSize, headerSize, pastOffset, writerPastOffset, snapshotOffset, between, ranged, Ranged, pastSize, versionSize, placeSize, siteSize, writerSize, runSize, masterAt, sitesAt, writersAt, runsAt, tailSize, tailAt, totalOf, siteAt, writerAt, runAt, snapshotAt, jobAt, keyAt, rowAt, writerRowAt}
+use Rattle.sizes.specs.Bounds.{maxKeys, maxWriters, maxSites, maxRuns, maxJobs, maxTotal, jobSize, planSize, headerSize, pastOffset, writerPastOffset, snapshotOffset, between, ranged, Ranged, pastSize, versionSize, placeSize, siteSize, writerSize, runSize, masterAt, sitesAt, writersAt, runsAt, tailSize, tailAt, totalOf, siteAt, writerAt, runAt, snapshotAt, jobAt, keyAt, pastRowAt, rowAt, writerRowAt}
 
 -- ---- counts in range
 
@@ -63,23 +63,23 @@ ranged-in z R =
 -- The largest sizes.
 pub record Largest (z : Counts) : Type 0 where
   pub past : pastSize z ≤ 512
-  pub version : versionSize z ≤ 513
-  pub place : placeSize z ≤ 16416
-  pub site : siteSize z ≤ 16416
+  pub version : versionSize z ≤ 514
+  pub place : placeSize z ≤ 16448
+  pub site : siteSize z ≤ 16448
   pub writer : writerSize z ≤ 513
-  pub run : runSize z ≤ 16444
-  pub sites : z .sites * siteSize z ≤ 131328
+  pub run : runSize z ≤ 16476
+  pub sites : z .sites * siteSize z ≤ 131584
   pub writers : z .writers * writerSize z ≤ 8208
-  pub runs : z .runs * runSize z ≤ 131552
+  pub runs : z .runs * runSize z ≤ 131808
 
 pub largest : (z : Counts) → Ranged z → Largest z
 unfolding pastSize versionSize placeSize siteSize writerSize runSize
 largest z R =
     let past : pastSize z ≤ 32 * 16 = mul-le-mul (R .keys-high) (R .writers-high) in
-    let version : versionSize z ≤ 513 = omega arith in
-    let place : placeSize z ≤ 32 * 513 = mul-le-mul (R .keys-high) version in
+    let version : versionSize z ≤ 514 = omega arith in
+    let place : placeSize z ≤ 32 * 514 = mul-le-mul (R .keys-high) version in
     let writer : writerSize z ≤ 513 = omega arith in
-    let run : runSize z ≤ 16444 = omega arith in
+    let run : runSize z ≤ 16476 = omega arith in
     record {
       past = past;
       version = version;
@@ -156,6 +156,11 @@ pub key-lies : (z : Counts) (at k : ℕ) → k < z .keys
     → Lies at (at + placeSize z) (keyAt z at k) (versionSize z)
 unfolding keyAt placeSize
 key-lies z at k h = part-lies at k (z .keys) (versionSize z) h
+
+pub past-row-lies : (z : Counts) (at d : ℕ) → d < z .keys
+    → Lies at (at + pastSize z) (pastRowAt z at d) (z .writers)
+unfolding pastRowAt pastSize
+past-row-lies z at d h = part-lies at d (z .keys) (z .writers) h
 
 pub row-lies : (z : Counts) (at d : ℕ) → d < z .keys
     → Lies (at + pastOffset) (at + versionSize z) (rowAt z at d) (z .writers)

@@ -101,8 +101,12 @@ headerSize = 10
 
 -- ---- inside a version, whose issue number stands first, and a writer, whose count does
 
+-- "In the version .. the mask follows the issue number."
+abbrev pub leadersOffset : ℕ
+leadersOffset = 1
+
 abbrev pub pastOffset : ℕ
-pastOffset = 1
+pastOffset = 2
 
 abbrev pub writerPastOffset : ℕ
 writerPastOffset = 1
@@ -140,7 +144,7 @@ planSize = maxJobs * jobSize
 abbrev pub snapshotOffset : ℕ
 snapshotOffset = planOffset + planSize
 
--- ---- sizes: "A version takes V = 1 + K·W words"
+-- ---- sizes: "V becomes 2 + K·W there; writers keep 1 + K·W" (CR 3)
 
 -- A past: one clock for each key.
 unfoldable pub pastSize : Counts → ℕ
@@ -170,7 +174,7 @@ unfoldable pub tailSize : Counts → ℕ
 tailSize z = 0
 
 -- ---- offsets, after the header:
--- ---- "master K·V; shelves N·K·V; writers W·V; runs P·(28 + K·V)"
+-- ---- "master K·V; shelves N·K·V; writers W·(1 + K·W); runs P·(28 + K·V)"
 
 unfoldable pub masterAt : Counts → ℕ
 masterAt z = headerSize
@@ -192,7 +196,7 @@ totalOf z = tailAt z + tailSize z
 
 -- The total of the largest counts.
 abbrev pub maxTotal : ℕ
-maxTotal = 287514
+maxTotal = 288058
 
 -- Offsets and total.
 unfoldable pub sizesOf : Counts → Sizes
@@ -229,7 +233,11 @@ jobAt at i = at + i * jobSize
 unfoldable pub keyAt : Counts → ℕ → ℕ → ℕ
 keyAt z at k = at + k * versionSize z
 
--- Row d, the clock for key d, of the version at an index.
+-- Row d, the clock for key d, of the past at an index.
+unfoldable pub pastRowAt : Counts → ℕ → ℕ → ℕ
+pastRowAt z at d = at + d * z .writers
+
+-- Row d of the version at an index.
 unfoldable pub rowAt : Counts → ℕ → ℕ → ℕ
 rowAt z at d = at + (pastOffset + d * z .writers)
 

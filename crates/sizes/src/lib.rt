@@ -9,7 +9,7 @@ use past::WriterOffset;
 use run::RunOffset;
 ghost use mathlib.Core.Path.{_≡_};
 ghost use Prim.Native.Nat.{_+_, _*_, _<_, _^_};
-ghost use Rattle.sizes.specs.Bounds.{between, ranged, Ranged, countsOf, sizesOf, maxKeys, maxWriters, maxSites, maxRuns, maxJobs, placeLimit, versionLimit, everyJob, jobSize, pastSize, versionSize, placeSize, siteSize, writerSize, runSize, siteAt, writerAt, runAt, snapshotAt, jobAt, keyAt, rowAt, writerRowAt};
+ghost use Rattle.sizes.specs.Bounds.{between, ranged, Ranged, countsOf, sizesOf, maxKeys, maxWriters, maxSites, maxRuns, maxJobs, placeLimit, versionLimit, everyJob, jobSize, pastSize, versionSize, placeSize, siteSize, writerSize, runSize, siteAt, writerAt, runAt, snapshotAt, jobAt, keyAt, pastRowAt, rowAt, writerRowAt};
 
 // Sheets, writers, offices and runs (document 01: K, W, N, P).
 pub struct Counts {
@@ -88,7 +88,7 @@ pub fn is_between(x: usize, top: usize) -> bool
 
 // Where part i begins, of parts of one size from an index on.
 fn nth(first: usize, size: usize, i: usize) -> usize
-    requires { ⌜ first + i * size < versionLimit ⌝ }
+    requires { ⌜ first + i * size < 2 ^ 62 ⌝ }
     ensures { λ r. ⌜ r ≡ first + i * size ⌝ }
 {
     first + i * size
@@ -216,6 +216,15 @@ impl Counts {
         ensures { λ r. ⌜ r ≡ keyAt self at k ⌝ }
     {
         nth(at, self.version_size(), k)
+    }
+
+    // Where row d begins in the past at an index.
+    pub fn past_row_at(self, at: usize, d: usize) -> usize
+        requires { ⌜ Ranged self ⌝ }
+        requires { ⌜ (at < versionLimit) × (d < self .keys) ⌝ }
+        ensures { λ r. ⌜ r ≡ pastRowAt self at d ⌝ }
+    {
+        nth(at, self.writers, d)
     }
 
     // Where row d begins in the version at an index.

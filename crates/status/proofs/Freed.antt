@@ -17,7 +17,7 @@ use Rattle.sizes.specs.declared.Counts.{Counts}
 use Rattle.sizes.specs.Bounds.{maxJobs, planSize, runSize}
 use Rattle.model.specs.Version.{Version, unheld, held}
 use Rattle.model.specs.Store.{Job, Run, noJob, noJobs, emptyPlace, freeRun}
-use Rattle.model.specs.Form.{zeroRows, zeroJob, freeFormed, runFormed}
+use Rattle.model.specs.Form.{zeroVersion, zeroJob, freeFormed, runFormed}
 use Rattle.layout.specs.Words.{jobsWords, runWords}
 use Rattle.layout.specs.Reading.{readClock, readPast, readVersion, readPlace, readJob, readJobs, readRun}
 use Rattle.layout.proofs.Parts.{FitJobs, FitRun, jobs-laws, run-laws}
@@ -86,7 +86,7 @@ jobs-are f F p =
 
 module _ (z : Counts) (a : Run) (F : FitRun z a) where
   abbrev keyEmpty : ℕ → Bool
-  keyEmpty k = not (held (a .branch .snapshot k)) && zeroRows z (a .branch .snapshot k)
+  keyEmpty k = not (held (a .branch .snapshot k)) && zeroVersion z (a .branch .snapshot k)
 
   place-is : So (allBelow (z .keys) keyEmpty) → a .branch .snapshot ≡ emptyPlace
   place-is p =
@@ -96,9 +96,9 @@ module _ (z : Counts) (a : Run) (F : FitRun z a) where
       below k h =
           let q = all-at (z .keys) keyEmpty p k h in
           let no = not (held (a .branch .snapshot k)) in
-          let rows = zeroRows z (a .branch .snapshot k) in
+          let words = zeroVersion z (a .branch .snapshot k) in
           unheld-is z (a .branch .snapshot k) (F .snapshot .each k h)
-          (not-elim (and-left no rows q)) (and-right no rows q)
+          (not-elim (and-left no words q)) (and-right no words q)
 
   pub free-is : So (runFormed z a) → a .state ≡ 0 → a ≡ freeRun
   unfolding runFormed freeFormed

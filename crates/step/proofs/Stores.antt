@@ -1,10 +1,9 @@
 -- What a step that doesn't break stores: the cache with T, the snapshot with C, and two masks.
 -- fetch-areas, merge-areas: where the places lie.
--- copied, merged: the two places as the rule has them; both-formed: between the two.
+-- copied, merged: the two places as the rule has them.
 -- step-left: the buffer after it.
 -- Assumes nothing.
-use mathlib.Core.Path.{_≡_, ap, _∙_}
-use mathlib.Core.Bool.{So}
+use mathlib.Core.Path.{_≡_, sym, ap, _∙_}
 use mathlib.Core.Logic.{inl}
 use mathlib.Core.List.{List}
 use Prim.Native.Nat.{ℕ, suc, _+_, _<_, _≤_}
@@ -19,9 +18,7 @@ use Rattle.model.specs.Algebra.{Place}
 use Rattle.model.specs.Version.{Version, merge, versions}
 use Rattle.model.specs.Sets.{fetched, pulled}
 use Rattle.model.specs.Store.{Run, Store, withSites, withCache, withRun, withSnapshot, withJobDone}
-use Rattle.model.specs.Form.{placeFormed}
 use Rattle.model.specs.Step.{stepBranch, stepSite, stepStart, stepFetch, stepCache, stepPull, stepSnapshot, stepDone}
-use Rattle.model.proofs.Formed.{place-out, place-in}
 use Rattle.layout.specs.Reading.{readPlace, storeOf}
 use Rattle.layout.specs.Stored.{putPlace}
 use Rattle.layout.specs.Buffer.{written}
@@ -29,17 +26,17 @@ use Rattle.layout.specs.Calls.{leaves}
 use Rattle.layout.proofs.Parts.{place-laws}
 use Rattle.layout.proofs.Windows.{part-back}
 use Rattle.layout.proofs.Updates.{put-snapshot, put-masks, run-twice}
-use Rattle.layout.proofs.Kept.{fetched-fits, fetched-formed}
+use Rattle.layout.proofs.Kept.{fetched-fits}
 use Rattle.version.specs.Places.{choice, Areas}
 use Rattle.version.proofs.Stores.{place-beside, site-master, snapshot-site}
 use Rattle.form.specs.Parts.{FormWith}
-use Rattle.form.proofs.Known.{form-area, form-counts, master-formed, cache-formed, cache-stored}
+use Rattle.form.proofs.Known.{form-area, form-counts, cache-stored}
 use Rattle.sets.proofs.Views.{chosen}
 use Rattle.trial.specs.declared.Visit.{Visit}
 use Rattle.trial.specs.declared.Trial.{Trial}
 use Rattle.trial.specs.Jobs.{UsedRun}
 use Rattle.trial.specs.Trials.{Finds}
-use Rattle.trial.proofs.Known.{jobs-known, snapshot-behind, done-word}
+use Rattle.trial.proofs.Known.{snapshot-behind, done-word}
 use Rattle.trial.proofs.Finds.{found-counts, found-run, found-site, found-taken, found-pulled, found-read, found-reads, found-cache-at, found-snapshot-at, found-master-at, found-master, found-cache, found-snapshot}
 
 -- ---- by the store
@@ -163,28 +160,19 @@ module _ (l : List ℕ) (z : Counts) (r j : ℕ) (v : Visit) (t : Trial)
         rw (e, found-snapshot l z r j v t F)
         (place-beside z l (v .cache) (v .snapshot) _ (inl behind))
 
-    pub both-formed : So (placeFormed z (readPlace z m (v .snapshot)))
-        × So (placeFormed z (readPlace z m (v .cache)))
-    both-formed =
-        let at = found-master-at l z r j v t F in
-        let whole : So (placeFormed z master) = rw at (master-formed l z (F .form)) in
-        let part : So (placeFormed z cache) =
-        rw site-at (cache-formed l z (F .form) _ site-low) in (
-          rw snapshot-back (place-in z _ (jobs-known l z r (used .0) .plan .snapshot .place)),
-          rw (cache-back, as-fetched) (place-in z _ (fetched-formed z master cache
-              (stepStart s r j) (place-out z master whole) (place-out z cache part))),
-        )
-
     pub merged : putPlace z m (v .snapshot) (choice (testBit (t .pulled))
-        (λ k. merge (readPlace z m (v .snapshot) k) (readPlace z m (v .cache) k))
+        (λ k. merge (z .writers) k (readPlace z m (v .snapshot) k) (readPlace z m (v .cache) k))
         (readPlace z m (v .snapshot)))
         ≡ putPlace z m (v .snapshot) (stepSnapshot s r j)
     unfolding stepSnapshot pulled stepPull
     merged =
+        let old = stepBranch s r j .snapshot in
+        let new : Counts → Place Version =
+        λ y k. merge (y .writers) k (old k) (stepCache s r j k) in
         rw (snapshot-back, cache-back)
-        (chosen z m (v .snapshot) (t .pulled) (stepPull s r j)
-        (λ k. merge (stepBranch s r j .snapshot k) (stepCache s r j k))
-        (stepBranch s r j .snapshot)
+        (ap (λ (y : Counts). putPlace z m (v .snapshot) (choice (testBit (t .pulled)) (new y) old))
+        (sym counts)
+        ∙ chosen z m (v .snapshot) (t .pulled) (stepPull s r j) (new (s .counts)) old
         (found-pulled l z r j v t F
         ∙ ap (λ (y : Counts). maskBelow (y .keys) (stepPull s r j)) counts))
 

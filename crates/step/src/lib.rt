@@ -13,7 +13,7 @@ use trial::Tried;
 use trial::Visit;
 use trial::try_job;
 use version::copy_keys;
-use version::merge_keys;
+use version::merge::merge_keys;
 ghost use mathlib.Core.Path.{_≡_};
 ghost use mathlib.Core.Bool.{So};
 ghost use mathlib.Core.List.{[], _∷_};

@@ -1,5 +1,6 @@
 -- Where the versions and rows of a place lie, and what is read there.
--- key-..: the version of a key. row-in: a row. standing-word: two rows compared.
+-- key-..: the version of a key. row-in: a row. leaders-..: its mask. standing-word: two rows
+-- compared.
 -- Assumes nothing.
 use mathlib.Core.Path.{_≡_, ap}
 use mathlib.Core.List.{List}
@@ -10,9 +11,10 @@ use Rattle.words.specs.Words.{Apart}
 use Rattle.clock.specs.Clock.{standing, clockAt}
 use Rattle.clock.proofs.Standings.{standing-same}
 use Rattle.sizes.specs.declared.Counts.{Counts}
-use Rattle.sizes.specs.Bounds.{versionSize, keyAt, rowAt}
+use Rattle.sizes.specs.Bounds.{versionLimit, leadersOffset, pastOffset, versionSize, keyAt, rowAt}
 use Rattle.sizes.proofs.Offsets.{largest, key-lies, row-lies}
-use Rattle.layout.specs.Reading.{readPlace}
+use Rattle.layout.specs.Reading.{readWord, readVersion, readPlace}
+use Rattle.layout.proofs.Places.{place-at}
 use Rattle.layout.proofs.Readings.{row-word}
 use Rattle.version.specs.Places.{Area, Areas, Merges}
 
@@ -27,6 +29,19 @@ module _ (len : ℕ) (z : Counts) (at : ℕ) (A : Area len z at) where
   pub issue-in : (k : ℕ) → k < z .keys → keyAt z at k < len
   unfolding versionSize
   issue-in k h = omega (arith, key-in k h)
+
+  -- The word behind it, the mask of leading writers.
+  pub leaders-in : (k : ℕ) → k < z .keys
+      → (keyAt z at k + leadersOffset < versionLimit) × (keyAt z at k + leadersOffset < len)
+  unfolding versionSize
+  leaders-in k h =
+      let m = largest z (A .ranged) in
+      let e = key-lies z at k h in (omega (arith, A .low), omega (arith, key-in k h))
+
+pub leaders-word : (z : Counts) (l : List ℕ) (at k : ℕ) → k < z .keys
+    → readPlace z l at k .leaders ≡ readWord l (keyAt z at k + leadersOffset)
+unfolding readVersion
+leaders-word z l at k h = rw (place-at z l at k h)
 
 -- The versions of one key in two places.
 pub key-apart : (len : ℕ) (z : Counts) (dst src : ℕ) → Areas len z dst src → (k : ℕ) → k < z .keys
@@ -54,15 +69,17 @@ standing-word z l a k b t d h i j =
 
 -- The version of a key and the past of the same key in another place.
 pub key-merges : (len : ℕ) (z : Counts) (dst src : ℕ) → Areas len z dst src → (k : ℕ) → k < z .keys
-    → Merges len z (keyAt z dst k) (keyAt z src k + 1)
+    → Merges len z (keyAt z dst k) (keyAt z src k + pastOffset)
 unfolding versionSize
 key-merges len z dst src A k h =
     let m = largest z (A .target .ranged) in
     let a = key-lies z dst k h in
+    let b = key-lies z src k h in
     let P = key-apart len z dst src A k h in
     record {
       ranged = A .target .ranged;
       low = omega (arith, A .target .low);
+      near = omega (arith, A .source .low);
       target = P .dst-in;
       source = omega (arith, P .src-in);
       apart = ⊎-elim (λ l. inl (omega arith)) (λ l. inr (omega arith)) (P .apart);

@@ -1,8 +1,7 @@
 -- Loops over the keys of a place: what the steps for all keys in turn leave.
 -- copyStep, clearStep, mergeStep: the step for one key. ..-keys: all of them.
 -- Assumes nothing.
-use mathlib.Core.Path.{_≡_, refl, sym, ap, ap₂, _∙_}
-use mathlib.Core.Bool.{cond, So}
+use mathlib.Core.Path.{_≡_, refl, ap₂, _∙_}
 use mathlib.Core.List.{List}
 use mathlib.Core.Logic.{inl, inr, ⊎-elim}
 use Prim.Native.Nat.{ℕ, _<_}
@@ -11,13 +10,10 @@ use Rattle.words.specs.Tests.{Items}
 use Rattle.words.specs.Numbers.{foldBelow}
 use Rattle.sizes.specs.declared.Counts.{Counts}
 use Rattle.model.specs.Algebra.{Place}
-use Rattle.model.specs.Version.{Version, unheld, larger, merge}
-use Rattle.model.specs.Form.{placeFormed}
+use Rattle.model.specs.Version.{Version, unheld, merge}
 use Rattle.layout.specs.Reading.{readPlace}
-use Rattle.layout.proofs.Parts.{FitVersion, place-laws}
-use Rattle.model.proofs.Formed.{place-out}
-use Rattle.layout.proofs.Places.{place-at, place-ext, place-run, key-back, key-beside}
-use Rattle.layout.proofs.Merges.{merge-larger}
+use Rattle.layout.proofs.Parts.{FitVersion}
+use Rattle.layout.proofs.Places.{place-at, place-run, key-back, key-beside}
 use Rattle.version.specs.Places.{putKey, choice, Area, Areas}
 use Rattle.layout.specs.Stored.{putPlace}
 
@@ -28,7 +24,8 @@ abbrev pub clearStep : Counts → ℕ → Items → ℕ → List ℕ → List �
 clearStep z at S k l = putKey z l at S k unheld
 
 abbrev pub mergeStep : Counts → ℕ → ℕ → Items → ℕ → List ℕ → List ℕ
-mergeStep z dst src S k l = putKey z l dst S k (larger (readPlace z l dst k) (readPlace z l src k))
+mergeStep z dst src S k l =
+    putKey z l dst S k (merge (z .writers) k (readPlace z l dst k) (readPlace z l src k))
 
 -- Until its turn comes, key k of both places is as it was.
 module _ (z : Counts) (l : List ℕ) (dst src : ℕ) (A : Areas (length l) z dst src)
@@ -63,24 +60,11 @@ module _ (z : Counts) (l : List ℕ) (dst src : ℕ) (S : Items) (A : Areas (len
       place-run z l dst S (λ k m. readPlace z m src k) q (A .target .fits)
       (source-kept z l dst src A)
 
-  larger-keys : foldBelow (z .keys) (mergeStep z dst src S) l
-      ≡ putPlace z l dst (choice S (λ k. larger (p k) (q k)) p)
-  larger-keys =
-      place-run z l dst S (λ k m. larger (readPlace z m dst k) (readPlace z m src k))
-      (λ k. larger (p k) (q k)) (A .target .fits)
-      (λ k r h F e. ap₂ larger (target-kept z l dst src A k r h F e)
+  pub merge-keys : foldBelow (z .keys) (mergeStep z dst src S) l
+      ≡ putPlace z l dst (choice S (λ k. merge (z .writers) k (p k) (q k)) p)
+  merge-keys =
+      place-run z l dst S
+      (λ k m. merge (z .writers) k (readPlace z m dst k) (readPlace z m src k))
+      (λ k. merge (z .writers) k (p k) (q k)) (A .target .fits)
+      (λ k r h F e. ap₂ (merge (z .writers) k) (target-kept z l dst src A k r h F e)
       (source-kept z l dst src A k r h F e))
-
-  -- In places that are well formed the larger version is the merge.
-  pub merge-keys : So (placeFormed z p) → So (placeFormed z q)
-      → foldBelow (z .keys) (mergeStep z dst src S) l
-      ≡ putPlace z l dst (choice S (λ k. merge (p k) (q k)) p)
-  merge-keys f g =
-      let L = place-laws z in
-      let same : (k : ℕ) → k < z .keys → larger (p k) (q k) ≡ merge (p k) (q k) =
-      λ k h. sym (merge-larger z k (p k) (q k) (L .fits l dst .each k h) (L .fits l src .each k h)
-      (place-out z p f k h) (place-out z q g k h)) in
-      larger-keys
-      ∙ place-ext z l dst (choice S (λ k. larger (p k) (q k)) p)
-      (choice S (λ k. merge (p k) (q k)) p)
-      (λ k h. ap (λ (v : Version). cond (S k) v (p k)) (same k h))

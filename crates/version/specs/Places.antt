@@ -10,14 +10,14 @@ use Prim.Native.Nat.{ℕ, _+_, _≤_, _<_}
 use Rattle.words.specs.Tests.{Items}
 use Rattle.clock.specs.Clock.{Clock}
 use Rattle.sizes.specs.declared.Counts.{Counts}
-use Rattle.sizes.specs.Bounds.{placeLimit, Ranged, pastSize, versionSize, placeSize, keyAt}
+use Rattle.sizes.specs.Bounds.{placeLimit, versionLimit, pastOffset, Ranged, pastSize, versionSize, placeSize, keyAt}
 use Rattle.model.specs.Algebra.{Place}
 use Rattle.model.specs.Version.{Version}
 use Rattle.layout.specs.Stored.{putVersion}
 
--- The version with an issue number and a past.
-abbrev pub versionOf : ℕ → (ℕ → Clock) → Version
-versionOf n p = record { issue = n; past = p }
+-- The version with an issue number, a mask of leading writers and a past.
+abbrev pub versionOf : ℕ → ℕ → (ℕ → Clock) → Version
+versionOf n m p = record { issue = n; leaders = m; past = p }
 
 -- The words l with version v stored for key k of the place at an index, if k is in the set.
 abbrev pub putKey : Counts → List ℕ → ℕ → Items → ℕ → Version → List ℕ
@@ -42,7 +42,8 @@ pub record Areas (len : ℕ) (z : Counts) (dst src : ℕ) : Type 0 where
 -- The version at an index, and a past that is its own or lies beside it.
 pub record Merges (len : ℕ) (z : Counts) (dst past : ℕ) : Type 0 where
   pub ranged : Ranged z
-  pub low : dst < 2000000
+  pub low : dst < versionLimit
+  pub near : past < versionLimit
   pub target : dst + versionSize z ≤ len
   pub source : past + pastSize z ≤ len
-  pub apart : (dst < past) ⊎ (past + pastSize z ≤ dst)
+  pub apart : (dst + pastOffset ≤ past) ⊎ (past + pastSize z ≤ dst)

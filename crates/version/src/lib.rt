@@ -1,27 +1,26 @@
 // Versions in the words of a buffer: read, copied, cleared, merged.
+pub mod merge;
+
 use clock::compare;
 use clock::covering;
 use clock::merge_into;
 use clock::present;
 use masks::has;
 use masks::with_if;
-use numbers::IssueNumber;
-use numbers::set_version_issue;
 use numbers::version_issue;
 use sizes::Counts;
+use sizes::past::VersionOffset;
 use words::copy;
 use words::zero;
 ghost use mathlib.Core.Path.{_≡_};
-ghost use mathlib.Core.Bool.{So};
 ghost use Prim.Native.Nat.{_+_, _≤_, _<_};
 ghost use lib.ListN.{length};
 ghost use Rattle.words.specs.Words.{Apart};
 ghost use Rattle.masks.specs.Mask.{testBit, maskBelow};
 ghost use Rattle.sizes.specs.Bounds.{placeLimit, Ranged, pastSize, versionSize, keyAt, rowAt};
-ghost use Rattle.model.specs.Version.{unheld, held, dependency, supersedes, larger, joinPasts, merge};
-ghost use Rattle.model.specs.Form.{placeFormed};
+ghost use Rattle.model.specs.Version.{unheld, held, dependency, supersedes, joinPasts};
 ghost use Rattle.layout.specs.Reading.{readPast, readVersion, readPlace};
-ghost use Rattle.version.specs.Places.{versionOf, putKey, choice, Area, Areas, Merges};
+ghost use Rattle.version.specs.Places.{putKey, choice, Area, Areas};
 ghost use Rattle.layout.specs.Stored.{putPast, putVersion, putPlace};
 
 // Where row d of key k begins in the place at an index.
@@ -43,6 +42,16 @@ pub fn held(words: &[u32], z: Counts, at: usize, k: usize) -> bool
     let version = z.key_at(at, k);
     let number = version_issue(words, version);
     number.is_held()
+}
+
+// The mask of leading writers of key k of the place.
+pub fn leaders_of(words: &[u32], z: Counts, at: usize, k: usize) -> u32
+    requires { ⌜ Area (length (now words)) z at ⌝ }
+    requires { ⌜ k < z .keys ⌝ }
+    ensures { λ r. ⌜ r ≡ readPlace z (now (words .entry)) at k .leaders ⌝ }
+{
+    let version = z.key_at(at, k);
+    words[version + VersionOffset::LEADERS]
 }
 
 // Whether key k of the place needs key d.
@@ -121,21 +130,6 @@ pub fn merge_past(words: &mut [u32], z: Counts, to: usize, from: usize)
     merge_into(words, to, from, n);
 }
 
-// Merges a version into the one at dst: an issue number, and the past at an index. The number and
-// each count become the larger of the two.
-pub fn merge_version(words: &mut [u32], z: Counts, dst: usize, number: IssueNumber, past: usize)
-    requires { ⌜ Merges (length (now words)) z dst past ⌝ }
-    ensures { λ _. ⌜ now (words .exit) ≡ putVersion z (now (words .entry)) dst
-        (larger (readVersion z (now (words .entry)) dst)
-        (versionOf (number .0) (readPast z (now (words .entry)) past))) ⌝ }
-{
-    let old = version_issue(words, dst);
-    let new = old.later(number);
-    set_version_issue(words, dst, new);
-    let own = z.row_at(dst, 0);
-    merge_past(words, z, own, past);
-}
-
 // Copies key k of the place at src to the place at dst, if it is in the mask.
 fn copy_if(words: &mut [u32], z: Counts, dst: usize, src: usize, mask: u32, k: usize)
     requires { ⌜ Areas (length (now words)) z dst src ⌝ }
@@ -188,41 +182,6 @@ pub fn clear_keys(words: &mut [u32], z: Counts, at: usize, mask: u32)
     let mut k = 0;
     while k < n {
         clear_if(words, z, at, mask, k);
-        k += 1;
-    }
-}
-
-// Merges key k of the place at src into the place at dst, if it is in the mask.
-fn merge_if(words: &mut [u32], z: Counts, dst: usize, src: usize, mask: u32, k: usize)
-    requires { ⌜ Areas (length (now words)) z dst src ⌝ }
-    requires { ⌜ k < z .keys ⌝ }
-    ensures { λ _. ⌜ now (words .exit) ≡ putKey z (now (words .entry)) dst (testBit mask) k
-        (larger (readPlace z (now (words .entry)) dst k)
-        (readPlace z (now (words .entry)) src k)) ⌝ }
-{
-    if has(mask, k as u32) {
-        let d = z.key_at(dst, k);
-        let s = z.key_at(src, k);
-        let number = version_issue(words, s);
-        let past = row_of(z, src, k, 0);
-        merge_version(words, z, d, number, past);
-    }
-}
-
-// Merges the keys of the mask from the place at src into the place at dst. In a place that is
-// well formed an unheld version has only zero words: the larger words are the merge.
-pub fn merge_keys(words: &mut [u32], z: Counts, dst: usize, src: usize, mask: u32)
-    requires { ⌜ Areas (length (now words)) z dst src ⌝ }
-    requires { ⌜ So (placeFormed z (readPlace z (now words) dst))
-        × So (placeFormed z (readPlace z (now words) src)) ⌝ }
-    ensures { λ _. ⌜ now (words .exit) ≡ putPlace z (now (words .entry)) dst
-        (choice (testBit mask) (λ k. merge (readPlace z (now (words .entry)) dst k)
-        (readPlace z (now (words .entry)) src k)) (readPlace z (now (words .entry)) dst)) ⌝ }
-{
-    let n = z.keys;
-    let mut k = 0;
-    while k < n {
-        merge_if(words, z, dst, src, mask, k);
         k += 1;
     }
 }

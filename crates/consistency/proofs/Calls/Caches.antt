@@ -23,22 +23,21 @@ use Rattle.consistency.specs.Roles.{roleOf}
 use Rattle.consistency.specs.Trace.{ReadSet, finishBy, finish}
 use Rattle.consistency.proofs.Simulation.{Related, fetched-rel, evicted-rel}
 use Rattle.consistency.proofs.ClosingSets.{fetched-closed, evicted-closed}
-use Rattle.consistency.proofs.Counting.{CountedAs}
 use Rattle.consistency.proofs.Invariant.{Inv}
 use Rattle.consistency.proofs.Laws.{Laws, laws-unless}
-use Rattle.consistency.proofs.Following.{by-counts, now-simulates, master-closed, master-related, cache-related, cache-part}
+use Rattle.consistency.proofs.Following.{Stands, by-counts, now-simulates, master-closed, master-related, cache-related, cache-part}
 use Rattle.consistency.proofs.Changing.{inv-cache}
 
 -- Cache o changed, in the book by a rule that takes the counts.
 cache-next : {s : Store} {b : Book} {f : ℕ → List ReadSet} (o : ℕ) (p : Place Version)
     (q : Counts → Place Copy) → Inv s b f
-    → Related (s .counts .keys) (CountedAs (s .counts .keys) (b .history)) p (q (s .counts))
+    → Related (s .counts .keys) (Stands s b) p (q (s .counts))
     → ClosedAll (s .counts .keys) (b .history) (q (s .counts))
     → Inv (withCache s o p) (withBookCaches b (putAt (b .cache) o (q (b .counts)))) f
 cache-next {s} {b} {f} o p q v rel closed =
     by-counts (v .follows)
     (λ z. Inv (withCache s o p) (withBookCaches b (putAt (b .cache) o (q z))) f)
-    (inv-cache v o p (q (s .counts)) (λ k l. rel k l .0) closed)
+    (inv-cache v o p (q (s .counts)) rel closed)
 
 pub fetch-laws : (o k : ℕ) (s : Store) → Fine s → Laws (fetch o k) s (fetchRule o k s)
 unfolding fetchRule fetchDone fetchCause bookRule bookFetch finish finishBy roleOf withCache

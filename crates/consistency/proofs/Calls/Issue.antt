@@ -31,9 +31,9 @@ use Rattle.consistency.specs.Trace.{ReadSet, finishBy, finish}
 use Rattle.consistency.proofs.Closing.{closed-grow}
 use Rattle.consistency.proofs.Invariant.{WriterFollows, Follows, Inv, Moves}
 use Rattle.consistency.proofs.Laws.{Laws, laws-unless}
-use Rattle.consistency.proofs.Following.{free-follows, follows-run}
+use Rattle.consistency.proofs.Following.{cache-related, free-follows, follows-run}
 use Rattle.consistency.proofs.Changing.{nothing-read, inv-next, inv-anew}
-use Rattle.consistency.proofs.Issuing.{place-grow, run-grow, issuedCopies, issued-every, issued-writes, newPast-entered, issuedMaster-counted}
+use Rattle.consistency.proofs.Issuing.{place-grow, run-grow, issuedCopies, issued-every, issued-writes, newPast-entered, issuedMaster-stands}
 
 -- ---- the book with the new issue, the run not yet freed
 
@@ -104,21 +104,25 @@ module _ (s : Store) (b : Book) (F : Follows s b) (r w S : ℕ) (hr : r < s .cou
   issued-follows : Follows (savedStore s r w S) (issuedBook r w S b)
   unfolding savedStore issuedBook withLast withWriter withMaster entry
   issued-follows =
+      let W = s .counts .writers in
       let K = s .counts .keys in
+      let master = issuedMaster-stands s b F r w S hr hw issued-sound in
       let e = entry r w S b in
       let h = b .history in
       record {
         counts = F .counts;
         last = omega (arith, F .last);
         sound = issued-sound;
-        master = rw (← F .counts) (issuedMaster-counted s b F r w S hr hw);
+        master = rw (← F .counts) (λ k l. master k l .counts);
+        led-master = rw (← F .counts) (λ k l. master k l .led);
         every = rw (← F .counts) (issued-every K e h (b .master) (F .every));
         writes = rw (← F .counts) (issued-writes K e h (b .master) (F .writes));
-        cache = λ o l. place-grow K e h (F .closed o l) (F .cache o l);
+        cache = λ o l k i. place-grow W K e h (F .closed o l) (cache-related F o l) k i .counts;
+        led-cache = λ o l k i. place-grow W K e h (F .closed o l) (cache-related F o l) k i .led;
         closed = λ o l. closed-grow (F .closed o l) e;
         writer = λ v l.
             elim (ℕ-discrete v w) [ yes q ↦ writer-next v q | no q ↦ writer-same v l q ];
-        run = λ q l. run-grow K e h (F .run q l);
+        run = λ q l. run-grow W K e h (F .run q l);
       }
 
   issued-inv : (f : ℕ → List ReadSet) → Inv s b f
@@ -128,9 +132,10 @@ module _ (s : Store) (b : Book) (F : Follows s b) (r w S : ℕ) (hr : r < s .cou
   issued-inv f v =
       let t = savedStore s r w S in
       let c = issuedBook r w S b in
+      let W = s .counts .writers in
       let K = s .counts .keys in
       inv-next (withRun t r freeRun) (withBookRun c r noRun) (putAt f r []) r freeRun noRun v
-      (follows-run issued-follows r freeRun noRun (free-follows K (c .history)))
+      (follows-run issued-follows r freeRun noRun (free-follows W K (c .history)))
       refl refl refl hr (putAt-other f r []) (nothing-read K freeRun noRun f r)
 
 -- ---- the call
@@ -142,7 +147,8 @@ done-moves : (s : Store) (b : Book) (f : ℕ → List ReadSet) (r w S : ℕ) →
 unfolding issueDone issuedStore bookRule bookIssued finish finishBy roleOf
 done-moves s b f r w S v hr hw hS =
     test (eqb S 0)
-    (λ y. rw y (inv-anew v r freeRun noRun (free-follows (s .counts .keys) (b .history)) hr))
+    (λ y. rw y (inv-anew v r freeRun noRun
+    (free-follows (s .counts .writers) (s .counts .keys) (b .history)) hr))
     (λ n. rw (n, book-issued r w S b) (issued-inv s b (v .follows) r w S hr hw hS n f v))
 
 pub issue-laws : (r w S : ℕ) (s : Store) → Fine s → Laws (issue r w S) s (issueRule r w S s)

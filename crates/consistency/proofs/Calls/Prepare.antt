@@ -1,13 +1,16 @@
 -- The laws of prepare.
 -- copyCaches, copySnapshot, copyRun: the book's; book-prepare: they are.
 -- ..-related: the store's stand for them. ..-closed, caches-cuts: they are cuts.
+-- prepare-named: its merges name somebody.
 -- Assumes nothing.
 use mathlib.Core.Path.{_≡_, refl, sym, _∙_}
 use mathlib.Core.Bool.{false}
 use mathlib.Core.List.{List}
 use Prim.Native.Nat.{ℕ, _<_}
+use native.Mathlib.Omega.{arith}
 use Rattle.words.proofs.Bools.{clash}
 use Rattle.model.specs.Algebra.{Place}
+use Rattle.model.specs.Version.{versions}
 use Rattle.model.specs.Store.{Run, Site, Store, planned, siteWith, withCaches, withSites, withRun, withSnapshot}
 use Rattle.model.specs.Prepare.{preparedCaches, usesSite, sitesMerged, siteCaches, prepareCause, prepareCaches, prepareSnapshot, prepareDone, prepareRule}
 use Rattle.model.specs.Calls.{prepare}
@@ -19,13 +22,13 @@ use Rattle.history.specs.Book.{Book, BookRun, bookPrepare, bookRule, withBookRu
 use Rattle.history.proofs.Notions.{ClosedIn}
 use Rattle.consistency.specs.Roles.{roleOf}
 use Rattle.consistency.specs.Trace.{ReadSet, finishBy, finish}
+use Rattle.consistency.specs.Claim.{Named}
 use Rattle.consistency.proofs.Simulation.{Related}
 use Rattle.consistency.proofs.SimulationPrepare.{SitesBelow, RelatedSites, preparedCaches-rel, sitesMerged-rel}
 use Rattle.consistency.proofs.ClosingPrepare.{CutsWithin, sitesMerged-closed, preparedCaches-cuts}
-use Rattle.consistency.proofs.Counting.{CountedAs}
 use Rattle.consistency.proofs.Invariant.{RunFollows, Follows, Inv, Moves}
 use Rattle.consistency.proofs.Laws.{works, Laws, laws-unless}
-use Rattle.consistency.proofs.Following.{now-simulates, master-closed, master-related, cache-related, cache-part}
+use Rattle.consistency.proofs.Following.{Stands, now-simulates, now-named, master-closed, master-related, cache-related, cache-part}
 use Rattle.consistency.proofs.Changing.{HasRead, inv-caches, inv-run}
 
 -- ---- the book's caches and run r after prepare, with the store's counts and jobs
@@ -64,7 +67,7 @@ module _ {s : Store} {b : Book} {r : ℕ} (fine : Fine s) (F : Follows s b) (A :
       valid-out (s .counts) j (s .run r .job j) (jobs .valid j l) .site
 
   caches-related : RelatedSites (s .counts .sites) (s .counts .keys)
-      (CountedAs (s .counts .keys) (b .history)) (prepareCaches s r) (copyCaches s b r)
+      (Stands s b) (prepareCaches s r) (copyCaches s b r)
   unfolding prepareCaches siteCaches copyCaches
   caches-related =
       let a = s .run r in
@@ -80,8 +83,8 @@ module _ {s : Store} {b : Book} {r : ℕ} (fine : Fine s) (F : Follows s b) (A :
       (master-closed F) (s .run r .job) (s .run r .jobs) (b .cache)
       (λ o l. (F .closed o l, cache-part F o l))
 
-  snapshot-related : Related (s .counts .keys) (CountedAs (s .counts .keys) (b .history))
-      (prepareSnapshot s r) (copySnapshot s b r)
+  snapshot-related : Related (s .counts .keys) (Stands s b) (prepareSnapshot s r)
+      (copySnapshot s b r)
   unfolding prepareSnapshot copySnapshot
   snapshot-related =
       let a = s .run r in
@@ -89,6 +92,25 @@ module _ {s : Store} {b : Book} {r : ℕ} (fine : Fine s) (F : Follows s b) (A :
       let plan = planned (a .jobs) (a .job) in
       sitesMerged-rel (now-simulates F) (s .counts .sites) sites sites plan plan
       (prepareCaches s r) (copyCaches s b r) (λ _ _. refl) (λ _ _. refl) caches-related
+
+  -- The merges that it takes, office after office, name somebody.
+  pub prepare-named : (o k : ℕ) → o < s .counts .sites → k < s .counts .keys
+      → Named (s .counts .writers) k
+      (sitesMerged (versions (s .counts .writers)) o (usesSite (s .run r .jobs) (s .run r .job))
+      (planned (s .run r .jobs) (s .run r .job)) (prepareCaches s r) k)
+      (prepareCaches s r o k)
+  prepare-named o k l h =
+      let a = s .run r in
+      let sites = usesSite (a .jobs) (a .job) in
+      let plan = planned (a .jobs) (a .job) in
+      let K = s .counts .keys in
+      let sofar = sitesMerged-rel (now-simulates F) o sites sites plan plan (prepareCaches s r)
+      (copyCaches s b r) (λ _ _. refl) (λ _ _. refl) (λ i m. caches-related i (omega arith)) in
+      let W = s .counts .writers in
+      now-named F k (sitesMerged (versions W) o sites plan (prepareCaches s r) k)
+      (prepareCaches s r o k)
+      (sitesMerged (copies K (b .history)) o sites plan (copyCaches s b r) k)
+      (copyCaches s b r o k) (sofar k h) (caches-related o l k h)
 
   snapshot-closed : ClosedIn (s .counts .keys) (b .history)
       (planned (s .run r .jobs) (s .run r .job)) (copySnapshot s b r)
@@ -99,7 +121,7 @@ module _ {s : Store} {b : Book} {r : ℕ} (fine : Fine s) (F : Follows s b) (A :
       (planned (a .jobs) (a .job)) (copyCaches s b r) (s .counts .sites)
       (λ o l. caches-cuts o l .0)
 
-  run-follows : RunFollows (s .counts .keys) (b .history)
+  run-follows : RunFollows (s .counts .writers) (s .counts .keys) (b .history)
       (withSnapshot (s .run r) (prepareSnapshot s r)) (copyRun s b r)
   unfolding withSnapshot copyRun
   run-follows = record {
@@ -108,7 +130,8 @@ module _ {s : Store} {b : Book} {r : ℕ} (fine : Fine s) (F : Follows s b) (A :
     branch = record {
       read = F .run r (A .run) .branch .read;
       low = F .run r (A .run) .branch .low;
-      snapshot = λ k l. snapshot-related k l .0;
+      snapshot = λ k l. snapshot-related k l .counts;
+      led = λ k l. snapshot-related k l .led;
       closed = snapshot-closed;
     };
   }
@@ -135,7 +158,7 @@ done-moves {s} {b} {f} {r} fine v A =
     let after = withSnapshot (s .run r) (prepareSnapshot s r) in
     let sites : ℕ → Site = λ o. siteWith (s .site o) (prepareCaches s r o) in
     let w = inv-caches v sites (copyCaches s b r)
-    (λ o l. (λ k h. caches-related fine F A o l k h .0, caches-cuts fine F A o l .0)) in
+    (λ o l. (caches-related fine F A o l, caches-cuts fine F A o l .0)) in
     rw (book-prepare s b r F (A .run))
     (inv-run w f r after (copyRun s b r) (run-follows fine F A) (A .run) (λ _ _. refl)
     (none-read fine v A after))

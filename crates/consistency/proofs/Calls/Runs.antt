@@ -38,8 +38,8 @@ open-laws r l s F =
     let low = leb-gt _ _ (x .0) in
     record {
       moves = λ b f v.
-          inv-anew v r _ _ (empty-follows (s .counts .keys) (b .history) openState
-          (listedCount l) 0 (listedJobs l)) low;
+          inv-anew v r _ _ (empty-follows (s .counts .writers) (s .counts .keys) (b .history)
+          openState (listedCount l) 0 (listedJobs l)) low;
       turns = record {
         run = openedRun l;
         how = (open-free r s F low (no-lack _ 4 _ (omega arith) (x .1) .0), refl);
@@ -52,7 +52,8 @@ unfolding dropRule dropDone dropCause runCause withRun bookRule finish finishBy 
 drop-laws r s _ =
     laws-unless (dropRun r) s (dropCause s r) (dropDone s r) (λ e. record {
       moves = λ b f v.
-          inv-anew v r freeRun noRun (free-follows (s .counts .keys) (b .history))
+          inv-anew v r freeRun noRun
+          (free-follows (s .counts .writers) (s .counts .keys) (b .history))
           (leb-gt _ _ (no-cause _ 3 _ (omega arith) e .0));
       turns = record { run = freeRun; how = refl; put = refl };
     })

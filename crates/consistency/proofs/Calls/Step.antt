@@ -52,7 +52,8 @@ inv-state {s} {b} {f} v r n l =
     let a = withState (s .run r) n in
     rw (same-book b r) at (inv-run v f r a (b .run r) follows l (λ _ _. refl) has)
   where
-    follows : RunFollows (s .counts .keys) (b .history) (withState (s .run r) n) (b .run r)
+    follows : RunFollows (s .counts .writers) (s .counts .keys) (b .history)
+        (withState (s .run r) n) (b .run r)
     follows =
         let G = v .follows .run r l in
         record {
@@ -78,7 +79,8 @@ module _ {s : Store} {b : Book} {f : ℕ → List ReadSet} {r j : ℕ} (fine : F
       withBookRun (withBookCaches b (putAt (b .cache) (stepSite s r j) (copyCache s b r j))) r
       (copyRun s b r j)
 
-  stepped-follows : RunFollows (s .counts .keys) (b .history) (steppedRun s r j) (copyRun s b r j)
+  stepped-follows : RunFollows (s .counts .writers) (s .counts .keys) (b .history)
+      (steppedRun s r j) (copyRun s b r j)
   unfolding withJobDone copyRun stepReads stepPlan
   stepped-follows =
       let F = v .follows in
@@ -96,7 +98,8 @@ module _ {s : Store} {b : Book} {f : ℕ → List ReadSet} {r j : ℕ} (fine : F
                 | inl q ↦ G .low k q
                 | inr q ↦ test-low reads (s .counts .keys) k job-reads q
               ];
-          snapshot = λ k h. stepSnapshot-related fine F a k h .0;
+          snapshot = λ k h. stepSnapshot-related fine F a k h .counts;
+          led = λ k h. stepSnapshot-related fine F a k h .led;
           closed = stepSnapshot-closed fine F a;
         };
       }
@@ -151,7 +154,7 @@ module _ {s : Store} {b : Book} {f : ℕ → List ReadSet} {r j : ℕ} (fine : F
       let F = v .follows in
       let xs = readNow r j next nextBook ∷ f r in
       let w = inv-cache v (stepSite s r j) (stepCache s r j) (copyCache s b r j)
-      (λ k h. stepCache-related fine F a k h .0) (stepCache-closed fine F a) in
+      (stepCache-related fine F a) (stepCache-closed fine F a) in
       inv-run w (putAt f r xs) r (steppedRun s r j) (copyRun s b r j) stepped-follows (a .run-in)
       (putAt-other f r xs) (λ x i. read x (rw (putAt-same f r xs) at i))
     where

@@ -11,7 +11,7 @@ use Rattle.layout.specs.Buffer.{written}
 use Rattle.form.proofs.Known.{form-long, form-area, master-found}
 use Rattle.issue.specs.Saves.{Takes, Saves}
 use Rattle.issue.proofs.Areas.{takes-area, saves-area}
-use Rattle.issue.proofs.Chain.{savable-in, saved-number, countedStore, writer-done, kept-formed, master-done}
+use Rattle.issue.proofs.Chain.{savable-in, saved-number, countedStore, writer-done, master-done}
 use Rattle.issue.proofs.save_keys.Statement.{statement}
 use Rattle.issue.proofs.save_keys.Tie as tie
 
@@ -122,18 +122,7 @@ merge-saved-requires c κs =
     let v = c .before .before .before in
     let o = v .before .before .before .before in
     let n = o .before .before in
-    let x = n .before .before .before .before .before in
-    let s = x .before .before .before in
-    let a = s .args in
-    let R = range n in (
-      rw (v .save-writer .kept .0 ∙ o .set-last-issue .kept .0) (saves n),
-      (
-        kept-formed (a .words .now) (a .z) (s .pre .0) (a .r) (a .w) (a .mask) (R .0) (R .1)
-            (R .2) _ _ (master-found (a .z) (x .before .areas .result) (x .before .areas .ensures))
-            (counted v),
-        omega (arith, n .next-numbers .ensures .0),
-      ),
-    )
+    (rw (v .save-writer .kept .0 ∙ o .set-last-issue .kept .0) (saves n), range n .1)
 
 same-length : tie.Need-same-length
 same-length c = search needs

@@ -9,6 +9,7 @@ use mathlib.Core.List.{List}
 use Prim.Native.Nat.{ℕ, _+_, _≤_, _<_, _^_}
 use native.Mathlib.Omega.{arith}
 use lib.Dec.{eqb}
+use lib.Pow.{pow-lt, pow-pos}
 use Rattle.words.proofs.Bools.{test, and-false-right, leb-gt, le-leb, eq-eqb, ne-eqb}
 use Rattle.words.proofs.Numbers.{fold-keeps}
 use Rattle.masks.specs.Mask.{testBit}
@@ -25,7 +26,7 @@ use Rattle.model.proofs.Outcomes.{no-cause}
 use Rattle.layout.proofs.Parts.{FitPast, FitVersion, FitPlace}
 use Rattle.layout.proofs.Whole.{FitStore}
 use Rattle.layout.proofs.Fit.{fit-free, fit-merge, past-out, past-in, place-fit, fit-last, fit-master, fit-writer, fit-run}
-use Rattle.model.proofs.Formed.{PlaceFormed, VersionFormed, version-held, version-merge, Formed, well-out, formed-last, formed-master, formed-writer, formed-run}
+use Rattle.model.proofs.Formed.{PlaceFormed, VersionFormed, version-held, version-merge, Formed, well-out, formed-last, formed-master, formed-writer, formed-run, leaders-in}
 use Rattle.model.proofs.Plans.{free-formed}
 use Rattle.layout.proofs.Follow.{Fine}
 use Rattle.layout.proofs.Kept.{Kept, kept-done, kept-unless}
@@ -77,20 +78,20 @@ module _ (s : Store) (r w S : ℕ) (F : Fine s) (hr : r < s .counts .runs)
 
   -- The version that is saved.
   abbrev new : Version
-  new = newVersion (s .last + 1) (newPast s r w S)
+  new = newVersion (s .last + 1) w (newPast s r w S)
 
   version-fits : FitVersion (s .counts) new
   unfolding newVersion
   version-fits = record { past = past-fits }
 
-  master-fits : FitPlace (s .counts) (issuedMaster S new (s .master))
+  master-fits : FitPlace (s .counts) (issuedMaster (s .counts .writers) S new (s .master))
   unfolding issuedMaster
   master-fits =
       let z = s .counts in
       let old = F .fits .master in
       record {
         each = λ k h. test (testBit S k)
-            (λ t. rw t (fit-merge z (s .master k) new (old .each k h) version-fits))
+            (λ t. rw t (fit-merge z k (s .master k) new (old .each k h) version-fits))
             (λ t. rw t (old .each k h));
         rest = λ k h. rw (test-high S (z .keys) k hS h) (old .rest k h);
       }
@@ -101,9 +102,10 @@ module _ (s : Store) (r w S : ℕ) (F : Fine s) (hr : r < s .counts .runs)
   own-row k t =
       let W = s .counts .writers in
       version-held (s .counts) k new (le-leb 1 (s .last + 1) (omega arith))
+      (leaders-in W (2 ^ w) (pow-pos w) (pow-lt hw))
       (present-intro W (newPast s r w S k) w hw (rw (t, eq-eqb w w refl) (omega arith)))
 
-  master-formed : PlaceFormed (s .counts) (issuedMaster S new (s .master))
+  master-formed : PlaceFormed (s .counts) (issuedMaster (s .counts .writers) S new (s .master))
   unfolding issuedMaster
   master-formed k h =
       let z = s .counts in
@@ -117,7 +119,7 @@ module _ (s : Store) (r w S : ℕ) (F : Fine s) (hr : r < s .counts .runs)
       let z = s .counts in
       let n = s .last + 1 in
       let x : Writer = record { count = s .writer w .count + 1; past = newPast s r w S } in
-      let m = issuedMaster S new (s .master) in
+      let m = issuedMaster (z .writers) S new (s .master) in
       let s₁ = withLast s n in
       let s₂ = withWriter s₁ w x in
       let s₃ = withMaster s₂ m in

@@ -20,7 +20,7 @@ use Rattle.model.specs.Store.{Job, Run, Site, Store, emptyPlace, planned, withS
 use Rattle.model.specs.Form.{runFormed}
 use Rattle.model.specs.Outcome.{allowed, prepareRow, runCause}
 use Rattle.model.specs.Prepare.{jobStart, fetchReads, preparedCaches, usesSite, sitesMerged, siteCaches, prepareCause, prepareCaches, prepareSnapshot, prepareDone, prepareRule}
-use Rattle.model.proofs.Merges.{merge-idem}
+use Rattle.model.proofs.Merges.{held-unheld, merge-unheld-left}
 use Rattle.model.proofs.Outcomes.{no-cause, no-lack, allowed-used}
 use Rattle.model.proofs.DoneReads.{doneReads-none}
 use Rattle.layout.proofs.Codec.{FitMany}
@@ -77,25 +77,24 @@ prepared z master job n cache M J C =
 
 -- ---- the snapshot
 
-held-unheld : held unheld ≡ false
-unfolding held
-held-unheld = refl
-
 module _ (z : Counts) (sites plan : Items) (cache : ℕ → Place Version) (C : Caches z cache) where
   merged : Place Version
   merged = sitesMerged (versions (z .writers)) (z .sites) sites plan cache
 
   -- What holds of an unheld version, and of a merge with a cache's, holds of each version.
   merged-all : (P : Version → Type 0) (k : ℕ) → P unheld
-      → ((o : ℕ) (v : Version) → o < z .sites → So (plan k) → P v → P (merge v (cache o k)))
+      → ((o : ℕ) (v : Version) → o < z .sites → So (plan k) → P v → P
+      (merge (z .writers) k v (cache o k)))
       → P (merged k)
   unfolding merged sitesMerged
   merged-all P k base step =
-      fold-keeps P (z .sites) (λ o v. cond (sites o && plan k) (merge v (cache o k)) v)
+      fold-keeps P (z .sites) (λ o v. cond (sites o && plan k)
+      (merge (z .writers) k v (cache o k)) v)
       (λ o v l p. one o v l p (sites o) (plan k) (step o v l)) unheld base
     where
       one : (o : ℕ) (v : Version) → o < z .sites → P v → (a b : Bool)
-          → (So b → P v → P (merge v (cache o k))) → P (cond (a && b) (merge v (cache o k)) v)
+          → (So b → P v → P (merge (z .writers) k v (cache o k))) → P
+          (cond (a && b) (merge (z .writers) k v (cache o k)) v)
       one o v l p true true f = f refl p
       one o v l p true false f = p
       one o v l p false b f = p
@@ -103,9 +102,10 @@ module _ (z : Counts) (sites plan : Items) (cache : ℕ → Place Version) (C : 
   merged-fits : FitPlace z merged
   merged-fits = record {
     each = λ k h. merged-all (FitVersion z) k (fit-unheld z)
-        (λ o v l _ F. fit-merge z v (cache o k) F (C .each o l .fits .each k h));
+        (λ o v l _ F. fit-merge z k v (cache o k) F (C .each o l .fits .each k h));
     rest = λ k h. merged-all (λ (v : Version). v ≡ unheld) k refl
-        (λ o v l _ e. rw (e, C .each o l .fits .rest k h) (merge-idem unheld));
+        (λ o v l _ e. rw (e, C .each o l .fits .rest k h)
+        (merge-unheld-left (z .writers) k unheld unheld held-unheld));
   }
 
   merged-formed : PlaceFormed z merged

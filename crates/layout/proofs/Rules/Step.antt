@@ -67,7 +67,7 @@ module _ (s : Store) (r j : ℕ) (F : Fine s) (A : Accepted s r j) where
   snapshot-fits =
       let z = s .counts in
       let old = stepBranch s r j .snapshot in
-      let both : Place Version = λ k. merge (old k) (stepCache s r j k) in
+      let both : Place Version = λ k. merge (z .writers) k (old k) (stepCache s r j k) in
       let C = pullSet (versions (z .writers)) (z .keys) (stepPlan s r j) old (stepCache s r j)
       (stepReads s r j) in
       fit-choice z C both old (fit-merged z old (stepCache s r j) (fitting .snapshot) cache-fits)

@@ -78,15 +78,20 @@ version-issue-requires c κs =
     rw (c .key-at .ensures, c .before .place-at .ensures)
     (issue-in _ _ _ (area e) _ (omega (arith, there e .key)))
 
+leaders-of-requires : tie.Need-leaders-of-requires
+leaders-of-requires c κs =
+    let p = c .before .before in
+    (rw (p .place-at .ensures) (area (p .before)), omega (arith, there (p .before) .key))
+
 row-of-requires : tie.Need-row-of-requires
 row-of-requires c κs =
-    let p = c .before .before in
+    let p = c .before .before .before in
     let A = area (p .before) in
     let h = there (p .before) .key in
     (A .ranged, (rw (p .place-at .ensures) (A .low), h, omega (arith, h)))
 
 areas-requires : tie.Need-areas-requires
-areas-requires c κs = area (c .before .before .before .before) .ranged
+areas-requires c κs = area (c .before .before .before .before .before) .ranged
 
 -- The master's place.
 master : (c : tie.Else1) → let n = c .before .before .before .before in
@@ -102,7 +107,7 @@ master c =
 row-of-requires-2 : tie.Need-row-of-requires-2
 unfolding sizesOf
 row-of-requires-2 c κs =
-    let e = c .before .before .before .before .before in
+    let e = c .before .before .before .before .before .before in
     let A = master e in
     let h = there e .key in
     (A .ranged, (rw (c .areas .ensures) (A .low), h, omega (arith, h)))
@@ -111,11 +116,12 @@ compare-requires : tie.Need-compare-requires
 unfolding sizesOf
 compare-requires c κs =
     let o = c .before .before in
-    let e = o .before .before .before .before in
+    let p = o .before .before .before .before in
+    let e = p .before in
     let h = there e .key in
     let own = row-in _ _ _ (area e) _ _ h h in
     let its = row-in _ _ _ (master e) _ _ h h in (
-      rw (o .row-of .ensures, o .before .before .before .place-at .ensures) own,
+      rw (o .row-of .ensures, p .place-at .ensures) own,
       rw (c .row-of2 .ensures, c .before .areas .ensures) its,
     )
 
@@ -124,7 +130,8 @@ unfolding ownRowAt sizesOf
 returns-2 c =
     let m = c .before in
     let o = m .before .before in
-    let n = o .before in
+    let g = o .before in
+    let n = g .before in
     let v = n .before in
     let e = v .before .before in
     let k = e .before .before in
@@ -141,7 +148,8 @@ returns-2 c =
       v .before .place-at .ensures,
     )
     (look-done (a .words .now) (a .place) (i .wide .result) (k .wide2 .result)
-    (z .counts .result) (z .counts .ensures) (s .pre) (there e) (c .compare .result)
+    (z .counts .result) (z .counts .ensures) (s .pre) (there e) (g .leaders-of .result)
+    (rw (← v .before .place-at .ensures) (g .leaders-of .ensures)) (c .compare .result)
     (rw (
       ← v .before .place-at .ensures,
       ← o .row-of .ensures,
@@ -161,6 +169,7 @@ look-spec =
     place-at-requires
     key-at-requires
     version-issue-requires
+    leaders-of-requires
     row-of-requires
     areas-requires
     row-of-requires-2

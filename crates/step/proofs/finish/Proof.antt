@@ -15,7 +15,7 @@ use Rattle.form.proofs.Known.{form-area}
 use Rattle.status.proofs.Statuses.{marked-words}
 use Rattle.trial.proofs.Known.{run-index, job-low}
 use Rattle.trial.proofs.Finds.{found-run}
-use Rattle.step.proofs.Stores.{fetch-areas, merge-areas, copied, both-formed, merged, step-left}
+use Rattle.step.proofs.Stores.{fetch-areas, merge-areas, copied, merged, step-left}
 use Rattle.step.proofs.finish.Statement.{statement}
 use Rattle.step.proofs.finish.Tie as tie
 
@@ -69,12 +69,8 @@ merge-keys-requires c κs =
     let n = c .before .before .before in
     let s = n .before .before .before .before .before .before in
     let a = s .args in
-    let l = a .words .now in (
-      rw (n .copy-keys .kept .0)
-          (merge-areas l (a .z) (a .r) (a .job) (a .visit) (a .trial) (s .pre)),
-      both-formed l (a .z) (a .r) (a .job) (a .visit) (a .trial) (s .pre)
-          (n .copy-keys .last .0) (fetched n),
-    )
+    rw (n .copy-keys .kept .0)
+    (merge-areas (a .words .now) (a .z) (a .r) (a .job) (a .visit) (a .trial) (s .pre))
 
 mark-done-requires : tie.Need-mark-done-requires
 mark-done-requires c κs =

@@ -1,13 +1,22 @@
--- `version_formed` tests the own row of a held version, and all rows of another.
+-- `version_formed` tests mask and own row of a held version, and all words of another.
 -- Assumes nothing.
-use mathlib.Core.Path.{sym, _∙_}
+use mathlib.Core.Path.{sym, ap₂, _∙_}
+use mathlib.Core.Bool.{Bool, _&&_}
+use Prim.Native.Nat.{ℕ}
 use borrow.Author.Needs.{needs}
-use Rattle.model.specs.Form.{versionFormed}
+use lib.Dec.{eqb}
+use Rattle.model.specs.Form.{zeroVersion, versionFormed}
 use Rattle.form.proofs.place.version_formed.Statement.{statement}
 use Rattle.form.proofs.place.version_formed.Tie as tie
 
+leaders-of-requires : tie.Need-leaders-of-requires
+leaders-of-requires c κs = search needs
+
 held-requires : tie.Need-held-requires
 held-requires c κs = search needs
+
+leaders-formed-requires : tie.Need-leaders-formed-requires
+leaders-formed-requires c κs = search needs
 
 has-row-requires : tie.Need-has-row-requires
 has-row-requires c κs = search needs
@@ -18,15 +27,33 @@ zero-rows-requires c κs = search needs
 returns : tie.Need-returns
 unfolding versionFormed
 returns c =
-    let e = c .before in
-    rw (sym (e .before .held .ensures) ∙ e .if1 .taken) (c .has-row .ensures)
+    let f = c .before in
+    let e = f .before in
+    let h = e .before in
+    rw (
+      sym (h .held .ensures) ∙ e .if1 .taken,
+      ← h .before .leaders-of .ensures,
+      f .leaders-formed .ensures,
+      c .has-row .ensures,
+    )
 
 returns-2 : tie.Need-returns-2
-unfolding versionFormed
+unfolding versionFormed zeroVersion
 returns-2 c =
     let e = c .before in
-    rw (sym (e .before .held .ensures) ∙ e .if1 .left) (c .zero-rows .ensures)
+    let h = e .before in
+    rw (sym (h .held .ensures) ∙ e .if1 .left)
+    (ap₂ (λ (m : ℕ) (b : Bool). eqb m 0 && b) (h .before .leaders-of .ensures)
+    (c .zero-rows .ensures))
 
 pub version-formed-spec : {M : Type 1} → statement M
 version-formed-spec =
-    tie.close (tie.spec held-requires has-row-requires zero-rows-requires returns returns-2)
+    tie.close
+    (tie.spec
+    leaders-of-requires
+    held-requires
+    leaders-formed-requires
+    has-row-requires
+    zero-rows-requires
+    returns
+    returns-2)

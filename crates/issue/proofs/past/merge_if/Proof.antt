@@ -1,4 +1,4 @@
--- `merge_if` stores the larger issue number and the larger past, if the key is in the mask.
+-- `merge_if` stores the merge with the saved version, if the key is in the mask.
 -- Assumes nothing.
 use mathlib.Core.Path.{sym, _∙_}
 use borrow.Author.Needs.{needs}
@@ -31,7 +31,7 @@ merge-version-requires c κs =
     let s = k .before .before .before .before in
     let a = s .args in
     rw (k .key-at .ensures, r .writer-row-at .ensures ∙ writer-row-first _ _)
-    (save-room _ (a .z) (a .place) (a .at) (a .k) (s .pre .0) (s .pre .1))
+    (save-room _ (a .z) (a .place) (a .at) (a .k) (s .pre .0) (s .pre .1), s .pre .1)
 
 same-length : tie.Need-same-length
 same-length c = search needs
@@ -45,8 +45,8 @@ returns c =
     let s = t .before .before .before in
     let a = s .args in
     rw (
-      ← save-yes (a .z) (a .words .now) (a .place) (a .at) (a .mask) (a .number .0) (a .k)
-          (s .pre .1) (sym (t .before .has .ensures) ∙ t .if1 .taken),
+      ← save-yes (a .z) (a .words .now) (a .place) (a .at) (a .mask) (a .number .0)
+          (a .leaders) (a .k) (s .pre .1) (sym (t .before .has .ensures) ∙ t .if1 .taken),
       ← writer-row-first (a .z) (a .at),
       ← r .writer-row-at .ensures,
       ← k .key-at .ensures,

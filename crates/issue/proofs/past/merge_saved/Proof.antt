@@ -1,23 +1,31 @@
 -- `merge_saved` merges each key of the mask. The loop's invariant: the keys passed are merged.
 -- Assumes nothing.
-use mathlib.Core.Path.{_≡_, refl, ap, _∙_}
+use mathlib.Core.Path.{_≡_, refl, ap₂, _∙_}
 use mathlib.Core.List.{List}
-use Prim.Native.Nat.{ℕ, _≤_, _-_}
+use Prim.Native.Nat.{ℕ, _≤_, _-_, _^_}
 use native.Mathlib.Omega.{arith}
 use lib.ListN.{length}
 use Rattle.words.specs.Numbers.{foldBelow}
 use Rattle.words.proofs.Numbers.{fold-more}
+use Rattle.masks.proofs.Bits.{shifted-one}
+use Rattle.model.specs.Issue.{newVersion}
 use Rattle.issue.proofs.Masters.{saveStep, save-keys}
 use Rattle.issue.proofs.past.merge_saved.Statement.{statement}
 use Rattle.issue.proofs.past.merge_saved.Tie as tie
 
 abbrev Inv-loop : tie.InvT-loop
-Inv-loop words₀ z place at mask number n k₀ words k =
+Inv-loop words₀ z place at w mask number leaders n k₀ words k =
     (k ≤ n) × (length words ≡ length words₀)
-    × (words ≡ foldBelow k (saveStep z place at mask (number .0)) words₀)
+    × (words ≡ foldBelow k (saveStep z place at mask (number .0) leaders) words₀)
 
 abbrev μ-loop : tie.MeasureT-loop
-μ-loop words₀ z place at mask number n k₀ words k = n - k
+μ-loop words₀ z place at w mask number leaders n k₀ words k = n - k
+
+cast-leaders : tie.Need-cast-leaders Inv-loop μ-loop
+cast-leaders c = omega (arith, c .before .pre .0 .ranged)
+
+shl-leaders : tie.Need-shl-leaders Inv-loop μ-loop
+shl-leaders c = omega (arith, c .before .pre .0 .ranged)
 
 loop-holds : tie.Need-loop-holds Inv-loop μ-loop
 unfolding foldBelow
@@ -48,16 +56,18 @@ same-length : tie.Need-same-length Inv-loop μ-loop
 same-length c = c .before .loop .inv .1
 
 returns : tie.Need-returns Inv-loop μ-loop
+unfolding newVersion
 returns c =
     let l = c .before in
     let s = l .before .before in
     let a = s .args in
     let e : l .loop .k ≡ a .z .keys = omega arith in
-    let step : ℕ → List ℕ → List ℕ =
+    let one = shifted-one (a .w) 32 (omega (arith, s .pre .0 .ranged)) in
+    let step : ℕ → ℕ → List ℕ → List ℕ =
     saveStep (a .z) (a .place) (a .at) (a .mask) (a .number .0) in
-    l .loop .inv .2 ∙ ap (λ (n : ℕ). foldBelow n step (a .words .now)) e
-    ∙ save-keys (a .z) (a .words .now) (a .place) (a .at) (a .mask) (a .number .0) (s .pre .0)
-    (s .pre .1 .0) (s .pre .1 .1)
+    l .loop .inv .2 ∙ ap₂ (λ (n m : ℕ). foldBelow n (step m) (a .words .now)) e one
+    ∙ save-keys (a .z) (a .words .now) (a .place) (a .at) (a .mask) (a .number .0) (2 ^ a .w)
+    (s .pre .0)
 
 pub merge-saved-spec : {M : Type 1} → statement M
 merge-saved-spec =
@@ -65,6 +75,8 @@ merge-saved-spec =
     (tie.spec
     Inv-loop
     μ-loop
+    cast-leaders
+    shl-leaders
     loop-holds
     merge-if-requires
     add-k

@@ -12,7 +12,7 @@ use Rattle.look.proofs.row.put_counts.Tie as tie
 abbrev Inv-loop : tie.InvT-loop
 Inv-loop answer₀ store at n i₀ answer i =
     (i ≤ n) × (length answer ≡ length answer₀)
-    × (answer ≡ put answer₀ 2 i (λ j. getD store (at + j) 0))
+    × (answer ≡ put answer₀ 3 i (λ j. getD store (at + j) 0))
 
 abbrev μ-loop : tie.MeasureT-loop
 μ-loop answer₀ store at n i₀ answer i = n - i
@@ -53,7 +53,7 @@ loop-again c =
     let f : ℕ → ℕ = λ j. getD (a .store .now) (a .at + j) 0 in (
       omega arith,
       rw length-set (l .loop .inv .1),
-      put-step (a .answer .now) 2 i f (l .loop .answer) (f i) (l .loop .inv .2) refl,
+      put-step (a .answer .now) 3 i f (l .loop .answer) (f i) (l .loop .inv .2) refl,
     )
 
 same-length : tie.Need-same-length Inv-loop μ-loop
@@ -65,7 +65,7 @@ returns c =
     let a = l .before .args in
     let f : ℕ → ℕ = λ j. getD (a .store .now) (a .at + j) 0 in
     let e : l .loop .i ≡ a .n = omega arith in
-    l .loop .inv .2 ∙ ap (λ (n : ℕ). put (a .answer .now) 2 n f) e
+    l .loop .inv .2 ∙ ap (λ (n : ℕ). put (a .answer .now) 3 n f) e
 
 pub put-counts-spec : {M : Type 1} → statement M
 put-counts-spec =

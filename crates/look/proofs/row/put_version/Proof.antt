@@ -1,4 +1,4 @@
--- `put_version` lays two words over the front, the row behind them, and the standing last.
+-- `put_version` lays three words over the front, the row behind them, and the standing last.
 -- Assumes nothing.
 use native.Mathlib.Omega.{arith}
 use mathlib.Core.Path.{_≡_, ap, _∙_}
@@ -17,11 +17,8 @@ use Rattle.look.specs.Answer.{seen}
 use Rattle.look.proofs.row.put_version.Statement.{statement}
 use Rattle.look.proofs.row.put_version.Tie as tie
 
-word-requires : tie.Need-word-requires
-word-requires c κs = search needs
-
-put-two-requires : tie.Need-put-two-requires
-put-two-requires c κs = search needs
+put-front-requires : tie.Need-put-front-requires
+put-front-requires c κs = search needs
 
 put-counts-requires : tie.Need-put-counts-requires
 put-counts-requires c κs = search needs
@@ -54,23 +51,22 @@ unfolding seen
 returns c =
     let m = c .before .before .before in
     let p = m .before .before .before .before in
-    let w = p .before .before in
-    let s = w .before .before .before in
+    let s = p .before .before .before .before in
     let a = s .args in
-    let t = p .put-two in
+    let t = p .put-front in
     let row = window (a .store .now) (a .at) (a .n) in
     let long = length-window (a .store .now) (a .at) (a .n) in
     let last : List ℕ = standingNumber (a .standing) ∷ [] in
-    let front : List ℕ = 0 ∷ a .issue .0 ∷ row in
-    let behind : m .put-counts .last .0 ≡ over front (a .answer .now) = m .put-counts .ensures
-    ∙ put-window (t .last .0) (a .store .now) 2 (a .at) (a .n)
-    ∙ ap (λ (l : List ℕ). sets l 2 row) (t .ensures .laid)
-    ∙ rw (w .word .ensures)
-    (over-more (0 ∷ a .issue .0 ∷ []) row (a .answer .now)
-    (omega (arith, long, s .pre .0 .1, s .pre .1))) in
+    let first : List ℕ = 0 ∷ a .issue .0 ∷ a .leaders ∷ [] in
+    let behind : m .put-counts .last .0 ≡ over (first ++ row) (a .answer .now) =
+    m .put-counts .ensures
+    ∙ put-window (t .last .0) (a .store .now) 3 (a .at) (a .n)
+    ∙ ap (λ (l : List ℕ). sets l 3 row) (t .ensures .laid)
+    ∙ over-more first row (a .answer .now) (omega (arith, long, s .pre .0 .1, s .pre .1)) in
     record {
       laid = rw (behind, c .standing-number .ensures)
-          (over-last front (a .answer .now) _ _ (omega (arith, t .ensures .count, long))
+          (over-last (first ++ row) (a .answer .now) _ _
+          (omega (arith, t .ensures .count, long))
           (omega (arith, long, s .pre .0 .1, s .pre .1)));
       count = rw (t .ensures .count) (omega (arith, long, length-append row last));
     }
@@ -79,8 +75,7 @@ pub put-version-spec : {M : Type 1} → statement M
 put-version-spec =
     tie.close
     (tie.spec
-    word-requires
-    put-two-requires
+    put-front-requires
     put-counts-requires
     standing-number-requires
     add-answer

@@ -18,7 +18,7 @@ site-at-requires c κs = search needs
 merge-keys-requires : tie.Need-merge-keys-requires
 merge-keys-requires c κs =
     let s = c .before .before .before .before .before in
-    rw (c .before .site-at .ensures) (s .pre .0, s .pre .1 .1)
+    rw (c .before .site-at .ensures) (s .pre .0)
 
 same-length : tie.Need-same-length
 same-length c = search needs

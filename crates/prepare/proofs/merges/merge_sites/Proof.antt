@@ -5,7 +5,7 @@ use Prim.Native.Nat.{ℕ, _≤_, _-_}
 use native.Mathlib.Omega.{arith}
 use lib.ListN.{length}
 use Rattle.layout.specs.Stored.{putPlace}
-use Rattle.prepare.proofs.Merging.{mergedAfter, merge-start, merge-lies, merge-formed, merge-turn}
+use Rattle.prepare.proofs.Merging.{mergedAfter, merge-start, merge-lies, merge-turn}
 use Rattle.prepare.proofs.merges.merge_sites.Statement.{statement}
 use Rattle.prepare.proofs.merges.merge_sites.Tie as tie
 
@@ -31,15 +31,8 @@ merge-site-requires c κs =
     let l = c .before .before in
     let s = l .before .before in
     let a = s .args in
-    let o = l .loop .o in (
-      rw (l .loop .inv .1) (merge-lies (a .z) (a .words .now) (a .snapshot) (a .sites) (a .plan)
-          (s .pre) o (omega arith)),
-      (
-        omega arith,
-        merge-formed (a .z) (a .words .now) (a .snapshot) (a .sites) (a .plan) (s .pre) o
-            (omega arith) (l .loop .words) (l .loop .inv .2),
-      ),
-    )
+    let lies = merge-lies (a .z) (a .words .now) (a .snapshot) (a .sites) (a .plan) (s .pre) in
+    (rw (l .loop .inv .1) (lies (l .loop .o) (omega arith)), omega arith)
 
 add-o : tie.Need-add-o Inv-loop μ-loop
 add-o c = omega arith

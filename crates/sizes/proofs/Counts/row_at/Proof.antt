@@ -8,7 +8,7 @@ use Rattle.sizes.proofs.Offsets.{largest, row-lies}
 use Rattle.sizes.proofs.Counts.row_at.Statement.{statement}
 use Rattle.sizes.proofs.Counts.row_at.Tie as tie
 
-low : (c : tie.Start) → rowAt (c .args .self) (c .args .at) (c .args .d) ≤ 2000513
+low : (c : tie.Start) → rowAt (c .args .self) (c .args .at) (c .args .d) ≤ 2000514
 low c =
     let a = c .args in
     let lies = row-lies (a .self) (a .at) (a .d) (c .pre .1 .1) in

@@ -13,8 +13,8 @@ use Rattle.sizes.proofs.Sizes.of.Tie as tie
 -- The largest products of four counts.
 most : (k w n p : ℕ) → Ranged (countsOf k w n p)
     → let place = k * (pastOffset + k * w) in
-    (place ≤ 16416) × (n * place ≤ 131328) × (k * w ≤ 512)
-    × (w * (writerPastOffset + k * w) ≤ 8208) × (p * (snapshotOffset + place) ≤ 131552)
+    (place ≤ 16448) × (n * place ≤ 131584) × (k * w ≤ 512)
+    × (w * (writerPastOffset + k * w) ≤ 8208) × (p * (snapshotOffset + place) ≤ 131808)
 unfolding pastSize versionSize placeSize siteSize writerSize runSize
 most k w n p R =
     let m = largest (countsOf k w n p) R in (m .place, m .sites, m .past, m .writers, m .runs)

@@ -9,8 +9,8 @@ use Rattle.words.specs.Numbers.{foldBelow}
 use Rattle.words.proofs.Numbers.{fold-more}
 use Rattle.masks.specs.Mask.{testBit}
 use Rattle.version.proofs.Keys.{mergeStep, merge-keys}
-use Rattle.version.proofs.merge_keys.Statement.{statement}
-use Rattle.version.proofs.merge_keys.Tie as tie
+use Rattle.version.proofs.merge.merge_keys.Statement.{statement}
+use Rattle.version.proofs.merge.merge_keys.Tie as tie
 
 abbrev Inv-loop : tie.InvT-loop
 Inv-loop words₀ z dst src mask n k₀ words k =
@@ -28,7 +28,7 @@ merge-if-requires : tie.Need-merge-if-requires Inv-loop μ-loop
 merge-if-requires c κs =
     let l = c .before .before in
     let s = l .before .before in
-    (rw (l .loop .inv .1) (s .pre .0), omega arith)
+    (rw (l .loop .inv .1) (s .pre), omega arith)
 
 add-k : tie.Need-add-k Inv-loop μ-loop
 add-k c = omega arith
@@ -56,8 +56,7 @@ returns c =
     let e : l .loop .k ≡ a .z .keys = omega arith in
     let step : ℕ → List ℕ → List ℕ = mergeStep (a .z) (a .dst) (a .src) (testBit (a .mask)) in
     l .loop .inv .2 ∙ ap (λ (n : ℕ). foldBelow n step (a .words .now)) e
-    ∙ merge-keys (a .z) (a .words .now) (a .dst) (a .src) (testBit (a .mask)) (s .pre .0)
-    (s .pre .1 .0) (s .pre .1 .1)
+    ∙ merge-keys (a .z) (a .words .now) (a .dst) (a .src) (testBit (a .mask)) (s .pre)
 
 pub merge-keys-spec : {M : Type 1} → statement M
 merge-keys-spec =

@@ -1,16 +1,15 @@
 -- `merge_if` stores one key, if it is in the mask.
 -- Assumes nothing.
 use mathlib.Core.Path.{sym, _∙_}
-use native.Mathlib.Omega.{arith}
 use borrow.Author.Needs.{needs}
 use lib.ListN.{length}
 use Rattle.sizes.specs.Bounds.{keyAt}
 use Rattle.layout.specs.Reading.{readVersion}
 use Rattle.layout.proofs.Places.{place-at}
 use Rattle.layout.proofs.Pasts.{row-first}
-use Rattle.version.proofs.Areas.{issue-in, key-merges}
-use Rattle.version.proofs.merge_if.Statement.{statement}
-use Rattle.version.proofs.merge_if.Tie as tie
+use Rattle.version.proofs.Areas.{issue-in, leaders-word, key-merges}
+use Rattle.version.proofs.merge.merge_if.Statement.{statement}
+use Rattle.version.proofs.merge.merge_if.Tie as tie
 
 cast-has : tie.Need-cast-has
 cast-has c = search needs
@@ -32,20 +31,22 @@ version-issue-requires c κs =
     rw (k .key-at2 .ensures)
     (issue-in (length (a .words .now)) (a .z) (a .src) (s .pre .0 .source) (a .k) (s .pre .1))
 
+leaders-of-requires : tie.Need-leaders-of-requires
+leaders-of-requires c κs = search needs
+
 row-of-requires : tie.Need-row-of-requires
-row-of-requires c κs =
-    let s = c .before .before .before .before .before .before .before in
-    let P = s .pre in
-    (P .0 .source .ranged, (P .0 .source .low, P .1, omega (arith, P .1)))
+row-of-requires c κs = search needs
 
 merge-version-requires : tie.Need-merge-version-requires
 merge-version-requires c κs =
     let r = c .before in
-    let k = r .before .before .before .before in
+    let k = r .before .before .before .before .before .before in
     let s = k .before .before .before .before in
     let a = s .args in
-    rw (k .key-at .ensures, r .row-of .ensures ∙ row-first _ _)
-    (key-merges (length (a .words .now)) (a .z) (a .dst) (a .src) (s .pre .0) (a .k) (s .pre .1))
+    rw (k .key-at .ensures, r .row-of .ensures ∙ row-first _ _) (
+      key-merges (length (a .words .now)) (a .z) (a .dst) (a .src) (s .pre .0) (a .k) (s .pre .1),
+      s .pre .1,
+    )
 
 same-length : tie.Need-same-length
 same-length c = search needs
@@ -53,9 +54,10 @@ same-length c = search needs
 returns : tie.Need-returns
 unfolding readVersion
 returns c =
-    let m = c .before .before in
-    let r = m .before .before in
-    let n = r .before in
+    let v = c .before .before in
+    let r = v .before .before in
+    let m = r .before in
+    let n = m .before .before in
     let u = n .before .before in
     let d = u .before in
     let t = d .before in
@@ -67,11 +69,12 @@ returns c =
       place-at (a .z) (a .words .now) (a .src) (a .k) (s .pre .1),
       ← row-first (a .z) (keyAt (a .z) (a .src) (a .k)),
       ← r .row-of .ensures,
+      ← m .leaders-of .ensures ∙ leaders-word (a .z) (a .words .now) (a .src) (a .k) (s .pre .1),
       ← u .key-at2 .ensures,
       ← n .version-issue .ensures,
       ← d .key-at .ensures,
     )
-    (m .merge-version .ensures)
+    (v .merge-version .ensures)
 
 returns-2 : tie.Need-returns-2
 returns-2 c = rw (sym (c .before .has .ensures) ∙ c .if1 .left)
@@ -85,6 +88,7 @@ merge-if-spec =
     key-at-requires
     key-at-requires-2
     version-issue-requires
+    leaders-of-requires
     row-of-requires
     merge-version-requires
     same-length

@@ -1,0 +1,125 @@
+//! What a script has met so far.
+
+use crate::chains::tied_and_carried;
+use crate::desk::layout::{has, JOBS, JOB_LIST, LEADERS};
+use crate::desk::version::{covers, held, row};
+use crate::desk::{in_form, Answer};
+use crate::text::Call;
+
+#[derive(Default)]
+pub struct Counts {
+    pub lines: u64,
+    pub unread: u64,
+    pub rivals: u64,
+    fetches_of_more: u64,
+    evicts_of_more: u64,
+    prepares: u64,
+    prepares_unlike: u64,
+    steps: u64,
+    breaks: u64,
+    issues: u64,
+    looks: u64,
+    looks_older: u64,
+    looks_several: u64,
+    clear: u64,
+    paths: u64,
+    long_paths: u64,
+    tied_paths: u64,
+    carried_paths: u64,
+    refused: [u64; 11],
+}
+
+impl Counts {
+    /// One line of names and numbers.
+    pub fn print(&self) -> String {
+        let mut names = vec![
+            ("lines".to_string(), self.lines),
+            ("unread".into(), self.unread),
+            ("rivals".into(), self.rivals),
+            ("fetches-of-more".into(), self.fetches_of_more),
+            ("evicts-of-more".into(), self.evicts_of_more),
+            ("prepares".into(), self.prepares),
+            ("prepares-unlike".into(), self.prepares_unlike),
+            ("steps".into(), self.steps),
+            ("breaks".into(), self.breaks),
+            ("issues".into(), self.issues),
+            ("looks".into(), self.looks),
+            ("looks-older".into(), self.looks_older),
+            ("looks-several".into(), self.looks_several),
+            ("clear".into(), self.clear),
+            ("paths".into(), self.paths),
+            ("paths-of-3".into(), self.long_paths),
+            ("paths-tied".into(), self.tied_paths),
+            ("paths-carried".into(), self.carried_paths),
+        ];
+        names.extend((1..=8).map(|number| (format!("refused-{number}"), self.refused[number])));
+        names.iter().map(|(name, count)| format!("{name} {count}")).collect::<Vec<_>>().join(" ")
+    }
+
+    /// Takes in a call on a desk, and its answer.
+    pub fn enter(&mut self, before: &[u32], after: &[u32], call: &Call, answer: &Answer) {
+        match (call, answer) {
+            (_, Answer::Refused(number)) => self.refused[*number as usize] += 1,
+            (_, Answer::Broken(_)) => self.breaks += 1,
+            (Call::Fetch(..), Answer::Ok(set)) => {
+                self.fetches_of_more += u64::from(set[0].count_ones() > 1);
+            }
+            (Call::Evict(..), Answer::Ok(set)) => {
+                self.evicts_of_more += u64::from(set[0].count_ones() > 1);
+            }
+            (Call::Prepare(run), Answer::Ok(_)) => {
+                self.prepares += 1;
+                self.prepares_unlike += u64::from(merges_unlike(after, *run as usize));
+            }
+            (Call::Step(..), Answer::Ok(_)) => self.steps += 1,
+            (Call::Issue(_, writer, mask), Answer::Ok(_)) => {
+                self.issues += u64::from(*mask != 0);
+                self.rivals += rivals_met(before, after, *writer as usize, *mask);
+            }
+            (Call::Look(..), Answer::Ok(numbers)) => {
+                self.looks += 1;
+                self.looks_older += u64::from(numbers.last() == Some(&1));
+                self.looks_several += u64::from(numbers[1].count_ones() > 1);
+            }
+            (_, Answer::Clear) => self.clear += 1,
+            (Call::Explain(run, job), Answer::Path(path)) => {
+                let (tied, carried) = tied_and_carried(before, [*run, *job], path);
+                self.paths += 1;
+                self.long_paths += u64::from(path.len() > 2);
+                self.tied_paths += u64::from(tied);
+                self.carried_paths += u64::from(carried);
+            }
+            _ => {}
+        }
+    }
+}
+
+/// The sheets whose master version the new version doesn't cover: it never is covered itself.
+fn rivals_met(before: &[u32], after: &[u32], writer: usize, mask: u32) -> u64 {
+    let Some(s) = in_form(before) else {
+        return 0;
+    };
+    let made = s.writer_past(after, writer);
+    let met = (0..s.k).filter(|k| {
+        let old = s.words(before, s.master_at(*k));
+        let own = &made[*k * s.w..(*k + 1) * s.w];
+        has(mask, *k) && held(old) && !covers(own, row(old, s.w, *k))
+    });
+    met.count() as u64
+}
+
+/// Do shelves of the run's offices hold a sheet on its card with unequal leading writers?
+fn merges_unlike(words: &[u32], run: usize) -> bool {
+    let Some(s) = in_form(words) else {
+        return false;
+    };
+    let head = &words[s.run_at(run)..];
+    let jobs = head[JOB_LIST..].chunks(3).take(head[JOBS] as usize);
+    let offices = jobs.map(|job| job[0] as usize).collect::<Vec<usize>>();
+    (0..s.k).any(|k| {
+        let shelves = offices.iter().map(|office| s.words(words, s.shelf_at(*office, k)));
+        let mut masks = shelves.filter(|version| held(version)).map(|version| version[LEADERS]);
+        let first = masks.next();
+        held(s.words(words, s.card_at(run, k))) && masks.any(|mask| Some(mask) != first)
+    })
+}

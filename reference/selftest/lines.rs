@@ -1,0 +1,38 @@
+//! Calls as lines, each with the answer that is due.
+
+use crate::text::{print, read_line, run, LENT};
+
+/// Works lines on words of the program's number, all zero.
+pub fn works(lines: &[&str]) {
+    works_on(&mut vec![0; LENT], lines);
+}
+
+/// Works lines on lent words; each must be answered as written behind its arrow, or `ok` if
+/// nothing is. `save r w S` is `open r 0 0 0`, `step r 0`, `issue r w S`, and `edit r o m w S` is
+/// `open r o m 0`, `step r 0`, `issue r w S`.
+pub fn works_on(words: &mut [u32], lines: &[&str]) {
+    for line in lines {
+        let (call, due) = line.split_once(" -> ").unwrap_or((line, "ok"));
+        for call in spelled(call) {
+            let known = read_line(call.as_bytes()).expect("a call");
+            let before = words.to_vec();
+            let answer = print(&run(words, &known));
+            assert!(answer == due || due == "ok" && answer.starts_with("ok "), "{call}: {answer}");
+            let answers = ["look", "explain"].iter().any(|name| call.starts_with(name));
+            assert!(!answers || words == before, "{call}");
+        }
+    }
+}
+
+/// The calls that a line stands for.
+fn spelled(line: &str) -> Vec<String> {
+    let words = line.split(' ').collect::<Vec<&str>>();
+    let three = |r: &str, job: String, w: &str, s: &str| {
+        vec![format!("open {r} {job} 0"), format!("step {r} 0"), format!("issue {r} {w} {s}")]
+    };
+    match words.as_slice() {
+        ["save", r, w, s] => three(r, "0 0".into(), w, s),
+        ["edit", r, o, m, w, s] => three(r, format!("{o} {m}"), w, s),
+        _ => vec![line.to_string()],
+    }
+}

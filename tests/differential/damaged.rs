@@ -1,0 +1,131 @@
+//! Desks with some words changed.
+
+use crate::built::leaders;
+use crate::desk::layout::{HEADER, LAST_ISSUE, LEADERS};
+use crate::desk::Sizes;
+use crate::pair::Pair;
+use crate::random::Random;
+
+/// Changes one to ten words, or a whole version, a version's mask, or the first words of a run.
+/// In half of the cases of words only counts, issue numbers and jobs, so that the desk often stays
+/// in form.
+pub fn damage(random: &mut Random, pair: &mut Pair) {
+    let [k, w, n, p] = [0, 1, 2, 3].map(|at| pair.words()[at]);
+    match (Sizes::of(k, w, n, p), random.below(10)) {
+        (Some(s), 0 | 1) => replace_version(random, pair, s),
+        (Some(s), 2 | 3) => damage_run(random, pair, s),
+        (Some(s), 4) => damage_mask(random, pair, s),
+        _ => damage_words(random, pair),
+    }
+}
+
+/// A version becomes that of another place, or is cleared.
+fn replace_version(random: &mut Random, pair: &mut Pair, s: Sizes) {
+    let k = random.below(s.k);
+    let to = place_of(random, s, k);
+    let from = place_of(random, s, k);
+    let clear = random.chance(60);
+    for at in 0..s.version() {
+        let word = if clear { 0 } else { pair.words()[from + at] };
+        if word != pair.words()[to + at] {
+            pair.set(to + at, word);
+        }
+    }
+}
+
+/// Where the version of sheet k begins on the master, a shelf or, mostly, a card.
+fn place_of(random: &mut Random, s: Sizes, k: usize) -> usize {
+    match random.below(4) {
+        0 => s.master_at(k),
+        1 => s.shelf_at(random.below(s.n), k),
+        _ => s.card_at(random.below(s.p), k),
+    }
+}
+
+/// A bit of a run's state, number of jobs, done mask or read mask is turned, or of a job.
+fn damage_run(random: &mut Random, pair: &mut Pair, s: Sizes) {
+    let most = random.one_of(&[4, 4, 28]);
+    let at = s.run_at(random.below(s.p)) + random.below(most);
+    let bits = random.one_of(&[2, 8, 32]);
+    let word = pair.words()[at] ^ 1 << random.below(bits);
+    pair.set(at, word);
+}
+
+/// A version's leading writers become others, or none that there can be.
+fn damage_mask(random: &mut Random, pair: &mut Pair, s: Sizes) {
+    let at = version_place(random, pair.words(), s) + LEADERS;
+    let word = match random.below(2) {
+        0 => leaders(random, s),
+        _ => spoiled_mask(random, s, pair.words()[at]),
+    };
+    pair.set(at, word);
+}
+
+fn damage_words(random: &mut Random, pair: &mut Pair) {
+    let lent = pair.words().len();
+    let gentle = random.chance(50);
+    let most = random.one_of(&[1, 1, 10]);
+    for _ in 0..1 + random.below(most) {
+        let at = place(random, pair.words(), gentle).min(lent - 1);
+        let old = pair.words()[at];
+        let word = match random.below(6) {
+            0 => old ^ 1 << random.below(32),
+            1 => old.wrapping_add(1),
+            2 => pair.words()[random.below(lent)],
+            3 if gentle => u32::MAX,
+            4 if gentle => old.max(1),
+            _ => random.word(),
+        };
+        pair.set(at, word);
+    }
+}
+
+/// Where a word is damaged: gently (last issue number, a writer's words, a held version's),
+/// or anywhere, the header and the runs' first words often.
+fn place(random: &mut Random, words: &[u32], gentle: bool) -> usize {
+    let header = words.get(..HEADER).and_then(|h| Sizes::of(h[0], h[1], h[2], h[3]));
+    let Some(s) = header else {
+        return random.below(words.len());
+    };
+    let run = s.run_at(random.below(s.p));
+    let any = random.below(s.total().max(1));
+    match (gentle, random.below(8)) {
+        (true, 0) => LAST_ISSUE,
+        (true, 1) => s.writer_at(random.below(s.w)),
+        (true, 2) => s.writer_at(random.below(s.w)) + random.below(s.writer()),
+        (true, _) => held_word(random, words, s),
+        (false, 0) => random.below(HEADER),
+        (false, 1 | 2) => run + random.below(28),
+        (false, 3) => s.run_at(random.below(s.p)) + 28 + random.below(s.k) * s.version(),
+        (false, 4) => s.shelf_at(random.below(s.n), random.below(s.k)),
+        _ => any,
+    }
+}
+
+/// A word of a held version, if some draws find one.
+fn held_word(random: &mut Random, words: &[u32], s: Sizes) -> usize {
+    version_place(random, words, s) + random.below(s.version())
+}
+
+/// Where a held version begins, if some draws find one.
+pub fn version_place(random: &mut Random, words: &[u32], s: Sizes) -> usize {
+    let mut at = 0;
+    for _ in 0..20 {
+        let k = random.below(s.k);
+        at = place_of(random, s, k);
+        if words.get(at).is_some_and(|issue| *issue != 0) {
+            break;
+        }
+    }
+    at
+}
+
+/// A mask that no held version has: none, or one with bits at W or above; or any word.
+pub fn spoiled_mask(random: &mut Random, s: Sizes, mask: u32) -> u32 {
+    match random.below(4) {
+        0 => 0,
+        1 => mask | 1 << s.w,
+        2 => mask | 1 << (s.w + random.below(32 - s.w)),
+        _ => random.word(),
+    }
+}

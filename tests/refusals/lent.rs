@@ -1,0 +1,126 @@
+//! Desks that no list of calls from new leaves: looks, leading writers, the longest path.
+
+use crate::trials::{Call, Desk, Trials};
+
+// A desk 32 1 1 1 on whose shelf each sheet needs the next one, and sheet 31 was read at an older
+// count: the path has all.
+pub fn of_the_longest_path(t: &mut Trials) {
+    let mut d = Desk::of(3400, 0);
+    d.call(&Call::New(32, 1, 1, 1));
+    d.words[4] = 9;
+    let (shelf, run) = (d.words[6] as usize, d.words[8] as usize);
+    for k in 0..32 {
+        let at = shelf + 34 * k;
+        (d.words[at], d.words[at + 1]) = (2, 1);
+        let row = at + 2 + k;
+        d.words[row..row + (32 - k).min(2)].fill(2);
+    }
+    let last = 1 << 31;
+    d.words[run..run + 4].copy_from_slice(&[1, 3, 1, last]);
+    d.words[run + 4..run + 13].copy_from_slice(&[0, last, 0, 0, 1, 0, 0, !last & !1, 0]);
+    let card = run + 28 + 34 * 31;
+    (d.words[card], d.words[card + 1], d.words[card + 33]) = (1, 1, 1);
+    let path: Vec<u32> = [4].into_iter().chain(0..32).collect();
+    t.told("the longest path", &mut d, Call::Explain(0, 1), &path);
+    t.told("the last two of it", &mut d, Call::Explain(0, 2), &[4, 30, 31]);
+    let before = d.words.clone();
+    let none = d.call_with(&Call::Explain(0, 1), 39).is_empty();
+    t.check("the longest path, 39 words", none && d.words == before);
+    let all = d.call_with(&Call::Explain(0, 1), 40) == path;
+    t.check("the longest path, 40 words", all && d.words == before);
+    t.check("the longest path's step", d.call(&Call::Step(0, 1)) == [1, 2_147_483_648]);
+    t.refused("the longest path, broken", &mut d, Call::Explain(0, 1), 4);
+}
+
+// A desk 2 2 1 1 whose master has sheet 0 at (1,1), in issue 3, led by writer 1, and lacks sheet
+// 1; the shelf's versions are given: issue number, leading writers, rows.
+fn lent(shelf: [[u32; 6]; 2]) -> Desk {
+    let mut d = Desk::of(86, 7);
+    d.call(&Call::New(2, 2, 1, 1));
+    d.words[4] = 9;
+    d.words[10..16].copy_from_slice(&[3, 2, 1, 1, 0, 0]);
+    d.words[22..34].copy_from_slice(&shelf.concat());
+    d
+}
+
+// The standing against the master's version, by the own rows alone.
+pub fn of_looks(t: &mut Trials) {
+    let none = [0; 6];
+    let mut d = lent([[7, 1, 2, 0, 0, 5], [1, 3, 0, 0, 0, 1]]);
+    t.ok("look, a rival", &mut d, Call::Look(1, 0, 0), &[7, 1, 2, 0, 3]);
+    t.ok("look, the master lacks it", &mut d, Call::Look(1, 0, 1), &[1, 3, 0, 1, 2]);
+    t.ok("look, the master", &mut d, Call::Look(0, 0, 0), &[3, 2, 1, 1, 0]);
+    let equal = [7, 1, 1, 1, 4, 5];
+    t.ok("look, an equal row", &mut lent([equal, none]), Call::Look(1, 0, 0), &[7, 1, 1, 1, 0]);
+    let newer = [1, 2, 2, 1, 0, 0];
+    let mut d = lent([newer, none]);
+    t.ok("look, newer by a smaller number", &mut d, Call::Look(1, 0, 0), &[1, 2, 2, 1, 2]);
+    let older = [9, 3, 0, 1, 0, 0];
+    let mut d = lent([older, none]);
+    t.ok("look, older by a larger number", &mut d, Call::Look(1, 0, 0), &[9, 3, 0, 1, 1]);
+}
+
+// A desk of one sheet and two writers: the master's version, one for each shelf, and an open run
+// with a job at each office that reads the sheet.
+fn one_sheet(master: [u32; 4], shelves: &[[u32; 4]]) -> Desk {
+    let offices = shelves.len() as u32;
+    let mut d = Desk::of(100, 7);
+    d.call(&Call::New(1, 2, offices, 1));
+    d.words[10..14].copy_from_slice(&master);
+    d.words[14..14 + 4 * shelves.len()].copy_from_slice(&shelves.concat());
+    let jobs: Vec<u32> = (0..offices).flat_map(|office| [office, 1, 0]).collect();
+    d.call(&Call::Open(0, &jobs));
+    d
+}
+
+// Leading writers where merges name nobody, and where a side isn't held.
+pub fn of_leaders(t: &mut Trials) {
+    let version = |mask| [1, mask, 1, 1];
+    let mut d = one_sheet(version(1), &[1, 1, 2].map(version));
+    t.ok("prepare, nobody named at last", &mut d, Call::Prepare(0), &[1]);
+    t.ok("look, offices from the lowest", &mut d, Call::Look(2, 0, 0), &[1, 3, 1, 1, 0]);
+    let mut d = one_sheet([1, 1, 1, 0], &[[1, 2, 1, 0]]);
+    t.ok("prepare, a side not held", &mut d, Call::Prepare(0), &[1]);
+    t.ok("look, the other as it is", &mut d, Call::Look(2, 0, 0), &[1, 2, 1, 0, 0]);
+    // Either way round: the lower office's version is the one or the other.
+    for (one, other, due) in [
+        ([3, 1, 2, 0], [5, 2, 1, 3], [5, 3, 2, 3]),
+        ([1, 1, 1, 1], [2, 2, 1, 1], [2, 3, 1, 1]),
+        ([1, 1, 3, 0], [2, 1, 2, 0], [2, 1, 3, 0]),
+    ] {
+        for shelves in [[one, other], [other, one]] {
+            let mut d = one_sheet([9, 1, 9, 9], &shelves);
+            d.call(&Call::Prepare(0));
+            let older = [&due[..], &[1]].concat();
+            t.ok("look, merged", &mut d, Call::Look(2, 0, 0), &older);
+        }
+    }
+}
+
+// The leading writers of a held version are some of the desk's; of an unheld one none.
+pub fn of_masks(t: &mut Trials) {
+    for (writers, mask, taken) in [
+        (2, 1, true),
+        (2, 2, true),
+        (2, 3, true),
+        (2, 0, false),
+        (2, 4, false),
+        (2, 7, false),
+        (16, 32_768, true),
+        (16, 65_536, false),
+    ] {
+        let mut d = Desk::of(400, 7);
+        d.call(&Call::New(1, writers, 1, 1));
+        d.words[10..13].copy_from_slice(&[1, mask, 1]);
+        if taken {
+            t.ok("mask taken", &mut d, Call::Fetch(0, 0), &[1]);
+        } else {
+            t.refused("mask 1", &mut d, Call::Drop(5), 1);
+        }
+    }
+    let mut d = Desk::of(400, 7);
+    d.call(&Call::New(1, 2, 1, 1));
+    t.refused("drop 3, in form", &mut d, Call::Drop(5), 3);
+    d.words[11] = 1;
+    t.refused("mask 1, not held", &mut d, Call::Drop(5), 1);
+}
