@@ -2,3 +2,4 @@ pub mod Areas
 pub mod Versions
 pub mod Keys
 pub mod Stores
+pub mod Merged

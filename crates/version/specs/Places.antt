@@ -1,16 +1,18 @@
 -- Versions and places in the words of a buffer: stored at an index, and where they lie.
 -- versionOf: a version by its parts. putKey: one key stored. choice: a place by a set of keys.
 -- Area, Areas: where places lie. Merges: where a version and a past lie.
+-- Outside: what a store leaves as it was. Own: a version given by the words of the target itself.
 -- Assumes nothing.
 use mathlib.Core.Path.{_≡_}
 use mathlib.Core.Bool.{cond}
 use mathlib.Core.List.{List}
 use mathlib.Core.Logic.{_⊎_}
 use Prim.Native.Nat.{ℕ, _+_, _≤_, _<_}
+use lib.ListN.{length, getD}
 use Rattle.words.specs.Tests.{Items}
 use Rattle.clock.specs.Clock.{Clock}
 use Rattle.sizes.specs.declared.Counts.{Counts}
-use Rattle.sizes.specs.Bounds.{placeLimit, versionLimit, pastOffset, Ranged, pastSize, versionSize, placeSize, keyAt}
+use Rattle.sizes.specs.Bounds.{placeLimit, versionLimit, leadersOffset, pastOffset, Ranged, pastSize, versionSize, placeSize, keyAt}
 use Rattle.model.specs.Algebra.{Place}
 use Rattle.model.specs.Version.{Version}
 use Rattle.layout.specs.Stored.{putVersion}
@@ -47,3 +49,16 @@ pub record Merges (len : ℕ) (z : Counts) (dst past : ℕ) : Type 0 where
   pub target : dst + versionSize z ≤ len
   pub source : past + pastSize z ≤ len
   pub apart : (dst + pastOffset ≤ past) ⊎ (past + pastSize z ≤ dst)
+
+-- ---- CR 5: "to change no other word, also where source and target are one place"
+
+-- The words l and m differ at most in the n words at an index.
+pub record Outside (l m : List ℕ) (at n : ℕ) : Type 0 where
+  pub long : length m ≡ length l
+  pub same : (i : ℕ) → (i < at) ⊎ (at + n ≤ i) → getD m i 0 ≡ getD l i 0
+
+-- The number, mask and past that are given are those of the version at an index.
+pub record Own (l : List ℕ) (dst n m p : ℕ) : Type 0 where
+  pub number : n ≡ getD l dst 0
+  pub leaders : m ≡ getD l (dst + leadersOffset) 0
+  pub past : p ≡ dst + pastOffset

@@ -13,16 +13,18 @@ use sizes::Counts;
 use sizes::past::VersionOffset;
 use words::copy;
 ghost use mathlib.Core.Path.{_≡_};
+ghost use mathlib.Core.Bool.{So};
 ghost use Prim.Native.Nat.{_+_, _≤_, _<_};
 ghost use lib.Dec.{leb};
 ghost use lib.ListN.{length};
 ghost use Rattle.masks.specs.Mask.{testBit, maskBelow};
 ghost use Rattle.clock.specs.Clock.{clockAt, join};
-ghost use Rattle.sizes.specs.Bounds.{maxWriters};
+ghost use Rattle.sizes.specs.Bounds.{maxWriters, versionSize, placeSize};
 ghost use Rattle.model.specs.Version.{leadsOn, mergedLeaders, larger, merge};
+ghost use Rattle.model.specs.Form.{versionFormed, placeFormed};
 ghost use Rattle.layout.specs.Reading.{readPast, readVersion, readPlace};
 ghost use Rattle.layout.specs.Stored.{putVersion, putPlace};
-ghost use Rattle.version.specs.Places.{versionOf, putKey, choice, Areas, Merges};
+ghost use Rattle.version.specs.Places.{versionOf, putKey, choice, Areas, Merges, Outside, Own};
 
 // Whether writer u leads a merge, by the sides' masks and its counts in their own rows.
 fn leads_on(m: u32, x: WriterCount, n: u32, y: WriterCount, u: u32) -> bool
@@ -133,7 +135,7 @@ fn merge_held(
 }
 
 // Merges a version into the one of key k at dst: an issue number, a mask of leading writers, and
-// the past at an index.
+// the past at an index. No other word changes, and none at all where the version is the target's.
 pub fn merge_version(
     words: &mut [u32],
     z: Counts,
@@ -144,9 +146,13 @@ pub fn merge_version(
     past: usize,
 )
     requires { ⌜ Merges (length (now words)) z dst past × (k < z .keys) ⌝ }
-    ensures { λ _. ⌜ now (words .exit) ≡ putVersion z (now (words .entry)) dst
+    ensures merges { λ _. ⌜ now (words .exit) ≡ putVersion z (now (words .entry)) dst
         (merge (z .writers) k (readVersion z (now (words .entry)) dst)
         (versionOf (number .0) leaders (readPast z (now (words .entry)) past))) ⌝ }
+    ensures frame { λ _. ⌜ Outside (now (words .entry)) (now (words .exit)) dst (versionSize z) ⌝ }
+    ensures same { λ _. ⌜ (Own (now (words .entry)) dst (number .0) leaders past
+        → So (versionFormed z k (readVersion z (now (words .entry)) dst))
+        → now (words .exit) ≡ now (words .entry)) ⌝ }
 {
     let old = version_issue(words, dst);
     if !old.is_held() {
@@ -176,12 +182,16 @@ fn merge_if(words: &mut [u32], z: Counts, dst: usize, src: usize, mask: u32, k: 
     }
 }
 
-// Merges the keys of the mask from the place at src into the place at dst.
+// Merges the keys of the mask from the place at src into the place at dst. No other word changes,
+// and none at all where the two are one place.
 pub fn merge_keys(words: &mut [u32], z: Counts, dst: usize, src: usize, mask: u32)
     requires { ⌜ Areas (length (now words)) z dst src ⌝ }
-    ensures { λ _. ⌜ now (words .exit) ≡ putPlace z (now (words .entry)) dst
+    ensures merges { λ _. ⌜ now (words .exit) ≡ putPlace z (now (words .entry)) dst
         (choice (testBit mask) (λ k. merge (z .writers) k (readPlace z (now (words .entry)) dst k)
         (readPlace z (now (words .entry)) src k)) (readPlace z (now (words .entry)) dst)) ⌝ }
+    ensures frame { λ _. ⌜ Outside (now (words .entry)) (now (words .exit)) dst (placeSize z) ⌝ }
+    ensures same { λ _. ⌜ (dst ≡ src → So (placeFormed z (readPlace z (now (words .entry)) dst))
+        → now (words .exit) ≡ now (words .entry)) ⌝ }
 {
     let n = z.keys;
     let mut k = 0;

@@ -97,7 +97,7 @@ returns c =
     let places : m .merge-keys .last .0
     ≡ putPlace (a .z) (putPlace (a .z) l (v .cache) (stepCache x (a .r) (a .job))) (v .snapshot)
     (stepSnapshot x (a .r) (a .job)) =
-    m .merge-keys .ensures
+    m .merge-keys .ensures .0
     ∙ merged l (a .z) (a .r) (a .job) v (a .trial) (s .pre) (n .copy-keys .last .0) (fetched n)
     ∙ ap (λ (m : List ℕ). putPlace (a .z) m (v .snapshot) (stepSnapshot x (a .r) (a .job)))
     (fetched n) in

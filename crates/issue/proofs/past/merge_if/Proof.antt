@@ -51,7 +51,7 @@ returns c =
       ← r .writer-row-at .ensures,
       ← k .key-at .ensures,
     )
-    (m .merge-version .ensures)
+    (m .merge-version .ensures .0)
 
 returns-2 : tie.Need-returns-2
 returns-2 c = rw (sym (c .before .has .ensures) ∙ c .if1 .left)

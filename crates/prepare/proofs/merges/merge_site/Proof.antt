@@ -30,7 +30,8 @@ returns c =
     let i = t .before in
     let a = i .before .before .before .args in
     site-merged (a .z) (a .words .now) (a .snapshot) (a .o) _ (a .sites) (a .plan) _
-    (sym (i .before .has .ensures) ∙ i .if1 .taken) (t .site-at .ensures) (k .merge-keys .ensures)
+    (sym (i .before .has .ensures) ∙ i .if1 .taken) (t .site-at .ensures)
+    (k .merge-keys .ensures .0)
 
 returns-2 : tie.Need-returns-2
 returns-2 c =

@@ -74,7 +74,7 @@ returns c =
       ← n .version-issue .ensures,
       ← d .key-at .ensures,
     )
-    (v .merge-version .ensures)
+    (v .merge-version .ensures .0)
 
 returns-2 : tie.Need-returns-2
 returns-2 c = rw (sym (c .before .has .ensures) ∙ c .if1 .left)

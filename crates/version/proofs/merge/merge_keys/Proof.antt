@@ -9,6 +9,7 @@ use Rattle.words.specs.Numbers.{foldBelow}
 use Rattle.words.proofs.Numbers.{fold-more}
 use Rattle.masks.specs.Mask.{testBit}
 use Rattle.version.proofs.Keys.{mergeStep, merge-keys}
+use Rattle.version.proofs.Merged.{place-merged}
 use Rattle.version.proofs.merge.merge_keys.Statement.{statement}
 use Rattle.version.proofs.merge.merge_keys.Tie as tie
 
@@ -55,8 +56,9 @@ returns c =
     let a = s .args in
     let e : l .loop .k ≡ a .z .keys = omega arith in
     let step : ℕ → List ℕ → List ℕ = mergeStep (a .z) (a .dst) (a .src) (testBit (a .mask)) in
-    l .loop .inv .2 ∙ ap (λ (n : ℕ). foldBelow n step (a .words .now)) e
-    ∙ merge-keys (a .z) (a .words .now) (a .dst) (a .src) (testBit (a .mask)) (s .pre)
+    place-merged (a .z) (a .words .now) (l .loop .words) (a .dst) (a .src) (testBit (a .mask))
+    (l .loop .inv .2 ∙ ap (λ (n : ℕ). foldBelow n step (a .words .now)) e
+    ∙ merge-keys (a .z) (a .words .now) (a .dst) (a .src) (testBit (a .mask)) (s .pre))
 
 pub merge-keys-spec : {M : Type 1} → statement M
 merge-keys-spec =

@@ -11,6 +11,7 @@ use Rattle.model.proofs.Merges.{merge-both, merge-unheld-left, merge-unheld-rig
 use Rattle.layout.specs.Reading.{readVersion}
 use Rattle.layout.proofs.Parts.{version-laws}
 use Rattle.layout.proofs.Windows.{part-again}
+use Rattle.version.proofs.Merged.{version-merged}
 use Rattle.version.proofs.merge.merge_version.Statement.{statement}
 use Rattle.version.proofs.merge.merge_version.Tie as tie
 
@@ -37,7 +38,9 @@ returns c =
     let a = v .before .before .before .args in
     let blank : held (readVersion (a .z) (a .words .now) (a .dst)) ≡ false =
     rw (← v .version-issue .ensures) (sym (h .is-held .ensures) ∙ not-true _ (i .if1 .taken)) in
-    rw (merge-unheld-left (a .z .writers) (a .k) _ _ blank) (p .put-version .ensures)
+    version-merged (a .z) (a .k) (a .words .now) (p .put-version .last .0) (a .dst) (a .number .0)
+    (a .leaders) (a .past)
+    (rw (merge-unheld-left (a .z .writers) (a .k) _ _ blank) (p .put-version .ensures))
 
 is-held-requires-2 : tie.Need-is-held-requires-2
 is-held-requires-2 c κs = search needs
@@ -61,8 +64,9 @@ returns-2 c =
     let mine : So (held (readVersion (a .z) (a .words .now) (a .dst))) =
     rw (← v .version-issue .ensures) (sym (h .is-held .ensures) ∙ not-false _ (i .if1 .left)) in
     let other = sym (g .is-held2 .ensures) ∙ j .if2 .taken in
-    rw (merge-both (a .z .writers) (a .k) _ _ mine other)
-    (m .merge-held .ensures)
+    version-merged (a .z) (a .k) (a .words .now) (m .merge-held .last .0) (a .dst) (a .number .0)
+    (a .leaders) (a .past)
+    (rw (merge-both (a .z .writers) (a .k) _ _ mine other) (m .merge-held .ensures))
 
 same-length-3 : tie.Need-same-length-3
 same-length-3 c = search needs
@@ -79,8 +83,9 @@ returns-3 c =
     let mine : So (held (readVersion (a .z) l (a .dst))) =
     rw (← v .version-issue .ensures) (sym (h .is-held .ensures) ∙ not-false _ (i .if1 .left)) in
     let other = sym (g .is-held2 .ensures) ∙ c .if2 .left in
-    rw (merge-unheld-right (a .z .writers) (a .k) _ _ mine other)
-    (sym (part-again (version-laws (a .z)) l (a .dst)))
+    version-merged (a .z) (a .k) l l (a .dst) (a .number .0) (a .leaders) (a .past)
+    (rw (merge-unheld-right (a .z .writers) (a .k) _ _ mine other)
+    (sym (part-again (version-laws (a .z)) l (a .dst))))
 
 pub merge-version-spec : {M : Type 1} → statement M
 merge-version-spec =
