@@ -1,4 +1,4 @@
-//! What each of the ten calls costs: the static library against the reference, on the same
+//! What each of the eleven calls costs: the static library against the reference, on the same
 //! desks, in one run, in turns.
 //!
 //! `calls`: a row for each call and size: median nanoseconds of both, and the ratio's least,
@@ -61,7 +61,7 @@ fn growth() {
     println!("| Call | Count | Values | Library ns | Reference ns |");
     println!("|---|---|---|---|---|");
     let steps = [[4, 8, 16, 32], [2, 4, 8, 16], [1, 2, 4, 8], [1, 2, 4, 8]];
-    let names = ["new", "open", "fetch", "evict", "prepare", "step", "explain", "issue", "drop", "look"];
+    let names = desks::cases(SIZES[1]).iter().map(|case| case.name).collect::<Vec<&str>>();
     for (call, name) in names.iter().enumerate() {
         for (count, values) in steps.iter().enumerate() {
             let costs = values.map(|value| {

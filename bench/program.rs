@@ -12,8 +12,9 @@ use std::time::Instant;
 const LINES: usize = 200_000;
 
 /// Calls that come back to the same desk, and what makes the desk ready for them.
-const LOOPS: [(&str, &str, &str); 6] = [
+const LOOPS: [(&str, &str, &str); 7] = [
     ("look", "", "look 0 0 0\n"),
+    ("stale", "fetch 0 0\n", "stale 0\n"),
     ("fetch", "", "fetch 0 0\n"),
     ("fetch, evict", "", "fetch 0 0\nevict 0 0\n"),
     ("open, drop", "", "open 0 0 1 0\ndrop 0\n"),

@@ -1,5 +1,5 @@
-/* Case A of the specification, an explained break and rival saves through the C header; ends with
- * 1 if an answer is not as written. */
+/* Case A of the specification, an explained break with stale marks, and rival saves through the C
+ * header; ends with 1 if an answer is not as written. */
 #include <stdio.h>
 #include <string.h>
 
@@ -31,7 +31,7 @@ static void case_a(void)
     static const uint32_t reader[] = {0, 1, 0};
     static const uint32_t two[] = {0, 1, 0, 1, 2, 1};
 
-    DUE("new 2 2 2 1", sheetdesk_new(DESK, 2, 2, 2, 1, ANSWER), SHEETDESK_OK, 96);
+    DUE("new 2 2 2 1", sheetdesk_new(DESK, 2, 2, 2, 1, ANSWER), SHEETDESK_OK, 98);
     DUE("open 0 0 0 0", sheetdesk_open(DESK, 0, empty, LEN(empty), ANSWER), SHEETDESK_OK, 1);
     DUE("step 0 0", sheetdesk_step(DESK, 0, 0, ANSWER), SHEETDESK_OK, 0, 0, 0);
     DUE("issue 0 0 3", sheetdesk_issue(DESK, 0, 0, 3, ANSWER), SHEETDESK_OK, 1);
@@ -73,7 +73,8 @@ static void besides(void)
     wrong |= sheetdesk_covers(target, 2, source, 2) != 1;
 }
 
-/* A run has read sheet 0, both sheets are saved together, and its next job reads sheet 1. */
+/* A run has read sheet 0, both sheets are saved together, and its next job reads sheet 1. Then
+ * office 0 has an older sheet 0, and office 1 has none. */
 static void explained(void)
 {
     static uint32_t other[SHEETDESK_WORDS(2, 2, 2, 2)];
@@ -94,6 +95,10 @@ static void explained(void)
     DUE("step 0 1", sheetdesk_step(other, LEN(other), 0, 1, ANSWER), SHEETDESK_BROKEN, 1);
     DUE("explain 0 1", sheetdesk_explain(other, LEN(other), 0, 1, ANSWER), SHEETDESK_REFUSED,
         SHEETDESK_WRONG_STATE);
+    DUE("stale 0", sheetdesk_stale(other, LEN(other), 0, ANSWER), SHEETDESK_OK, 1);
+    DUE("stale 1", sheetdesk_stale(other, LEN(other), 1, ANSWER), SHEETDESK_OK, 0);
+    DUE("stale 2", sheetdesk_stale(other, LEN(other), 2, ANSWER), SHEETDESK_REFUSED,
+        SHEETDESK_OUT_OF_RANGE);
 }
 
 /* A writer saves a sheet without having read the other's: both lead, until one has read both. */

@@ -1,5 +1,5 @@
-"""Case A of the specification, an explained break and rival saves through the Python module; ends with 1 if an answer is
-not as written."""
+"""Case A of the specification, an explained break with stale marks, and rival saves through the Python module; ends with 1
+if an answer is not as written."""
 import sys
 
 import sheetdesk
@@ -9,7 +9,7 @@ from sheetdesk import Desk, Job, Look, Refusal, Standing, card, compare, covers,
 def case_a(desk):
     """The calls of case A and their answers, a line each."""
     return [
-        (desk.new(2, 2, 2, 1), "ok 96"),
+        (desk.new(2, 2, 2, 1), "ok 98"),
         (desk.open(0, [Job(0, 0, 0)]), "ok 1"),
         (desk.step(0, 0), "ok 0 0 0"),
         (desk.issue(0, 0, 3), "ok 1"),
@@ -33,9 +33,10 @@ def case_a(desk):
 
 
 def explained(desk):
-    """A run has read sheet 0, both sheets are saved together, and its next job reads sheet 1."""
+    """A run has read sheet 0, both sheets are saved together, and its next job reads sheet 1. Then office 0 has an older
+    sheet 0, and office 1 has none."""
     return [
-        (desk.new(2, 2, 2, 2), "ok 136"),
+        (desk.new(2, 2, 2, 2), "ok 138"),
         (desk.open(1, [Job(0, 0, 0)]), "ok 1"),
         (desk.step(1, 0), "ok 0 0 0"),
         (desk.issue(1, 0, 1), "ok 1"),
@@ -48,13 +49,16 @@ def explained(desk):
         (desk.explain(0, 1), "path 1 0"),
         (desk.step(0, 1), "broken 1"),
         (desk.explain(0, 1), "refused 4"),
+        (desk.stale(0), "ok 1"),
+        (desk.stale(1), "ok 0"),
+        (desk.stale(2), "refused 3"),
     ]
 
 
 def rivals(desk):
     """A writer saves a sheet without having read the other's: both lead, until one has read both."""
     return [
-        (desk.new(1, 2, 1, 1), "ok 56"),
+        (desk.new(1, 2, 1, 1), "ok 57"),
         (desk.open(0, [Job(0, 0, 0)]), "ok 1"),
         (desk.step(0, 0), "ok 0 0 0"),
         (desk.issue(0, 0, 1), "ok 1"),

@@ -1,5 +1,5 @@
-//! Case A of the specification, an explained break and rival saves through the Rust wrapper; ends
-//! with 1 if an answer is not as written.
+//! Case A of the specification, an explained break with stale marks, and rival saves through the
+//! Rust wrapper; ends with 1 if an answer is not as written.
 
 mod sheetdesk;
 
@@ -13,7 +13,7 @@ fn job(office: u32, reads: u32, upstream: u32) -> Job {
 /// The calls of case A and their answers, a line each.
 fn case_a(desk: &mut Desk) -> Vec<(Answer, &'static str)> {
     vec![
-        (desk.new(2, 2, 2, 1), "ok 96"),
+        (desk.new(2, 2, 2, 1), "ok 98"),
         (desk.open(0, &[job(0, 0, 0)]), "ok 1"),
         (desk.step(0, 0), "ok 0 0 0"),
         (desk.issue(0, 0, 3), "ok 1"),
@@ -36,10 +36,11 @@ fn case_a(desk: &mut Desk) -> Vec<(Answer, &'static str)> {
     ]
 }
 
-/// A run has read sheet 0, both sheets are saved together, and its next job reads sheet 1.
+/// A run has read sheet 0, both sheets are saved together, and its next job reads sheet 1. Then
+/// office 0 has an older sheet 0, and office 1 has none.
 fn explained(desk: &mut Desk) -> Vec<(Answer, &'static str)> {
     vec![
-        (desk.new(2, 2, 2, 2), "ok 136"),
+        (desk.new(2, 2, 2, 2), "ok 138"),
         (desk.open(1, &[job(0, 0, 0)]), "ok 1"),
         (desk.step(1, 0), "ok 0 0 0"),
         (desk.issue(1, 0, 1), "ok 1"),
@@ -52,13 +53,16 @@ fn explained(desk: &mut Desk) -> Vec<(Answer, &'static str)> {
         (desk.explain(0, 1), "path 1 0"),
         (desk.step(0, 1), "broken 1"),
         (desk.explain(0, 1), "refused 4"),
+        (desk.stale(0), "ok 1"),
+        (desk.stale(1), "ok 0"),
+        (desk.stale(2), "refused 3"),
     ]
 }
 
 /// A writer saves a sheet without having read the other's: both lead, until one has read both.
 fn rivals(desk: &mut Desk) -> Vec<(Answer, &'static str)> {
     vec![
-        (desk.new(1, 2, 1, 1), "ok 56"),
+        (desk.new(1, 2, 1, 1), "ok 57"),
         (desk.open(0, &[job(0, 0, 0)]), "ok 1"),
         (desk.step(0, 0), "ok 0 0 0"),
         (desk.issue(0, 0, 1), "ok 1"),

@@ -1,4 +1,4 @@
-/* The sheet desk for C: its ten calls over one lent buffer of 32-bit words, and three calls on
+/* The sheet desk for C: its eleven calls over one lent buffer of 32-bit words, and three calls on
  * clocks. Link with -lsheetdesk_c, the static library or the shared one (x86-64 Linux); README.md
  * shows the lines.
  *
@@ -9,7 +9,7 @@
  *
  * Whose memory it is: the caller owns both buffers, desk and answer, always; a call borrows them
  * and keeps no pointer. During a call nobody else may write the desk, and nobody may read it
- * unless all calls on it are ones that only answer (those whose desk is const: look, explain).
+ * unless all calls on it are ones that only answer (whose desk is const: look, explain, stale).
  * Calls on different buffers may run at the same time. The words hold no pointer: they may be
  * copied, moved, and saved to a file, SHEETDESK_WORDS of them, in the machine's byte order
  * (little-endian on x86-64; swap the bytes of each word elsewhere). Nothing in the words says
@@ -38,9 +38,9 @@ extern "C" {
 #endif
 
 /* The version of the calls: rises when one is added or changes what it takes, does or answers. */
-#define SHEETDESK_VERSION 4
+#define SHEETDESK_VERSION 5
 /* The version of the desk's words: rises when a desk of the same counts has other words. */
-#define SHEETDESK_LAYOUT 2
+#define SHEETDESK_LAYOUT 3
 /* The same two of the library that is linked: compare them with these. */
 uint32_t sheetdesk_version(void);
 uint32_t sheetdesk_layout(void);
@@ -48,7 +48,7 @@ uint32_t sheetdesk_layout(void);
 /* The length of a slice that holds any answer. */
 #define SHEETDESK_ANSWER_WORDS 40
 /* The words of the largest desk (32 sheets, 16 writers, 8 offices, 8 runs). */
-#define SHEETDESK_MOST_WORDS 288058
+#define SHEETDESK_MOST_WORDS 288066
 
 /* The words of a desk of k sheets, w writers, n offices and p runs, to be lent before new; 0 if
  * new refuses the counts. A constant if they are. */
@@ -57,9 +57,9 @@ uint32_t sheetdesk_layout(void);
          ? SHEETDESK_WORDS_OF((size_t)(k), (size_t)(w), (size_t)(n), (size_t)(p)) \
          : 0)
 /* The same for counts in range: header, then master, shelves and cards of k versions each, a
- * count and a past for each writer, and 28 words more for each run. */
+ * mark for each shelf, a count and a past for each writer, and 28 words more for each run. */
 #define SHEETDESK_WORDS_OF(k, w, n, p) \
-    (10 + (k) * (2 + (k) * (w)) * (1 + (n) + (p)) + (w) * (1 + (k) * (w)) + 28 * (p))
+    (10 + (k) * (2 + (k) * (w)) * (1 + (n) + (p)) + (n) + (w) * (1 + (k) * (w)) + 28 * (p))
 
 /* The answer's first word. */
 enum sheetdesk_outcome {
@@ -151,6 +151,11 @@ uint32_t sheetdesk_drop(uint32_t *desk, size_t desk_len, uint32_t run, uint32_t 
  * refused. Changes nothing. */
 uint32_t sheetdesk_look(const uint32_t *desk, size_t desk_len, uint32_t place, uint32_t number,
                         uint32_t sheet, uint32_t *answer, size_t answer_len);
+
+/* Tells which sheets on the office's shelf are behind: their own clock isn't that of the master's
+ * version. Ok: the mask of these sheets. Returns 2 words. Changes nothing. */
+uint32_t sheetdesk_stale(const uint32_t *desk, size_t desk_len, uint32_t office, uint32_t *answer,
+                         size_t answer_len);
 
 /* How clock p stands against clock q. Returns an enum sheetdesk_standing; two empty clocks (both
  * lengths 0) are equal. */

@@ -1,7 +1,7 @@
 """The sheet desk for Python: the library's calls by ctypes alone, with the names of the Rust wrapper.
 
     desk = sheetdesk.Desk(sheetdesk.words(2, 2, 2, 1))
-    print(desk.new(2, 2, 2, 1))                # ok 96
+    print(desk.new(2, 2, 2, 1))                # ok 98
     print(desk.open(0, [sheetdesk.Job(0, 0, 0)]))
 
 A Desk owns its words; each call gives an Answer, which prints as the program prints it. sheetdesk.h says what each
@@ -16,10 +16,10 @@ import enum
 import os
 from typing import NamedTuple
 
-VERSION = 4
-LAYOUT = 2
+VERSION = 5
+LAYOUT = 3
 ANSWER_WORDS = 40
-MOST_WORDS = 288058
+MOST_WORDS = 288066
 
 
 class Refusal(enum.IntEnum):
@@ -115,7 +115,7 @@ def words(sheets, writers, offices, runs):
         if not 1 <= _word(count) <= most:
             return 0
     version, writer = 2 + sheets * writers, 1 + sheets * writers
-    return 10 + sheets * version * (1 + offices + runs) + writers * writer + 28 * runs
+    return 10 + sheets * version * (1 + offices + runs) + offices + writers * writer + 28 * runs
 
 
 def _word(number):
@@ -139,7 +139,8 @@ def _library():
     places = [os.path.join(here, "..", "..", "lib", name), os.path.join(here, "..", "target", "shared", name)]
     path = os.environ.get("SHEETDESK_LIBRARY") or next(filter(os.path.exists, places), name)
     library = ctypes.CDLL(path)
-    for call in "new open fetch evict prepare step explain issue drop look compare covers merge version layout".split():
+    calls = "new open fetch evict prepare step explain issue drop look stale compare covers merge version layout"
+    for call in calls.split():
         getattr(library, "sheetdesk_" + call).restype = ctypes.c_uint32
     if (library.sheetdesk_version(), library.sheetdesk_layout()) != (VERSION, LAYOUT):
         raise ImportError("%s has other calls or another layout than this module" % path)
@@ -199,6 +200,10 @@ class Desk:
         the master's."""
         kind, number = place
         return self._call("look", kind, number, sheet)
+
+    def stale(self, office):
+        """The mask of the sheets on the office's shelf that are behind the master's."""
+        return self._call("stale", office)
 
 
 def compare(p, q):

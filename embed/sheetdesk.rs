@@ -9,16 +9,16 @@
 use std::fmt;
 
 /// The version of the calls: `SHEETDESK_VERSION` of the header.
-pub const VERSION: u32 = 4;
+pub const VERSION: u32 = 5;
 
 /// The version of the desk's words: `SHEETDESK_LAYOUT` of the header. Save it with the words.
-pub const LAYOUT: u32 = 2;
+pub const LAYOUT: u32 = 3;
 
 /// Words of a slice that holds any answer.
 pub const ANSWER_WORDS: usize = 40;
 
 /// The words of the largest desk (32 sheets, 16 writers, 8 offices, 8 runs).
-pub const MOST_WORDS: usize = 288_058;
+pub const MOST_WORDS: usize = 288_066;
 
 /// The words to lend for a desk of so many sheets, writers, offices and runs; 0 if new refuses
 /// the counts.
@@ -28,7 +28,7 @@ pub const fn words(sheets: u32, writers: u32, offices: u32, runs: u32) -> usize 
         return 0;
     }
     let (version, writer) = (2 + k * w, 1 + k * w);
-    10 + k * version * (1 + n + p) + w * writer + 28 * p
+    10 + k * version * (1 + n + p) + n + w * writer + 28 * p
 }
 
 /// The exports as C has them: a slice is a pointer and a length in words.
@@ -71,6 +71,9 @@ pub mod exports {
         pub fn sheetdesk_explain(
             desk: *const u32, desk_len: usize, run: u32, job: u32,
             answer: *mut u32, answer_len: usize,
+        ) -> u32;
+        pub fn sheetdesk_stale(
+            desk: *const u32, desk_len: usize, office: u32, answer: *mut u32, answer_len: usize,
         ) -> u32;
         pub fn sheetdesk_compare(p: *const u32, p_len: usize, q: *const u32, q_len: usize) -> u32;
         pub fn sheetdesk_covers(p: *const u32, p_len: usize, q: *const u32, q_len: usize) -> u32;
@@ -374,6 +377,12 @@ impl<'a> Desk<'a> {
             Place::Card(run) => (2, run),
         };
         answer(|a, n| unsafe { sheetdesk_look(desk, len, place, number, sheet, a, n) })
+    }
+
+    /// The mask of the sheets on the office's shelf that are behind the master's.
+    pub fn stale(&self, office: u32) -> Answer {
+        let (desk, len) = (self.words.as_ptr(), self.words.len());
+        answer(|a, n| unsafe { sheetdesk_stale(desk, len, office, a, n) })
     }
 }
 

@@ -53,7 +53,7 @@ impl Book {
         }
     }
 
-    /// Enters a call. "Not ok, or look: nothing changes."
+    /// Enters a call. "Not ok, or look: nothing changes"; nor does it by explain and stale.
     pub fn feed(&mut self, call: &Call, ok: bool) -> Vec<u32> {
         if !ok {
             return Vec::new();
@@ -80,6 +80,7 @@ impl Book {
             Call::Look(place, number, sheet) => self.look(*place, *number as usize, *sheet),
             // Answered `clear`, `path` or `refused`, and never `ok`.
             Call::Explain(..) => Vec::new(),
+            Call::Stale(office) => vec![self.stale(*office as usize)],
         }
     }
 
@@ -216,6 +217,13 @@ impl Book {
             self.master[k].join(&included);
         }
         number
+    }
+
+    /// The sheets whose copy on the shelf isn't empty and isn't the master's.
+    pub fn stale(&self, office: usize) -> u32 {
+        let shelf = &self.shelves[office];
+        let behind = |k: &usize| !shelf[*k].is_empty() && !shelf[*k].same(&self.master[*k]);
+        (0..self.k).filter(behind).fold(0, |mask, k| mask | 1 << k)
     }
 
     fn look(&self, place: u32, number: usize, sheet: u32) -> Vec<u32> {

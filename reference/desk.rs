@@ -10,6 +10,7 @@ mod form;
 pub mod layout;
 pub mod reads;
 pub mod sets;
+pub mod stale;
 pub mod version;
 
 // Not every program that is built from this file calls all of them.
@@ -21,6 +22,7 @@ pub use form::in_form;
 #[allow(unused_imports)]
 pub use layout::Sizes;
 pub use reads::{evict, fetch, prepare, step};
+pub use stale::stale;
 
 /// What a call gives back.
 #[derive(Clone, PartialEq, Eq, Debug)]

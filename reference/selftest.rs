@@ -1,6 +1,6 @@
 //! Checks on lent buffers: the paper's numbers, the ten marked readings, the form, refusals
-//! 9 and 10, how clocks stand, paths behind a break, leading writers, other layouts, what stands
-//! behind a save, and random buffers. Panics at the first check that fails.
+//! 9 and 10, how clocks stand, paths behind a break, leading writers, stale marks, other layouts,
+//! what stands behind a save, and random buffers. Panics at the first check that fails.
 #![allow(dead_code)]
 
 #[path = "selftest/behind.rs"]
@@ -25,6 +25,8 @@ mod paths;
 mod random;
 #[path = "selftest/rivals.rs"]
 mod rivals;
+#[path = "selftest/stale.rs"]
+mod stale;
 #[path = "selftest/standing.rs"]
 mod standing;
 mod text;
@@ -56,6 +58,11 @@ fn main() {
     leading::on_words();
     leading::on_lent_desks();
     leading::masks_in_form();
+    stale::kept();
+    stale::kept_by_a_break();
+    stale::kept_by_a_step();
+    stale::on_lent_desks();
+    stale::asked_by_form();
     layouts::none_agree();
     let seed: u64 = std::env::args().nth(1).and_then(|word| word.parse().ok()).unwrap_or(1);
     for history in 0..200 {

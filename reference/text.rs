@@ -6,7 +6,7 @@ use crate::desk::{self, Answer};
 pub const LENT: usize = 16_384;
 const LONGEST: usize = 400;
 
-/// One of the ten calls with its numbers.
+/// One of the eleven calls with its numbers.
 #[derive(Clone, PartialEq, Eq, Debug)]
 pub enum Call {
     New([u32; 4]),
@@ -19,6 +19,7 @@ pub enum Call {
     Drop(u32),
     Look(u32, u32, u32),
     Explain(u32, u32),
+    Stale(u32),
 }
 
 /// The call that a line holds (without its line end), or nothing if it is unread.
@@ -40,6 +41,7 @@ pub fn read_line(line: &[u8]) -> Option<Call> {
         (b"drop", [run]) => Some(Call::Drop(*run)),
         (b"look", [place, number, sheet]) => Some(Call::Look(*place, *number, *sheet)),
         (b"explain", [run, job]) => Some(Call::Explain(*run, *job)),
+        (b"stale", [office]) => Some(Call::Stale(*office)),
         _ => None,
     }
 }
@@ -72,6 +74,7 @@ pub fn run(words: &mut [u32], call: &Call) -> Answer {
         Call::Drop(run) => desk::drop_run(words, *run),
         Call::Look(place, number, sheet) => desk::look(words, *place, *number, *sheet),
         Call::Explain(run, job) => desk::explain(words, *run, *job),
+        Call::Stale(office) => desk::stale(words, *office),
     }
 }
 

@@ -1,5 +1,5 @@
 //! Runs a script through the desk and the book, and tests demand 3 after each call, that no copy
-//! is ahead of the master, and whom each version names as leading writers.
+//! is ahead of the master, whom each version names as leading writers, and the shelves' marks.
 //! Ends with 1, and prints the script up to there, if a claim fails.
 #![allow(dead_code)]
 
@@ -57,11 +57,15 @@ fn one_call(
     let answer = text::run(words, call);
     seen.calls += 1;
     let refused = matches!(answer, Answer::Refused(_));
-    if (refused || matches!(call, Call::Look(..) | Call::Explain(..))) && before != words {
+    let only_answers = matches!(call, Call::Look(..) | Call::Explain(..) | Call::Stale(_));
+    if (refused || only_answers) && before != words {
         return Err("a call that is refused or only answers changed the desk".into());
     }
     if let Call::Explain(run, job) = call {
         check_explain(before, *run, *job, &answer)?;
+    }
+    if let (Call::Stale(office), Answer::Ok(marks)) = (call, &answer) {
+        check_stale(words, *office, marks[0])?;
     }
     if let (Call::New(sizes), false) = (call, refused) {
         // "The list starts on what an accepted new left."
@@ -82,6 +86,7 @@ fn one_call(
     book.check_versions(words, s)?;
     book.check_none_ahead(words, s)?;
     book.check_named()?;
+    book.check_marks(words, s)?;
     book.check_snapshots()?;
     let pairs = |run: &book::Run| run.finished.len() * run.finished.len().saturating_sub(1) / 2;
     seen.snapshots += book.runs.iter().map(pairs).sum::<usize>();
@@ -132,6 +137,20 @@ fn check_explain(
     };
     if !agree {
         return Err(format!("explain answered {answer:?}, the step {step:?}"));
+    }
+    Ok(())
+}
+
+/// Bit k exactly if a look at the shelf's k is answered and doesn't end in 0.
+fn check_stale(words: &mut [u32], office: u32, mark: u32) -> Result<(), String> {
+    for k in 0..32 {
+        let behind = match desk::look(words, 1, office, k) {
+            Answer::Ok(numbers) => numbers.last() != Some(&0),
+            _ => false,
+        };
+        if book::has(mark, k as usize) != behind {
+            return Err(format!("stale answered {mark}, the look at sheet {k} says otherwise"));
+        }
     }
     Ok(())
 }

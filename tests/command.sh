@@ -127,7 +127,7 @@ trial_speed() {
 
 # Each line of --echo is its number, the script's line, and the answer, with words behind what isn't ok.
 trial_echo() {
-  for script in case-a refused-1 refused-2 refused-3 refused-4 refused-5 refused-6 refused-7 refused-8 break-several explain-path explain-refused; do
+  for script in case-a refused-1 refused-2 refused-3 refused-4 refused-5 refused-6 refused-7 refused-8 break-several explain-path explain-refused stale-refused; do
     want 0 "--echo $script" ./sheetdesk --echo "scripts/$script.txt"
     sed -E 's/((refused|broken) [0-9]+|unread|clear|path [0-9 ]+): .*/\1/' "$work/out" >"$work/plain"
     paste -d '|' "scripts/$script.txt" "scripts/$script.out" | sed 's/|/ -> /' | awk '{ print NR ": " $0 }' |
@@ -144,6 +144,9 @@ trial_echo() {
   told "^7: step 0 8 -> refused 3: there is no such run or job"
   told "^9: a? -> unread: "
   told "^10: last -> unread: "
+  printf 'new 2 2 2 1\nstale 2\n' >"$work/office"
+  want 0 "--echo of an office" ./sheetdesk --echo "$work/office"
+  told "^2: stale 2 -> refused 3: there is no such office$"
   { yes 0 | head -n 200000 | tr '\n' ' '; echo; cat "$work/good"; } >"$work/wide"
   want 0 "--echo of a long line" timeout 20 ./sheetdesk --echo "$work/wide"
   told "^1: 0 0 .*\.\. -> unread: the line has over 400 bytes$"
@@ -160,10 +163,10 @@ trial_prompt() {
     exec 3>"$work/in"
     printf 'new 2 2 2 1\n' >&3
     for _ in {1..50}; do
-      grep -q "ok 96$" "$work/prompt" && break
+      grep -q "ok 98$" "$work/prompt" && break
       sleep 0.1
     done
-    grep -q "ok 96$" "$work/prompt" || bad "no answer before the input ended $option"
+    grep -q "ok 98$" "$work/prompt" || bad "no answer before the input ended $option"
     exec 3>&-
     wait $!
   done
@@ -245,7 +248,7 @@ trial_line_ends() {
 trial_examples() {
   sed -n '/^## EXAMPLES/,/^## DIAGNOSTICS/s/^    //p' "$page" | tail -n +2 >"$work/example"
   want 0 "the page's example" bash "$work/example"
-  [ "$(paste -sd ' ' "$work/out")" = "ok 96 ok 1 ok 0 0 0 ok 1 ok 3" ] || bad "the page's example: other answers"
+  [ "$(paste -sd ' ' "$work/out")" = "ok 98 ok 1 ok 0 0 0 ok 1 ok 3" ] || bad "the page's example: other answers"
 }
 
 # README's first screen: what is needed, and the first command with what it prints.

@@ -61,17 +61,19 @@ static int layout_refused(const uint32_t offsets[5])
         && refused(sheetdesk_explain(other, 100, 0, 0, ANSWER), SHEETDESK_NOT_IN_FORM)
         && refused(sheetdesk_issue(other, 100, 0, 0, 0, ANSWER), SHEETDESK_NOT_IN_FORM)
         && refused(sheetdesk_drop(other, 100, 0, ANSWER), SHEETDESK_NOT_IN_FORM)
-        && refused(sheetdesk_look(other, 100, 0, 0, 0, ANSWER), SHEETDESK_NOT_IN_FORM);
+        && refused(sheetdesk_look(other, 100, 0, 0, 0, ANSWER), SHEETDESK_NOT_IN_FORM)
+        && refused(sheetdesk_stale(other, 100, 0, ANSWER), SHEETDESK_NOT_IN_FORM);
     return good && memcmp(before, other, sizeof other) == 0;
 }
 
-/* Layout 1, whose versions have a word less, and one whose writers are as long as versions. */
+/* Layouts 1 and 2, and one whose writers are as long as versions. */
 static int other_layouts_refused(void)
 {
     static const uint32_t first[] = {10, 20, 30, 40, 78};
-    static const uint32_t long_writers[] = {10, 22, 34, 46, 86};
+    static const uint32_t second[] = {10, 22, 34, 44, 84};
+    static const uint32_t long_writers[] = {10, 22, 35, 47, 87};
 
-    return layout_refused(first) && layout_refused(long_writers);
+    return layout_refused(first) && layout_refused(second) && layout_refused(long_writers);
 }
 
 /* The library that is linked is the header's. */

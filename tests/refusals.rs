@@ -1,6 +1,6 @@
-// Every refusal that new, open, drop, look, explain, fetch and evict can give, tried on lent buffers through the exported
-// library: answer as expected, every word as it was, guard words untouched. Besides them: the largest store, looks and
-// leading writers on desks that no list of calls from new leaves, the longest path, and clocks compared.
+// Every refusal that new, open, drop, look, explain, stale, fetch and evict can give, tried on lent buffers through the
+// exported library: answer as expected, every word as it was, guard words untouched. Besides them: the largest store;
+// looks, leading writers and stale marks on desks that no list of calls from new leaves; the longest path; clocks compared.
 // Usage: refusals. Prints what went wrong and exits 1, or how many trials there were.
 
 #[path = "refusals/lent.rs"]
@@ -29,26 +29,27 @@ fn of_new(t: &mut Trials) {
         t.refused("new 2", &mut Desk::of(300, 7), Call::New(k, w, n, p), 2);
         t.refused("new 2 before 1", &mut Desk::of(0, 7), Call::New(k, w, n, p), 2);
     }
-    t.refused("new 1, a word short", &mut Desk::of(83, 7), Call::New(2, 2, 1, 1), 1);
+    t.refused("new 1, a word short", &mut Desk::of(84, 7), Call::New(2, 2, 1, 1), 1);
     t.refused("new 1, empty", &mut Desk::of(0, 7), Call::New(1, 1, 1, 1), 1);
-    let mut desk = Desk::of(86, 7);
-    t.ok("new", &mut desk, Call::New(2, 2, 1, 1), &[84]);
-    t.check("offsets", desk.words[..10] == [2, 2, 1, 1, 0, 10, 22, 34, 44, 84]);
-    t.check("fresh, and past the total as it was", desk.words[10..84].iter().all(|&w| w == 0) && desk.words[84..86] == [7, 7]);
+    let mut desk = Desk::of(87, 7);
+    t.ok("new", &mut desk, Call::New(2, 2, 1, 1), &[85]);
+    t.check("offsets", desk.words[..10] == [2, 2, 1, 1, 0, 10, 22, 35, 45, 85]);
+    t.check("fresh, and past the total as it was", desk.words[10..85].iter().all(|&w| w == 0) && desk.words[85..87] == [7, 7]);
 }
 
 // A desk that is not in form is refused by 1, whatever else is wrong.
 fn of_form(t: &mut Trials) {
-    let mut fresh = Desk::of(96, 0);
+    let mut fresh = Desk::of(98, 0);
     fresh.call(&Call::New(2, 2, 2, 1));
     let mut broken: Vec<Desk> = vec![Desk::of(0, 0), Desk::of(9, 1), Desk::of(300, 0), Desk::of(300, u32::MAX)];
-    for (at, word) in [(0, 0), (0, 33), (1, 17), (2, 9), (3, 9), (5, 11), (6, 23), (7, 0), (8, u32::MAX), (9, 95), (9, 97),
-        (10, 1), (11, 1), (12, 1), (22, 5), (29, 1), (56, 3), (56, 1), (57, 9), (58, 1), (59, 1), (66, 1), (85, 1), (95, 1)] {
+    for (at, word) in [(0, 0), (0, 33), (1, 17), (2, 9), (3, 9), (5, 11), (6, 23), (7, 0), (8, u32::MAX), (9, 97), (9, 99),
+        (10, 1), (11, 1), (12, 1), (22, 5), (29, 1), (34, 1), (47, 2), (58, 3), (58, 1), (59, 9), (60, 1), (61, 1), (68, 1), (87, 1),
+        (97, 1)] {
         let mut d = Desk { words: fresh.words.clone(), len: fresh.len };
         d.words[at] = word;
         broken.push(d);
     }
-    broken.push(Desk { words: fresh.words.clone(), len: 95 });
+    broken.push(Desk { words: fresh.words.clone(), len: 97 });
     for d in &mut broken {
         t.refused("open 1", d, Call::Open(9, &[]), 1);
         t.refused("drop 1", d, Call::Drop(9), 1);
@@ -56,6 +57,7 @@ fn of_form(t: &mut Trials) {
         t.refused("evict 1", d, Call::Evict(9, 9), 1);
         t.refused("look 1", d, Call::Look(9, 9, 9), 1);
         t.refused("explain 1", d, Call::Explain(9, 9), 1);
+        t.refused("stale 1", d, Call::Stale(9), 1);
     }
 }
 
@@ -87,6 +89,9 @@ fn of_caches(t: &mut Trials) {
     t.refused("evict 3, office", &mut d, Call::Evict(u32::MAX, 0), 3);
     t.refused("evict 3, sheet", &mut d, Call::Evict(0, 2), 3);
     t.refused("evict 8", &mut d, Call::Evict(1, 1), 8);
+    t.refused("stale 3", &mut d, Call::Stale(2), 3);
+    t.refused("stale 3, any office", &mut d, Call::Stale(u32::MAX), 3);
+    t.told("stale, nothing held", &mut d, Call::Stale(1), &[0, 0]);
     for (p, i, k) in [(3, 0, 0), (0, 1, 0), (1, 2, 0), (2, 2, 0), (0, 0, 2), (u32::MAX, u32::MAX, u32::MAX)] {
         t.refused("look 3", &mut d, Call::Look(p, i, k), 3);
     }
@@ -130,9 +135,9 @@ fn of_explain(t: &mut Trials) {
 }
 
 fn of_the_largest(t: &mut Trials) {
-    t.refused("largest, a word short", &mut Desk::of(288_057, 7), Call::New(32, 16, 8, 8), 1);
-    let mut d = Desk::of(288_058, 7);
-    t.ok("largest", &mut d, Call::New(32, 16, 8, 8), &[288_058]);
+    t.refused("largest, a word short", &mut Desk::of(288_065, 7), Call::New(32, 16, 8, 8), 1);
+    let mut d = Desk::of(288_066, 7);
+    t.ok("largest", &mut d, Call::New(32, 16, 8, 8), &[288_066]);
     t.refused("largest, fetch 7", &mut d, Call::Fetch(7, 31), 7);
     t.ok("largest, open", &mut d, Call::Open(7, &[7, u32::MAX, 0].repeat(8)), &[8]);
     chain(&mut d, 32, 16);
@@ -141,6 +146,7 @@ fn of_the_largest(t: &mut Trials) {
     // The issue number, the leading writers, 16 counts and the standing.
     let row: Vec<u32> = [1, 1, 1].into_iter().chain([0; 16]).collect();
     t.ok("largest, look", &mut d, Call::Look(1, 7, 31), &row);
+    t.told("largest, stale", &mut d, Call::Stale(7), &[0, 0]);
     t.ok("largest, evict", &mut d, Call::Evict(7, 16), &[0xFFFF_0000]);
     t.ok("largest, drop", &mut d, Call::Drop(7), &[0]);
 }
@@ -178,6 +184,8 @@ fn main() {
     lent::of_looks(&mut t);
     lent::of_leaders(&mut t);
     lent::of_masks(&mut t);
+    lent::of_marks(&mut t);
+    lent::of_marks_in_form(&mut t);
     of_explain(&mut t);
     lent::of_the_longest_path(&mut t);
     of_clocks(&mut t);

@@ -80,6 +80,7 @@ fn call(desk: &mut Desk, line: &str) -> Option<Answer> {
         ("explain", &[run, job]) => desk.explain(run, job),
         ("issue", &[run, writer, mask]) => desk.issue(run, writer, mask),
         ("drop", &[run]) => desk.drop(run),
+        ("stale", &[office]) => desk.stale(office),
         ("look", &[0, 0, sheet]) => desk.look(Place::Master, sheet),
         ("look", &[1, office, sheet]) => desk.look(Place::Shelf(office), sheet),
         ("look", &[2, run, sheet]) => desk.look(Place::Card(run), sheet),

@@ -4,6 +4,7 @@
 out_of_range() {
   case $1 in
     fetch* | evict*) said="there is no such office or sheet" ;;
+    stale*) said="there is no such office" ;;
     step* | explain*) said="there is no such run or job" ;;
     issue*) said="there is no such run or writer, or the mask names a sheet that there isn't" ;;
     look*) said="there is no such place, number or sheet (the master's number is 0)" ;;

@@ -1,5 +1,6 @@
 //! A desk for each call, on which the call does all it can.
 
+use crate::desk::stale::set_mark;
 use crate::desk::Sizes;
 use crate::text::{run, Call};
 
@@ -50,7 +51,7 @@ fn after(full: &[u32], calls: &[Call]) -> Vec<u32> {
 
 /// A full desk on whose master each sheet needs the next one alone. Run 0 has read the last sheet
 /// at an older count, and its next job reads the first: T, C and the path have every sheet.
-fn chained(full: &[u32], [k, w, _, _]: [u32; 4]) -> Vec<u32> {
+fn chained(full: &[u32], [k, w, n, p]: [u32; 4]) -> Vec<u32> {
     let mut words = full.to_vec();
     // Behind the issue number and the mask of leading writers stand the rows.
     let size = (2 + k * w) as usize;
@@ -63,6 +64,9 @@ fn chained(full: &[u32], [k, w, _, _]: [u32; 4]) -> Vec<u32> {
         if sheet + 1 < k {
             words[row(at, sheet + 1)] = 2;
         }
+    }
+    if let Some(s) = Sizes::of(k, w, n, p) {
+        (0..s.n).for_each(|office| set_mark(&mut words, s, office));
     }
     run(&mut words, &Call::Open(0, vec![0, 1 << (k - 1), 0, 0, 1, 0, 0, all(k), 0]));
     run(&mut words, &Call::Step(0, 0));
@@ -95,5 +99,6 @@ pub fn cases(sizes: [u32; 4]) -> Vec<Case> {
         case("issue", after(&full, &reader), Call::Issue(0, 0, all(k))),
         case("drop", after(&full, &reader), Call::Drop(0)),
         case("look", full.clone(), Call::Look(0, 0, k - 1)),
+        case("stale", full.clone(), Call::Stale(n - 1)),
     ]
 }

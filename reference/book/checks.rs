@@ -97,6 +97,17 @@ impl Book {
         Ok(())
     }
 
+    /// Each shelf's mark names just the sheets whose copy isn't empty and isn't the master's.
+    pub fn check_marks(&self, desk: &[u32], s: Sizes) -> Result<(), String> {
+        for office in 0..s.n {
+            let (mark, due) = (desk[s.stale_at(office)], self.stale(office));
+            if mark != due {
+                return Err(format!("shelf {office} is marked {mark}, by the book {due}"));
+            }
+        }
+        Ok(())
+    }
+
     /// From new every merge names a leader by what its sides say: no writer leads for want of one.
     pub fn check_named(&self) -> Result<(), String> {
         match NOBODY.load(Ordering::Relaxed) {

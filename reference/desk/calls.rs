@@ -2,6 +2,7 @@
 
 use super::form::{in_form, valid_job};
 use super::layout::*;
+use super::stale::set_mark;
 use super::version::{compare, held, merge, row, standing_number, take_larger};
 use super::*;
 
@@ -57,6 +58,7 @@ pub fn issue(desk: &mut [u32], run: u32, writer: u32, mask: u32) -> Answer {
         desk[LAST_ISSUE] = number;
         grow_writer(desk, s, run, writer as usize, mask);
         publish(desk, s, writer as usize, mask, number);
+        (0..s.n).for_each(|office| set_mark(desk, s, office));
     }
     free(desk, s, run);
     Answer::Ok(vec![number])

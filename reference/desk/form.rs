@@ -1,6 +1,7 @@
 //! "A desk is in form if": the test that every call but new starts with.
 
 use super::layout::*;
+use super::stale::stale_mask;
 use super::version::{all_zero, held, row};
 use super::{BROKEN, FREE, OPEN};
 
@@ -12,7 +13,9 @@ pub fn in_form(desk: &[u32]) -> Option<Sizes> {
             && (0..s.n).all(|office| version_in_form(desk, s, s.shelf_at(office, k), k))
             && (0..s.p).all(|run| version_in_form(desk, s, s.card_at(run, k), k))
     });
-    if versions_stand && (0..s.p).all(|run| run_in_form(desk, s, run)) {
+    let mark_stands = |office| desk[s.stale_at(office)] == stale_mask(desk, s, office);
+    let marks_stand = (0..s.n).all(mark_stands);
+    if versions_stand && marks_stand && (0..s.p).all(|run| run_in_form(desk, s, run)) {
         Some(s)
     } else {
         None

@@ -57,6 +57,11 @@ impl Sizes {
         WRITER_PAST + self.k * self.w
     }
 
+    /// A version of each sheet, then the stale mark.
+    pub fn shelf(&self) -> usize {
+        self.k * self.version() + 1
+    }
+
     pub fn master(&self) -> usize {
         HEADER
     }
@@ -66,7 +71,7 @@ impl Sizes {
     }
 
     pub fn writers(&self) -> usize {
-        self.shelves() + self.n * self.k * self.version()
+        self.shelves() + self.n * self.shelf()
     }
 
     pub fn runs(&self) -> usize {
@@ -93,7 +98,12 @@ impl Sizes {
     }
 
     pub fn shelf_at(&self, office: usize, k: usize) -> usize {
-        self.shelves() + (office * self.k + k) * self.version()
+        self.shelves() + office * self.shelf() + k * self.version()
+    }
+
+    /// Where an office's stale mark is.
+    pub fn stale_at(&self, office: usize) -> usize {
+        self.shelf_at(office, self.k)
     }
 
     pub fn writer_at(&self, writer: usize) -> usize {

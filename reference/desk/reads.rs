@@ -3,6 +3,7 @@
 use super::form::{carried, in_form};
 use super::layout::*;
 use super::sets::*;
+use super::stale::set_mark;
 use super::version::{held, merge};
 use super::*;
 
@@ -22,7 +23,7 @@ pub fn fetch(desk: &mut [u32], office: u32, sheet: u32) -> Answer {
     Answer::Ok(vec![set])
 }
 
-/// The shelf takes the master's versions, as copies.
+/// The shelf takes the master's versions, as copies, and its mark follows.
 fn take(desk: &mut [u32], s: Sizes, office: usize, set: u32) {
     for k in 0..s.k {
         if has(set, k) {
@@ -30,6 +31,7 @@ fn take(desk: &mut [u32], s: Sizes, office: usize, set: u32) {
             desk.copy_within(from..from + s.version(), s.shelf_at(office, k));
         }
     }
+    set_mark(desk, s, office);
 }
 
 /// Evict: "E leaves the shelf. Answers E."
@@ -51,6 +53,7 @@ pub fn evict(desk: &mut [u32], office: u32, sheet: u32) -> Answer {
             desk[at..at + s.version()].fill(0);
         }
     }
+    set_mark(desk, s, office);
     Answer::Ok(vec![set])
 }
 

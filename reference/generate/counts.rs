@@ -2,6 +2,7 @@
 
 use crate::chains::tied_and_carried;
 use crate::desk::layout::{has, JOBS, JOB_LIST, LEADERS};
+use crate::desk::reads::step_view;
 use crate::desk::version::{covers, held, row};
 use crate::desk::{in_form, Answer};
 use crate::text::Call;
@@ -21,6 +22,9 @@ pub struct Counts {
     looks: u64,
     looks_older: u64,
     looks_several: u64,
+    stales: u64,
+    stales_marked: u64,
+    breaks_marked: u64,
     clear: u64,
     paths: u64,
     long_paths: u64,
@@ -46,6 +50,9 @@ impl Counts {
             ("looks".into(), self.looks),
             ("looks-older".into(), self.looks_older),
             ("looks-several".into(), self.looks_several),
+            ("stales".into(), self.stales),
+            ("stales-marked".into(), self.stales_marked),
+            ("breaks-marked".into(), self.breaks_marked),
             ("clear".into(), self.clear),
             ("paths".into(), self.paths),
             ("paths-of-3".into(), self.long_paths),
@@ -60,7 +67,10 @@ impl Counts {
     pub fn enter(&mut self, before: &[u32], after: &[u32], call: &Call, answer: &Answer) {
         match (call, answer) {
             (_, Answer::Refused(number)) => self.refused[*number as usize] += 1,
-            (_, Answer::Broken(_)) => self.breaks += 1,
+            (Call::Step(run, job), Answer::Broken(_)) => {
+                self.breaks += 1;
+                self.breaks_marked += u64::from(fetches_stale(before, *run, *job));
+            }
             (Call::Fetch(..), Answer::Ok(set)) => {
                 self.fetches_of_more += u64::from(set[0].count_ones() > 1);
             }
@@ -80,6 +90,10 @@ impl Counts {
                 self.looks += 1;
                 self.looks_older += u64::from(numbers.last() == Some(&1));
                 self.looks_several += u64::from(numbers[1].count_ones() > 1);
+            }
+            (Call::Stale(_), Answer::Ok(mask)) => {
+                self.stales += 1;
+                self.stales_marked += u64::from(mask[0] != 0);
             }
             (_, Answer::Clear) => self.clear += 1,
             (Call::Explain(run, job), Answer::Path(path)) => {
@@ -106,6 +120,15 @@ fn rivals_met(before: &[u32], after: &[u32], writer: usize, mask: u32) -> u64 {
         has(mask, *k) && held(old) && !covers(own, row(old, s.w, *k))
     });
     met.count() as u64
+}
+
+/// Would the step's fetch have taken a sheet again that is marked as stale?
+fn fetches_stale(before: &[u32], run: u32, job: u32) -> bool {
+    let Some(s) = in_form(before) else {
+        return false;
+    };
+    let view = step_view(before, s, run as usize, job as usize);
+    view.fetched & before[s.stale_at(view.office)] != 0
 }
 
 /// Do shelves of the run's offices hold a sheet on its card with unequal leading writers?

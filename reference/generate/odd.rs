@@ -6,11 +6,12 @@ use crate::teller::Teller;
 /// "Before any new, the buffer is all zero": every call but new is refused.
 pub fn before_new(t: &mut Teller) {
     for _ in 0..t.below(3) {
-        match t.below(5) {
+        match t.below(6) {
             0 => t.tell("fetch", &[0, 0]),
             1 => t.tell("open", &[0]),
             2 => t.tell("explain", &[0, 0]),
             3 => t.tell("look", &[9, 9, 9]),
+            4 => t.tell("stale", &[0]),
             _ => t.tell("new", &[32, 16, 8, 8]),
         };
     }
@@ -31,7 +32,7 @@ pub fn refused(t: &mut Teller) {
 }
 
 fn too_large(t: &mut Teller) {
-    let sizes = [[32, 1, 8, 6], [28, 2, 8, 1], [32, 16, 8, 8]][t.below(3)];
+    let sizes = [[32, 1, 8, 6], [13, 12, 2, 4], [32, 16, 8, 8]][t.below(3)];
     t.tell("new", &sizes);
 }
 
@@ -48,7 +49,7 @@ fn out_of_range(t: &mut Teller) {
     let far = if t.chance(30) { u32::MAX } else { 0 };
     let [k, w, n, p] = [s.k, s.w, s.n, s.p].map(|count| far.max(count as u32));
     let place = t.below(3) as u32;
-    match t.below(14) {
+    match t.below(15) {
         0 => t.tell("open", &[p]),
         1 => t.tell("fetch", &[n, 0]),
         2 => t.tell("fetch", &[0, k]),
@@ -62,6 +63,7 @@ fn out_of_range(t: &mut Teller) {
         10 => t.tell("issue", &[0, 0, u32::MAX]),
         11 => t.tell("drop", &[p]),
         12 => t.tell("look", &[3, 0, 0]),
+        13 => t.tell("stale", &[n]),
         _ => t.tell("look", &[place, p.max(n), 0]),
     };
 }
@@ -153,7 +155,7 @@ fn not_held(t: &mut Teller) {
 
 /// Lines that are none of the forms.
 pub fn unread(t: &mut Teller) {
-    const LINES: [&[u8]; 29] = [
+    const LINES: [&[u8]; 32] = [
         b"",
         b" ",
         b"new",
@@ -183,6 +185,9 @@ pub fn unread(t: &mut Teller) {
         b"explain",
         b"explain 0",
         b"explain 0 0 0",
+        b"stale",
+        b"stale 0 0",
+        b"stale -0",
     ];
     if t.chance(80) {
         let line = LINES[t.below(LINES.len())];

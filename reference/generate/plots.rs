@@ -11,12 +11,12 @@ use crate::teller::Teller;
 /// A plot of runs, by a number below 58.
 pub fn of_runs(t: &mut Teller, number: usize) {
     match number {
-        0..=19 => break_a_run(t),
-        20..=22 => chains::explain_a_break(t),
-        23..=33 => rivals::issue_rivals(t),
-        34..=38 => rivals::rounds_of_rivals(t),
-        39..=49 => everyday::prepared_run(t),
-        50..=53 => everyday::prepare_again(t),
+        0..=21 => break_a_run(t),
+        22..=24 => chains::explain_a_break(t),
+        25..=36 => rivals::issue_rivals(t),
+        37..=41 => rivals::rounds_of_rivals(t),
+        42..=52 => everyday::prepared_run(t),
+        53..=55 => everyday::prepare_again(t),
         _ => everyday::plain_run(t),
     }
 }
@@ -24,7 +24,7 @@ pub fn of_runs(t: &mut Teller, number: usize) {
 /// A new desk, mostly small, so that sheets and writers meet often.
 pub fn fresh_desk(t: &mut Teller) {
     let sizes = if t.chance(8) {
-        const WIDE: [[u32; 4]; 4] = [[13, 12, 2, 4], [24, 3, 2, 6], [32, 1, 8, 5], [32, 2, 2, 2]];
+        const WIDE: [[u32; 4]; 4] = [[21, 5, 2, 4], [24, 3, 2, 6], [32, 1, 8, 5], [32, 2, 2, 2]];
         WIDE[t.below(4)]
     } else {
         [2 + t.below(6), 1 + t.below(6), 1 + t.below(4), 2 + t.below(3)].map(|n| n as u32)
@@ -118,8 +118,12 @@ pub fn break_a_run(t: &mut Teller) {
     if t.chance(90) {
         t.tell("step", &[run, 0]);
     }
+    if t.chance(40) {
+        // The step's fetch would take it again: a break leaves it, and its mark.
+        t.tell("fetch", &[there, a as u32]);
+    }
     pair_elsewhere(t, run as usize, a, b);
-    if t.chance(70) {
+    if t.chance(60) {
         t.tell("fetch", &[there, b as u32]);
     }
     for job in 1..jobs as u32 {

@@ -68,7 +68,27 @@ impl Teller {
         if name == "issue" && self.chance(30) {
             self.look_behind();
         }
+        let percent = match answer {
+            Some(Answer::Ok(_)) => 8,
+            Some(Answer::Broken(_)) => 50,
+            _ => 0,
+        };
+        if self.chance(percent) {
+            self.ask_stale(name, numbers);
+        }
         answer
+    }
+
+    /// A shelf's mark where the call may have changed it.
+    fn ask_stale(&mut self, name: &str, numbers: &[u32]) {
+        let office = match name {
+            "fetch" | "evict" => numbers[0] as usize,
+            "prepare" => self.job(numbers[0] as usize, 0)[0] as usize,
+            "step" => self.job(numbers[0] as usize, numbers[1] as usize)[0] as usize,
+            "issue" => self.below(self.sizes().n),
+            _ => return,
+        };
+        self.say(format!("stale {office}").as_bytes());
     }
 
     /// A look where the call may have changed a sheet: masks alone hide a wrong version. Some

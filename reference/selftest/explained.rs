@@ -3,7 +3,7 @@
 use crate::desk::layout::{DONE, JOBS, JOB_LIST, LEADERS, NUMBER, PAST, READ, STATE};
 use crate::desk::*;
 use crate::lines::works;
-use crate::marked::{fresh, put};
+use crate::marked::{fresh, put, put_marks};
 
 /// Sheet 2 needs an older 1; the fetched 1 is newer and needs the new 0.
 pub fn through_newer() {
@@ -126,6 +126,7 @@ pub fn all_sheets() {
     let at = s.card_at(0, 31);
     put(&mut words, at, &[1, 1]);
     words[at + PAST + 31] = 1;
+    put_marks(&mut words, s);
     assert!(in_form(&words).is_some());
     assert_eq!(explain(&words, 0, 1), Answer::Path((0..32).collect()));
     assert_eq!(explain(&words, 0, 2), Answer::Path(vec![30, 31]));

@@ -61,6 +61,7 @@ pub fn bad_words() {
     for at in [s.shelf_at(1, 0), s.card_at(1, 0)] {
         changes.push((at + LEADERS, 1));
     }
+    changes.extend([(s.stale_at(0), 1), (s.stale_at(0), u32::MAX), (s.stale_at(1), 2)]);
     for (at, word) in changes {
         let mut bad = words.clone();
         bad[at] = word;
@@ -90,6 +91,7 @@ pub fn all_refuse(words: &mut [u32], number: u32) {
         assert_eq!(drop_run(words, x), Answer::Refused(number));
         assert_eq!(look(words, x, x, x), Answer::Refused(number));
         assert_eq!(explain(words, x, x), Answer::Refused(number));
+        assert_eq!(stale(words, x), Answer::Refused(number));
     }
     assert_eq!(words, before);
 }

@@ -5,28 +5,46 @@ use crate::desk::*;
 use crate::forms::all_refuse;
 use crate::marked::fresh;
 
-/// Offsets and total of a layout whose versions have so many words before their rows.
-fn offsets(before: usize, [k, w, n, p]: [usize; 4]) -> [u32; 5] {
-    let (version, writer) = (before + k * w, 1 + k * w);
+/// A layout by the words of a version before its rows, and those of a shelf behind its versions.
+#[derive(Clone, Copy)]
+struct Layout {
+    version: usize,
+    shelf: usize,
+}
+
+/// Document 01's, with leading writers, with stale marks.
+const LAYOUTS: [Layout; 3] = [
+    Layout { version: 1, shelf: 0 },
+    Layout { version: 2, shelf: 0 },
+    Layout { version: 2, shelf: 1 },
+];
+
+/// The layout's offsets and total.
+fn offsets(layout: Layout, [k, w, n, p]: [usize; 4]) -> [u32; 5] {
+    let (version, writer) = (layout.version + k * w, 1 + k * w);
     let shelves = HEADER + k * version;
-    let writers = shelves + n * k * version;
+    let writers = shelves + n * (k * version + layout.shelf);
     let runs = writers + w * writer;
     let total = runs + p * (RUN_HEAD + k * version);
     [HEADER, shelves, writers, runs, total].map(|place| place as u32)
 }
 
-/// For no counts are the first layout's offsets and total those of now; the shelves always begin
-/// elsewhere. So every call but new refuses such a desk.
+/// For no counts do two layouts have the same offsets and total; shelves or writers always begin
+/// elsewhere. So every call but new refuses a desk of an older one.
 pub fn none_agree() {
     for counts in (0..32 * 16 * 8 * 8).map(|n| [n / 1024, n / 64 % 16, n / 8 % 8, n % 8]) {
         let counts = counts.map(|count| count + 1);
         let [k, w, n, p] = counts.map(|count| count as u32);
-        let now = Sizes::of(k, w, n, p).unwrap().offsets();
-        assert_eq!(now, offsets(2, counts));
-        assert_ne!(now[1], offsets(1, counts)[1]);
+        let all = LAYOUTS.map(|layout| offsets(layout, counts));
+        assert_eq!(all[2], Sizes::of(k, w, n, p).unwrap().offsets());
+        for (one, other) in [(0, 1), (0, 2), (1, 2)] {
+            assert_ne!(all[one][1..3], all[other][1..3]);
+        }
     }
-    let (mut words, _) = fresh(2, 2, 1, 1);
-    words[OFFSETS..HEADER].copy_from_slice(&[10, 20, 30, 40, 78]);
-    assert_eq!(words[OFFSETS..HEADER], offsets(1, [2, 2, 1, 1]));
-    all_refuse(&mut words, 1);
+    for (layout, due) in [(0, [10, 20, 30, 40, 78]), (1, [10, 22, 34, 44, 84])] {
+        let (mut words, _) = fresh(2, 2, 1, 1);
+        assert_eq!(offsets(LAYOUTS[layout], [2, 2, 1, 1]), due);
+        words[OFFSETS..HEADER].copy_from_slice(&due);
+        all_refuse(&mut words, 1);
+    }
 }

@@ -1,7 +1,7 @@
 //! The paper's numbers and "Readings that mislead".
 
 use crate::desk::layout::{DONE, JOBS, JOB_LIST, READ, STATE};
-use crate::desk::version::{covers, meets, merge, rivals};
+use crate::desk::version::{covers, meets, merge, rivals, row};
 use crate::desk::*;
 
 /// A fresh desk of just its total.
@@ -17,16 +17,29 @@ pub fn put(words: &mut [u32], at: usize, version: &[u32]) {
     words[at..at + version.len()].copy_from_slice(version);
 }
 
+/// Each shelf's mark as form asks it: the held sheets whose own row isn't that of the master.
+pub fn put_marks(words: &mut [u32], s: Sizes) {
+    for office in 0..s.n {
+        let behind = (0..s.k).filter(|k| {
+            let shelf = s.words(words, s.shelf_at(office, *k));
+            let master = s.words(words, s.master_at(*k));
+            shelf[0] != 0 && row(shelf, s.w, *k) != row(master, s.w, *k)
+        });
+        words[s.stale_at(office)] = behind.fold(0, |mask, k| mask | 1 << k);
+    }
+}
+
 pub fn sizes() {
     let (words, _) = fresh(2, 2, 1, 1);
-    assert_eq!(words[..10], [2, 2, 1, 1, 0, 10, 22, 34, 44, 84]);
-    assert_eq!(Sizes::of(32, 16, 8, 8).unwrap().total(), 288_058);
+    assert_eq!(words[..10], [2, 2, 1, 1, 0, 10, 22, 35, 45, 85]);
+    assert_eq!(Sizes::of(32, 16, 8, 8).unwrap().total(), 288_066);
     let total = |k, w, n, p| Sizes::of(k, w, n, p).unwrap().total();
-    assert_eq!(total(2, 2, 2, 1), 96);
-    // Two desks are just as large as what the program lends; the next larger ones aren't taken.
-    assert_eq!(total(13, 12, 2, 4), 16_384);
-    assert_eq!(total(16, 6, 5, 4), 16_384);
-    assert_eq!(total(28, 2, 8, 1), 16_392);
+    assert_eq!(total(2, 2, 2, 1), 98);
+    // Two desks leave one word of what the program lends; the next larger ones aren't taken.
+    assert_eq!(total(21, 5, 2, 4), 16_383);
+    assert_eq!(total(24, 3, 2, 6), 16_383);
+    assert_eq!(total(13, 12, 2, 4), 16_386);
+    assert_eq!(total(16, 5, 3, 8), 16_386);
     assert!(total(32, 1, 8, 5) <= 16_384 && total(32, 1, 8, 6) > 16_384);
 }
 
@@ -52,6 +65,7 @@ pub fn evict_six() {
     put(&mut words, s.shelf_at(0, 0), &[1, 1, 1, 0, 1, 0, 0, 0]);
     put(&mut words, s.shelf_at(0, 1), &[3, 1, 0, 0, 2, 0, 1, 0]);
     put(&mut words, s.shelf_at(0, 2), &[2, 1, 0, 0, 0, 0, 1, 0]);
+    put_marks(&mut words, s);
     assert_eq!(evict(&mut words, 0, 2), Answer::Ok(vec![7]));
     assert_eq!(words, fresh(3, 2, 1, 1).0);
 }
@@ -68,6 +82,7 @@ fn step_case(need: u32, read: bool) -> (Vec<u32>, Sizes) {
     put(&mut words, s.card_at(0, 0), &[1, 1, 1, 0, 0, 0]);
     put(&mut words, s.shelf_at(0, 0), &[2, 1, 2, 0, 0, 0]);
     put(&mut words, s.shelf_at(0, 1), &[3, 1, need, 0, 3, 0]);
+    put_marks(&mut words, s);
     assert!(in_form(&words).is_some());
     (words, s)
 }
@@ -97,11 +112,13 @@ pub fn step_merges() {
     // A rival on the shelf doesn't meet the need, and is taken all the same.
     let (mut words, s) = step_case(2, false);
     put(&mut words, s.shelf_at(0, 0), &[2, 2, 0, 7, 0, 0]);
+    put_marks(&mut words, s);
     assert_eq!(step(&mut words, 0, 1), Answer::Ok(vec![0, 2, 0]));
     assert_eq!(s.words(&words, s.card_at(0, 0)), [2, 3, 1, 7, 0, 0]);
     // A shelf that doesn't hold the needed sheet adds nothing.
     let (mut words, s) = step_case(2, true);
     put(&mut words, s.shelf_at(0, 0), &[0; 6]);
+    put_marks(&mut words, s);
     assert_eq!(step(&mut words, 0, 1), Answer::Ok(vec![0, 2, 0]));
     assert_eq!(s.words(&words, s.card_at(0, 0)), [1, 1, 1, 0, 0, 0]);
 }
@@ -112,6 +129,7 @@ pub fn fetch_copies() {
     let (mut words, s) = fresh(3, 1, 1, 1);
     put(&mut words, s.shelf_at(0, 0), &[9, 1, 9, 0, 8]);
     put(&mut words, s.master_at(0), &[2, 1, 3, 4, 0]);
+    put_marks(&mut words, s);
     assert_eq!(fetch(&mut words, 0, 0), Answer::Ok(vec![1]));
     assert_eq!(s.words(&words, s.shelf_at(0, 0)), [2, 1, 3, 4, 0]);
     put(&mut words, s.master_at(1), &[1, 1, 0, 1, 5]);
@@ -134,10 +152,10 @@ pub fn new_and_open() {
         assert_eq!(new(&mut [], k, w, n, p), Answer::Refused(2)); // 2 before 1
     }
     assert!(words.iter().all(|word| *word == 7));
-    assert_eq!(new(&mut words, 1, 1, 1, 1), Answer::Ok(vec![49]));
-    assert_eq!(new(&mut words, 32, 16, 8, 8), Answer::Ok(vec![288_058]));
-    assert!(words[288_058..].iter().all(|word| *word == 7));
-    assert_eq!(new(&mut words[..288_057], 32, 16, 8, 8), Answer::Refused(1));
+    assert_eq!(new(&mut words, 1, 1, 1, 1), Answer::Ok(vec![50]));
+    assert_eq!(new(&mut words, 32, 16, 8, 8), Answer::Ok(vec![288_066]));
+    assert!(words[288_066..].iter().all(|word| *word == 7));
+    assert_eq!(new(&mut words[..288_065], 32, 16, 8, 8), Answer::Refused(1));
     assert_eq!(step(&mut words, 0, 0), Answer::Refused(4));
     assert_eq!(open(&mut words, 0, &[0; 27]), Answer::Refused(5));
     assert_eq!(open(&mut words, 0, &[0; 24]), Answer::Ok(vec![8]));

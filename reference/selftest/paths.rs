@@ -160,6 +160,7 @@ fn any_desk(draw: &mut Draw) -> (Vec<u32>, Sizes) {
         let percent = if has(read, k) { 100 } else { 20 };
         version(draw, &mut words, s, s.card_at(0, k), k, percent);
     }
+    crate::marked::put_marks(&mut words, s);
     assert!(in_form(&words).is_some());
     (words, s)
 }

@@ -69,7 +69,8 @@ fn one(words: &mut [u32], call: &Call) -> bool {
     }
     let s = in_form(words).expect("an accepted call leaves the form");
     assert_eq!(words[s.total()..], before[s.total()..]);
-    assert!(!matches!(call, Call::Look(..) | Call::Explain(..)) || words == before);
+    let only_answers = matches!(call, Call::Look(..) | Call::Explain(..) | Call::Stale(_));
+    assert!(!only_answers || words == before);
     true
 }
 
@@ -86,7 +87,7 @@ fn start(draw: &mut Draw) -> Vec<u32> {
 
 fn any_call(draw: &mut Draw) -> Call {
     let [a, b, c] = [draw.number(), draw.number(), draw.number()];
-    match draw.below(43) {
+    match draw.below(45) {
         0 => Call::New([a, b, c, draw.number()]),
         1..=6 => {
             let length = if draw.below(8) == 0 { draw.below(30) } else { 3 + 3 * draw.below(3) };
@@ -103,6 +104,7 @@ fn any_call(draw: &mut Draw) -> Call {
         29..=35 => Call::Issue(a, b, c),
         36 => Call::Drop(a),
         37..=39 => Call::Explain(a, b),
+        40 | 41 => Call::Stale(a),
         _ => Call::Look(a, b, c),
     }
 }

@@ -73,12 +73,13 @@ struct Told {
 }
 
 impl Told {
-    /// One call on both; each version must be the book's, and each merge must name a leader.
+    /// One call on both; versions and marks must be the book's, and each merge must name a leader.
     fn call(&mut self, call: Call) {
         let ok = matches!(run(&mut self.words, &call), Answer::Ok(_));
         self.book.feed(&call, ok);
         self.book.check_versions(&self.words, self.s).unwrap();
         self.book.check_named().unwrap();
+        self.book.check_marks(&self.words, self.s).unwrap();
     }
 
     /// A run with a job at each of these offices; it is freed by whoever opened it.

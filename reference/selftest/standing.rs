@@ -3,7 +3,7 @@
 use crate::desk::layout::{JOBS, JOB_LIST, LAST_ISSUE, STATE};
 use crate::desk::version::{compare, covers, rivals, standing_number, Standing};
 use crate::desk::*;
-use crate::marked::{fresh, put};
+use crate::marked::{fresh, put, put_marks};
 
 /// All pairs of clocks of three counts below 3, against document 01's sentences.
 pub fn compared() {
@@ -43,6 +43,7 @@ fn lent(shelf: [[u32; 6]; 2]) -> (Vec<u32>, Sizes) {
     put(&mut words, s.master_at(0), &[3, 2, 1, 1, 0, 0]);
     put(&mut words, s.shelf_at(0, 0), &shelf[0]);
     put(&mut words, s.shelf_at(0, 1), &shelf[1]);
+    put_marks(&mut words, s);
     assert!(in_form(&words).is_some());
     (words, s)
 }
@@ -76,6 +77,7 @@ pub fn looked() {
 pub fn looked_at_card() {
     let (mut words, s) = lent([[3, 2, 1, 1, 0, 0], [6, 2, 0, 0, 0, 4]]);
     put(&mut words, s.master_at(1), &[5, 1, 7, 7, 1, 2]);
+    put_marks(&mut words, s);
     let run = s.run_at(0);
     words[run + STATE] = OPEN;
     words[run + JOBS] = 1;

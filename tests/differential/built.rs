@@ -1,14 +1,15 @@
 //! Desks that no list of calls leads to: built in form, or random words.
 
-use crate::damaged::{spoiled_mask, version_place};
+use crate::damaged::{spoiled_mark, spoiled_mask, version_place};
 use crate::desk::layout::{has, HEADER, LAST_ISSUE, OFFSETS};
 use crate::desk::layout::{COUNT, LEADERS, NUMBER, PAST, WRITER_PAST};
 use crate::desk::layout::{DONE, JOBS, JOB_LIST, READ, STATE};
+use crate::desk::stale::stale_mask;
 use crate::desk::{Sizes, BROKEN, OPEN};
 use crate::random::Random;
 
 /// A desk in form: pasts, cards, leading writers and done jobs of any kind, needs that nobody
-/// meets too. Now and then a version's mask isn't one.
+/// meets too. Now and then leading writers or a shelf's mark aren't as form asks.
 pub fn desk(random: &mut Random, [k, w, n, p]: [u32; 4], spare: usize) -> Option<Vec<u32>> {
     let s = Sizes::of(k, w, n, p)?;
     let mut words = vec![0; s.total()];
@@ -33,12 +34,27 @@ pub fn desk(random: &mut Random, [k, w, n, p]: [u32; 4], spare: usize) -> Option
             fill_run(random, s, &mut words, run);
         }
     }
-    if random.chance(5) {
-        let at = version_place(random, &words, s) + LEADERS;
-        words[at] = spoiled_mask(random, s, words[at]);
+    for office in 0..s.n {
+        words[s.stale_at(office)] = stale_mask(&words, s, office);
     }
+    spoil(random, s, &mut words);
     words.extend((0..spare).map(|_| random.word()));
     Some(words)
+}
+
+/// Seldom: leading writers that there can't be, or a mark that isn't the shelf's.
+fn spoil(random: &mut Random, s: Sizes, words: &mut [u32]) {
+    match random.below(40) {
+        0 | 1 => {
+            let at = version_place(random, words, s) + LEADERS;
+            words[at] = spoiled_mask(random, s, words[at]);
+        }
+        2 => {
+            let at = s.stale_at(random.below(s.n));
+            words[at] = spoiled_mark(random, s, words[at]);
+        }
+        _ => {}
+    }
 }
 
 /// A writer's count or the last issue number: often the largest, which can't rise.

@@ -2,20 +2,54 @@
 
 use crate::built::leaders;
 use crate::desk::layout::{HEADER, LAST_ISSUE, LEADERS};
+use crate::desk::stale::stale_mask;
 use crate::desk::Sizes;
 use crate::pair::Pair;
 use crate::random::Random;
 
-/// Changes one to ten words, or a whole version, a version's mask, or the first words of a run.
-/// In half of the cases of words only counts, issue numbers and jobs, so that the desk often stays
-/// in form.
+/// Changes one to ten words, or a whole version, a version's mask, a shelf's mark, or the first
+/// words of a run. In half of the cases of words only counts, issue numbers and jobs; and in most
+/// cases the shelves' marks follow, so that the desk often stays in form.
 pub fn damage(random: &mut Random, pair: &mut Pair) {
     let [k, w, n, p] = [0, 1, 2, 3].map(|at| pair.words()[at]);
-    match (Sizes::of(k, w, n, p), random.below(10)) {
-        (Some(s), 0 | 1) => replace_version(random, pair, s),
-        (Some(s), 2 | 3) => damage_run(random, pair, s),
-        (Some(s), 4) => damage_mask(random, pair, s),
+    let Some(s) = Sizes::of(k, w, n, p) else {
+        return damage_words(random, pair);
+    };
+    match random.below(11) {
+        0 | 1 => replace_version(random, pair, s),
+        2 | 3 => damage_run(random, pair, s),
+        4 => damage_mask(random, pair, s),
+        5 => return damage_mark(random, pair, s),
         _ => damage_words(random, pair),
+    }
+    if random.chance(85) {
+        put_marks(pair, s);
+    }
+}
+
+/// Each shelf's mark is what form asks.
+fn put_marks(pair: &mut Pair, s: Sizes) {
+    for office in 0..s.n {
+        let mark = stale_mask(pair.words(), s, office);
+        if mark != pair.words()[s.stale_at(office)] {
+            pair.set(s.stale_at(office), mark);
+        }
+    }
+}
+
+/// A shelf's mark becomes another one.
+fn damage_mark(random: &mut Random, pair: &mut Pair, s: Sizes) {
+    let at = s.stale_at(random.below(s.n));
+    let mark = spoiled_mark(random, s, pair.words()[at]);
+    pair.set(at, mark);
+}
+
+/// A mark that isn't this one: a sheet more or less, or any word.
+pub fn spoiled_mark(random: &mut Random, s: Sizes, mark: u32) -> u32 {
+    match random.below(4) {
+        0 => mark & mark.wrapping_sub(1),
+        1 => random.word(),
+        _ => mark ^ 1 << random.below(s.k),
     }
 }
 

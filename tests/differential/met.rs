@@ -17,9 +17,9 @@ pub enum Source {
 }
 
 const SOURCES: [&str; 6] = ["story", "reached", "damaged", "short", "built", "noise"];
-/// The calls that are answered `ok`: explain, the tenth, never is.
-const CALLS: [&str; 9] =
-    ["new", "open", "fetch", "evict", "prepare", "step", "issue", "drop", "look"];
+/// The calls that are answered `ok`: explain never is.
+const CALLS: [&str; 10] =
+    ["new", "open", "fetch", "evict", "prepare", "step", "issue", "drop", "look", "stale"];
 
 #[derive(Default)]
 pub struct Met {
@@ -36,10 +36,12 @@ pub struct Met {
     standings: [u64; 4],
     /// Looks at a version with several leading writers.
     several_leaders: u64,
+    /// Stales answered with a mask that isn't 0.
+    marks: u64,
     /// Calls answered ok, by source.
     by_source: [u64; 6],
     /// Answered ok, by call.
-    ok: [u64; 9],
+    ok: [u64; 10],
     refused: [u64; 11],
     breaks: u64,
     clear: u64,
@@ -61,7 +63,8 @@ fn index(call: &Call) -> usize {
         Call::Issue(..) => 6,
         Call::Drop(..) => 7,
         Call::Look(..) => 8,
-        Call::Explain(..) => 9,
+        Call::Stale(..) => 9,
+        Call::Explain(..) => 10,
     }
 }
 
@@ -88,6 +91,7 @@ impl Met {
                         self.standings[numbers[numbers.len() - 1] as usize] += 1;
                         self.several_leaders += u64::from(numbers[1].count_ones() > 1);
                     }
+                    Call::Stale(..) => self.marks += u64::from(numbers[0] != 0),
                     _ => {}
                 }
             }
@@ -100,6 +104,7 @@ impl Met {
             ("merges of rivals".into(), self.rivals, 4000),
             ("merges that name no leader".into(), NOBODY.load(Ordering::Relaxed), 100),
             ("looks at several leaders".into(), self.several_leaders, 1000),
+            ("marks that aren't 0".into(), self.marks, 1000),
             ("breaks".into(), self.breaks, 1000),
             ("explained as clear".into(), self.clear, 1000),
             ("paths".into(), self.paths, 500),
@@ -151,7 +156,7 @@ impl Met {
                 few.push(format!("{name}: {count} of {least}"));
             }
         }
-        if self.largest < 288_058 {
+        if self.largest < 288_066 {
             few.push(format!("the largest desk: {} words", self.largest));
         }
         few

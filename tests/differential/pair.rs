@@ -139,6 +139,7 @@ pub fn print_call(call: &Call) -> String {
         Call::Drop(run) => ("drop", vec![*run]),
         Call::Look(place, number, sheet) => ("look", vec![*place, *number, *sheet]),
         Call::Explain(run, job) => ("explain", vec![*run, *job]),
+        Call::Stale(office) => ("stale", vec![*office]),
     };
     numbers.iter().fold(name.to_string(), |line, number| format!("{line} {number}"))
 }

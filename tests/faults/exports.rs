@@ -1,4 +1,4 @@
-//! The reference's ten calls under the library's names, so that the differential test can be
+//! The reference's eleven calls under the library's names, so that the differential test can be
 //! tried on a copy of the reference with a fault in it. Copied next to that copy and built as
 //! a shared library.
 #![allow(dead_code)]
@@ -48,6 +48,7 @@ export!(sheetdesk_issue, desk::issue, run, writer, mask);
 export!(sheetdesk_drop, desk::drop_run, run);
 export!(sheetdesk_look, desk::look, place, number, sheet);
 export!(sheetdesk_explain, desk::explain, run, job);
+export!(sheetdesk_stale, desk::stale, office);
 
 #[no_mangle]
 pub unsafe extern "C" fn sheetdesk_open(

@@ -1,4 +1,5 @@
-//! Desks that no list of calls from new leaves: looks, leading writers, the longest path.
+//! Desks that no list of calls from new leaves: looks, leading writers, stale marks, the longest
+//! path.
 
 use crate::trials::{Call, Desk, Trials};
 
@@ -15,6 +16,7 @@ pub fn of_the_longest_path(t: &mut Trials) {
         let row = at + 2 + k;
         d.words[row..row + (32 - k).min(2)].fill(2);
     }
+    d.put_marks();
     let last = 1 << 31;
     d.words[run..run + 4].copy_from_slice(&[1, 3, 1, last]);
     d.words[run + 4..run + 13].copy_from_slice(&[0, last, 0, 0, 1, 0, 0, !last & !1, 0]);
@@ -35,11 +37,12 @@ pub fn of_the_longest_path(t: &mut Trials) {
 // A desk 2 2 1 1 whose master has sheet 0 at (1,1), in issue 3, led by writer 1, and lacks sheet
 // 1; the shelf's versions are given: issue number, leading writers, rows.
 fn lent(shelf: [[u32; 6]; 2]) -> Desk {
-    let mut d = Desk::of(86, 7);
+    let mut d = Desk::of(87, 7);
     d.call(&Call::New(2, 2, 1, 1));
     d.words[4] = 9;
     d.words[10..16].copy_from_slice(&[3, 2, 1, 1, 0, 0]);
     d.words[22..34].copy_from_slice(&shelf.concat());
+    d.put_marks();
     d
 }
 
@@ -67,7 +70,10 @@ fn one_sheet(master: [u32; 4], shelves: &[[u32; 4]]) -> Desk {
     let mut d = Desk::of(100, 7);
     d.call(&Call::New(1, 2, offices, 1));
     d.words[10..14].copy_from_slice(&master);
-    d.words[14..14 + 4 * shelves.len()].copy_from_slice(&shelves.concat());
+    for (office, version) in shelves.iter().enumerate() {
+        d.words[14 + 5 * office..18 + 5 * office].copy_from_slice(version);
+    }
+    d.put_marks();
     let jobs: Vec<u32> = (0..offices).flat_map(|office| [office, 1, 0]).collect();
     d.call(&Call::Open(0, &jobs));
     d
@@ -123,4 +129,49 @@ pub fn of_masks(t: &mut Trials) {
     t.refused("drop 3, in form", &mut d, Call::Drop(5), 3);
     d.words[11] = 1;
     t.refused("mask 1, not held", &mut d, Call::Drop(5), 1);
+}
+
+// An issue that brings the master up to the shelf, a sheet that only the shelf holds, and versions
+// that are equal in their own row alone.
+pub fn of_marks(t: &mut Trials) {
+    let mut d = one_sheet([1, 1, 1, 0], &[[2, 1, 2, 0]]);
+    d.words[4] = 5;
+    let (writers, run) = (d.words[7] as usize, d.words[8] as usize);
+    d.words[writers..writers + 2].copy_from_slice(&[1, 1]);
+    // One job that is done and has read nothing.
+    d.words[run..run + 7].copy_from_slice(&[1, 1, 1, 0, 0, 0, 0]);
+    t.told("stale, newer than the master", &mut d, Call::Stale(0), &[0, 1]);
+    t.ok("issue, up to the shelf", &mut d, Call::Issue(0, 0, 1), &[6]);
+    t.told("stale, caught up", &mut d, Call::Stale(0), &[0, 0]);
+    let mut d = one_sheet([0; 4], &[[2, 1, 2, 0]]);
+    t.told("stale, the master lacks it", &mut d, Call::Stale(0), &[0, 1]);
+    let mut d = lent([[7, 1, 1, 1, 4, 5], [0; 6]]);
+    t.told("stale, an equal row", &mut d, Call::Stale(0), &[0, 0]);
+    let mut d = lent([[3, 2, 2, 0, 0, 0], [1, 1, 0, 0, 1, 0]]);
+    t.told("stale, a rival and one that the master lacks", &mut d, Call::Stale(0), &[0, 3]);
+    t.ok("fetch, the rival", &mut d, Call::Fetch(0, 0), &[1]);
+    t.told("stale, the other one", &mut d, Call::Stale(0), &[0, 2]);
+    t.ok("evict, the other one", &mut d, Call::Evict(0, 1), &[2]);
+    t.told("stale, none", &mut d, Call::Stale(0), &[0, 0]);
+}
+
+// On the desk 2 2 1 1 the mark is word 34; one that isn't the mask is refused by every call.
+pub fn of_marks_in_form(t: &mut Trials) {
+    let mut d = lent([[7, 2, 2, 0, 0, 0], [1, 1, 0, 0, 1, 0]]);
+    t.refused("mark, drop 3", &mut d, Call::Drop(5), 3);
+    for mark in [0, 1, 2, 4, 7, u32::MAX] {
+        d.words[34] = mark;
+        t.refused("mark 1, drop", &mut d, Call::Drop(5), 1);
+        t.refused("mark 1, stale", &mut d, Call::Stale(0), 1);
+        t.refused("mark 1, look", &mut d, Call::Look(1, 0, 0), 1);
+        t.refused("mark 1, open", &mut d, Call::Open(0, &[0, 0, 0]), 1);
+        t.refused("mark 1, fetch", &mut d, Call::Fetch(0, 0), 1);
+        t.refused("mark 1, evict", &mut d, Call::Evict(0, 0), 1);
+        t.refused("mark 1, prepare", &mut d, Call::Prepare(0), 1);
+        t.refused("mark 1, step", &mut d, Call::Step(0, 0), 1);
+        t.refused("mark 1, explain", &mut d, Call::Explain(0, 0), 1);
+        t.refused("mark 1, issue", &mut d, Call::Issue(0, 0, 0), 1);
+    }
+    d.words[34] = 3;
+    t.told("mark, stale", &mut d, Call::Stale(0), &[0, 3]);
 }

@@ -10,6 +10,7 @@ extern "C" {
     fn sheetdesk_prepare(d: *mut u32, dn: usize, r: u32, a: *mut u32, an: usize) -> u32;
     fn sheetdesk_step(d: *mut u32, dn: usize, r: u32, j: u32, a: *mut u32, an: usize) -> u32;
     fn sheetdesk_explain(d: *const u32, dn: usize, r: u32, j: u32, a: *mut u32, an: usize) -> u32;
+    fn sheetdesk_stale(d: *const u32, dn: usize, o: u32, a: *mut u32, an: usize) -> u32;
     fn sheetdesk_issue(d: *mut u32, dn: usize, r: u32, w: u32, m: u32, a: *mut u32, an: usize) -> u32;
     fn sheetdesk_look(d: *const u32, dn: usize, p: u32, i: u32, k: u32, a: *mut u32, an: usize) -> u32;
     pub fn sheetdesk_compare(p: *const u32, pn: usize, q: *const u32, qn: usize) -> u32;
@@ -30,6 +31,7 @@ pub enum Call<'a> {
     Prepare(u32),
     Step(u32, u32),
     Explain(u32, u32),
+    Stale(u32),
     Issue(u32, u32, u32),
     Look(u32, u32, u32),
 }
@@ -45,6 +47,20 @@ impl Desk {
         let mut words = vec![fill; len];
         words.extend([MARK; GUARD]);
         Desk { words, len }
+    }
+
+    // Each shelf's mark as form asks it: the held sheets whose own row isn't the master's.
+    pub fn put_marks(&mut self) {
+        let [sheets, w, offices] = [0, 1, 2].map(|at| self.words[at] as usize);
+        let [master, shelves] = [5, 6].map(|at| self.words[at] as usize);
+        let size = 2 + sheets * w;
+        for office in 0..offices {
+            let shelf = shelves + office * (sheets * size + 1);
+            let own = |at: usize, k: usize| &self.words[at + k * (size + w) + 2..][..w];
+            let held = |k: usize| self.words[shelf + k * size] != 0;
+            let behind = (0..sheets).filter(|k| held(*k) && own(shelf, *k) != own(master, *k));
+            self.words[shelf + sheets * size] = behind.fold(0, |mask, k| mask | 1 << k);
+        }
     }
 
     pub fn call(&mut self, c: &Call) -> Vec<u32> {
@@ -67,6 +83,7 @@ impl Desk {
                 Call::Prepare(r) => sheetdesk_prepare(d, n, r, a, an),
                 Call::Step(r, j) => sheetdesk_step(d, n, r, j, a, an),
                 Call::Explain(r, j) => sheetdesk_explain(d, n, r, j, a, an),
+                Call::Stale(o) => sheetdesk_stale(d, n, o, a, an),
                 Call::Issue(r, w, m) => sheetdesk_issue(d, n, r, w, m, a, an),
                 Call::Look(p, i, k) => sheetdesk_look(d, n, p, i, k, a, an),
             }

@@ -9,11 +9,11 @@ use Prim.Native.Nat.{ℕ}
 use Rattle.words.specs.Tests.{Items, only}
 use Rattle.masks.specs.Mask.{testBit, withBit, maskBelow}
 use Rattle.sizes.specs.declared.Counts.{Counts}
-use Rattle.sizes.specs.Bounds.{siteAt}
+use Rattle.sizes.specs.Bounds.{masterAt, siteAt}
 use Rattle.model.specs.Algebra.{Place}
 use Rattle.model.specs.Version.{Version, held, versions}
 use Rattle.model.specs.Sets.{evictSet, evicted}
-use Rattle.model.specs.Store.{withCache}
+use Rattle.model.specs.Store.{emptyPlace, withCache}
 use Rattle.model.specs.Outcome.{done, answer, unless}
 use Rattle.model.specs.Caches.{evictCause, evictDone, evictRule}
 use Rattle.model.specs.Calls.{evict, ruleOf}
@@ -21,6 +21,9 @@ use Rattle.layout.specs.Reading.{readPlace, storeOf}
 use Rattle.layout.specs.Calls.{on, callOn, leaves}
 use Rattle.layout.proofs.Readings.{cache-in}
 use Rattle.layout.specs.Stored.{putPlace}
+use Rattle.layout.proofs.Parts.{FitPlace, place-laws}
+use Rattle.layout.proofs.Fit.{fit-empty, fit-choice}
+use Rattle.version.specs.Places.{putMark}
 use Rattle.form.specs.Parts.{FormWith}
 use Rattle.form.proofs.Known.{form-counts, cache-stored, Ends, ends}
 use Rattle.caches.specs.Range.{outOfRange}
@@ -33,6 +36,13 @@ goneOf z l at start =
 
 abbrev cacheOf : Counts → List ℕ → ℕ → Items → Place Version
 cacheOf z l at start = evicted (versions (z .writers)) (z .keys) (readPlace z l at) start
+
+cache-fits : (z : Counts) (l : List ℕ) (at : ℕ) (start : Items) → FitPlace z (cacheOf z l at start)
+unfolding evicted
+cache-fits z l at start =
+    let p = readPlace z l at in
+    fit-choice z (evictSet (versions (z .writers)) (z .keys) p start) emptyPlace p (fit-empty z)
+    (place-laws z .fits l at)
 
 module _ (l : List ℕ) (z : Counts) (H : FormWith l z) (o k : ℕ) where
   -- The rule, with its cause as the code tests it.
@@ -63,14 +73,17 @@ module _ (l : List ℕ) (z : Counts) (H : FormWith l z) (o k at : ℕ) (a : at �
       keyed-free (evict o k) l (H .form) _ _ 7 _ (evict-rule l z H o k) in-range q
       ∙ rw (form-counts l z H, cache-in l z (H .counts) o (inside z o k in-range .0))
 
-  pub evict-done : held (readPlace z l at k) ≡ true → (start E : ℕ) (m : List ℕ)
-      → start ≡ withBit 0 k
-      → E ≡ goneOf z l at (testBit start) → m ≡ putPlace z l at (cacheOf z l at (testBit start))
+  pub evict-done : held (readPlace z l at k) ≡ true → (master start E : ℕ) (m : List ℕ)
+      → master ≡ masterAt z → start ≡ withBit 0 k
+      → E ≡ goneOf z l at (testBit start)
+      → m ≡ putMark z (putPlace z l at (cacheOf z l at (testBit start))) master at
       → Ends (evict o k) l (0 ∷ E ∷ []) m
   unfolding answer leaves
-  evict-done has start E m d p q =
+  evict-done has master start E m b d p q =
       let g : E ≡ goneOf z l (siteAt z o) (only k) = rw (← a, ← one-key k, ← d) p in
-      let n : m ≡ putPlace z l (siteAt z o) (cacheOf z l (siteAt z o) (only k)) =
-      rw (← a, ← one-key k, ← d) q in
+      let p = cacheOf z l (siteAt z o) (only k) in
+      let n : m ≡ putMark z (putPlace z l (siteAt z o) p) (masterAt z) (siteAt z o) =
+      rw (← a, ← b, ← one-key k, ← d) q in
       ends (evict o k) l _ (0 ∷ E ∷ []) m (gone-as (rw (← a) has)) (ap (λ (E : ℕ). 0 ∷ E ∷ []) g)
-      (n ∙ cache-stored l z H o (cacheOf z l (siteAt z o) (only k)) (inside z o k in-range .0))
+      (n ∙ cache-stored l z H o p (inside z o k in-range .0)
+      (cache-fits z l (siteAt z o) (only k)))

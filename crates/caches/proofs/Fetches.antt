@@ -24,6 +24,9 @@ use Rattle.layout.specs.Reading.{readPlace, storeOf}
 use Rattle.layout.specs.Calls.{on, callOn, leaves}
 use Rattle.layout.proofs.Readings.{master-in, cache-in}
 use Rattle.layout.specs.Stored.{putPlace}
+use Rattle.layout.proofs.Parts.{place-laws}
+use Rattle.layout.proofs.Kept.{fetched-fits}
+use Rattle.version.specs.Places.{putMark}
 use Rattle.form.specs.Parts.{FormWith}
 use Rattle.form.proofs.Known.{form-counts, cache-stored, Ends, ends}
 use Rattle.caches.specs.Range.{outOfRange}
@@ -97,14 +100,18 @@ module _ (l : List ℕ) (z : Counts) (H : FormWith l z) (o k master : ℕ) (a : 
   pub fetch-done : held (readPlace z l master k) ≡ true → (cache start T : ℕ) (m : List ℕ)
       → cache ≡ siteAt z o → start ≡ withBit 0 k
       → T ≡ takenOf z l master cache (testBit start)
-      → m ≡ putPlace z l cache (cacheOf z l master cache (testBit start))
+      → m ≡ putMark z (putPlace z l cache (cacheOf z l master cache (testBit start))) master cache
       → Ends (fetch o k) l (0 ∷ T ∷ []) m
   unfolding answer leaves
   fetch-done has cache start T m b d p q =
       let t : T ≡ takenOf z l (masterAt z) (siteAt z o) (only k) =
       rw (← a, ← b, ← one-key k, ← d) p in
-      let n : m ≡ putPlace z l (siteAt z o) (cacheOf z l (masterAt z) (siteAt z o) (only k)) =
+      let at = siteAt z o in
+      let p = cacheOf z l (masterAt z) at (only k) in
+      let n : m ≡ putMark z (putPlace z l at p) (masterAt z) at =
       rw (← a, ← b, ← one-key k, ← d) q in
+      let F = place-laws z .fits l in
       ends (fetch o k) l _ (0 ∷ T ∷ []) m (taken-as (rw (← a) has)) (ap (λ (T : ℕ). 0 ∷ T ∷ []) t)
-      (n ∙ cache-stored l z H o (cacheOf z l (masterAt z) (siteAt z o) (only k))
-      (inside z o k in-range .0))
+      (n ∙ cache-stored l z H o p (inside z o k in-range .0)
+      (fetched-fits z (readPlace z l (masterAt z)) (readPlace z l at) (only k)
+      (F (masterAt z)) (F at)))

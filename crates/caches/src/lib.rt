@@ -66,7 +66,8 @@ pub fn evict(words: &mut [u32], site: u32, key: u32) -> Answered
     if !held(words, z, at, k) {
         return Answered::Refused(8);
     }
+    let areas = z.areas();
     let unwanted = with_item(0, key);
-    let gone = evict_keys(words, z, at, unwanted);
+    let gone = evict_keys(words, z, areas.master, at, unwanted);
     Answered::Done(gone)
 }

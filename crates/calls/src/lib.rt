@@ -1,8 +1,5 @@
-// The one way to make a call: each call on any buffer, with the words of its answer laid over a
-// lent slice. The exports make them one by one, the program by a command.
-//
-// `ready` tells whether the buffer is in form: the exports test it, the program knows it from the
-// call before.
+// The one way to make a call, on any buffer: its answer's words are laid over a lent slice. The
+// exports test whether the buffer is in form (`ready`), the program knows it from the call before.
 use answers::Answered;
 use answers::Room;
 use answers::put_answered;
@@ -18,7 +15,7 @@ ghost use Prim.Native.Nat.{_≤_, _<_};
 ghost use lib.Dec.{leb};
 ghost use lib.ListN.{length};
 ghost use Rattle.answers.specs.Answers.{answerRoom, Lays, answeredWords};
-ghost use Rattle.model.specs.Calls.{look, explain, openRun, fetch, evict, prepare, step, issue, dropRun, ask};
+ghost use Rattle.model.specs.Calls.{look, explain, stale, openRun, fetch, evict, prepare, step, issue, dropRun, ask};
 ghost use Rattle.layout.specs.Buffer.{inForm};
 ghost use Rattle.layout.specs.Calls.{new, on};
 ghost use Rattle.command.specs.Commands.{spelled, numbersEnd};
@@ -30,7 +27,6 @@ pub struct Performed {
     pub count: usize,
 }
 
-// A count of words.
 fn narrow(n: usize) -> u32
     requires { ⌜ n < 4294967296 ⌝ }
     ensures { λ r. ⌜ r ≡ n ⌝ }
@@ -203,7 +199,17 @@ pub fn explain(store: &[u32], ready: bool, run: u32, job: u32, out: &mut [u32]) 
     narrow(n)
 }
 
-// ---- by a command
+pub fn stale(store: &[u32], ready: bool, office: u32, out: &mut [u32]) -> u32
+    requires { ⌜ ready ≡ inForm (now store) ⌝ }
+    ensures { λ n. ⌜ Exported (on (ask (stale office)))
+        (now (store .entry)) (now (store .entry)) (now (out .entry)) (now (out .exit)) n ⌝ }
+{
+    if !admitted(ready, out) {
+        return turn_down(out);
+    }
+    let r = stale::stale(store, office);
+    lay(out, r)
+}
 
 // Makes the call of a command.
 fn make(store: &mut [u32], ready: bool, command: Command, numbers: &[u32], out: &mut [u32]) -> u32
@@ -225,6 +231,7 @@ fn make(store: &mut [u32], ready: bool, command: Command, numbers: &[u32], out: 
         Command::Drop(r) => drop(store, ready, r, out),
         Command::Look(p, i, k) => look(store, ready, p, i, k, out),
         Command::Explain(r, j) => explain(store, ready, r, j, out),
+        Command::Stale(o) => stale(store, ready, o, out),
     }
 }
 

@@ -1,5 +1,7 @@
 -- Clocks (document 01: "one count per writer"), of writers below W.
--- standing: how two of them stand. dominates ("covers"), concurrent ("rivals"): tests of it.
+-- standing: how two of them stand. dominates ("covers"), concurrent ("rivals"), differing: tests
+-- of
+-- it.
 -- present: not all zero. join: the larger count at each place.
 -- clockAt: the clock in a buffer from an index on.
 -- Assumes nothing.
@@ -65,6 +67,13 @@ rivalling Rival = true
 
 unfoldable pub concurrent : ℕ → Clock → Clock → Bool
 concurrent W p q = rivalling (standing W p q)
+
+-- CR 4: "isn't equal".
+abbrev pub differing : Standing → Bool
+differing Equal = false
+differing Older = true
+differing Newer = true
+differing Rival = true
 
 -- ---- one clock, and two together
 

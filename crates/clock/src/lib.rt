@@ -4,7 +4,7 @@ ghost use mathlib.Core.Path.{_≡_};
 ghost use Prim.Native.Nat.{_+_, _≤_};
 ghost use lib.ListN.{length};
 ghost use Rattle.words.specs.Words.{put, Apart};
-ghost use Rattle.clock.specs.Clock.{standing, standingOf, standingNumber, covering, present, join, clockAt};
+ghost use Rattle.clock.specs.Clock.{standing, standingOf, standingNumber, covering, differing, present, join, clockAt};
 
 // How two clocks stand.
 pub enum Standing {
@@ -35,6 +35,18 @@ pub fn covering(s: Standing) -> bool
         Standing::Older => false,
         Standing::Newer => true,
         Standing::Rival => false,
+    }
+}
+
+// Whether a clock of this standing is another one: it isn't equal.
+pub fn differing(s: Standing) -> bool
+    ensures { λ r. ⌜ r ≡ differing s ⌝ }
+{
+    match s {
+        Standing::Equal => false,
+        Standing::Older => true,
+        Standing::Newer => true,
+        Standing::Rival => true,
     }
 }
 

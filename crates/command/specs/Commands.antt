@@ -5,10 +5,10 @@ use mathlib.Core.List.{List}
 use mathlib.Core.Option.{Option, none, some}
 use Prim.Native.Nat.{ℕ, _+_}
 use lib.ListN.{take, drop}
-use Rattle.model.specs.Calls.{look, explain, openRun, fetch, evict, prepare, step, issue, dropRun, ask}
+use Rattle.model.specs.Calls.{look, explain, stale, openRun, fetch, evict, prepare, step, issue, dropRun, ask}
 use Rattle.layout.specs.Calls.{Call, new, on}
 use Rattle.command.specs.declared.Command.{Command}
-use Rattle.command.specs.declared.Command.the-variants.{Unread, New, Open, Fetch, Evict, Prepare, Step, Issue, Drop, Look, Explain}
+use Rattle.command.specs.declared.Command.the-variants.{Unread, New, Open, Fetch, Evict, Prepare, Step, Issue, Drop, Look, Explain, Stale}
 
 -- Open's job words are the n from index i on.
 abbrev pub spelled : Command → List ℕ → Option Call
@@ -23,6 +23,7 @@ spelled (Issue r w m) l = some (on (issue r w m))
 spelled (Drop r) l = some (on (dropRun r))
 spelled (Look p i k) l = some (on (ask (look p i k)))
 spelled (Explain r j) l = some (on (ask (explain r j)))
+spelled (Stale o) l = some (on (ask (stale o)))
 
 -- Open alone uses any.
 abbrev pub numbersEnd : Command → ℕ
@@ -37,3 +38,4 @@ numbersEnd (Issue r w m) = 0
 numbersEnd (Drop r) = 0
 numbersEnd (Look p i k) = 0
 numbersEnd (Explain r j) = 0
+numbersEnd (Stale o) = 0

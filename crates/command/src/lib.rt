@@ -14,4 +14,5 @@ pub enum Command {
     Drop(u32),
     Look(u32, u32, u32),
     Explain(u32, u32),
+    Stale(u32),
 }

@@ -20,8 +20,9 @@ use Rattle.sizes.specs.Bounds.{countsOf, between, ranged, pastSize, versionSize
 use Rattle.model.specs.Algebra.{Place, lacking, needsMet}
 use Rattle.model.specs.Version.{Version, held, dependency, supersedes, leadsOn, mergedLeaders, larger, merge, versions}
 use Rattle.model.specs.Sets.{draws, drawSet, fetchSet, fetched, unfetchable, pullSet, pulled}
-use Rattle.model.specs.Store.{Store, fresh, planned, doneReads, withMaster, withLast, withSites, withCache, withWriter, withRun, withState, withJobDone}
-use Rattle.model.specs.Form.{zeroRows, zeroVersion, leadersFormed, versionFormed, placeFormed, validJob, zeroJob, freeFormed, jobsFormed, masksFormed, snapshotFormed, runFormed, wellFormed}
+use Rattle.model.specs.Store.{Store, fresh, planned, doneReads, siteWith, withMaster, withLast, withMarks, withSites, withCache, withCaches, withWriter, withRun, withState, withJobDone}
+use Rattle.model.specs.Form.{zeroRows, zeroVersion, leadersFormed, versionFormed, placeFormed, validJob, zeroJob, freeFormed, jobsFormed, masksFormed, snapshotFormed, runFormed, siteFormed, wellFormed}
+use Rattle.model.specs.Marks.{isStale, staleMask}
 use Rattle.model.specs.Outcome.{answer, refuse, unless, allowed, runCause}
 use Rattle.model.specs.Runs.{listedJob, listedCount, listedJobs, listValid, openCause, openedRun, openDone, openRule, dropCause, dropDone, dropRule}
 use Rattle.model.specs.Step.{readStart, stepBranch, stepSite, stepReads, stepStart, stepFetch, stepCache, stepPlan, stepPull, stepSnapshot, stepMoved, jobLimit, notReady, jobCause, stepCause, stepBroken, stepDone, stepRule}
@@ -93,7 +94,7 @@ abbrev before : ℕ → Trace
 before S =
     let jobs = on (openRun 0 (0 ∷ 1 ∷ 0 ∷ 0 ∷ 2 ∷ 0 ∷ [])) in
     follow (saving 1 ++ (jobs ∷ on (step 0 0) ∷ saving S))
-    (start (countsOf 2 1 1 2) (replicate 101 0))
+    (start (countsOf 2 1 1 2) (replicate 102 0))
 
 -- Job 1 of run 0 reads sheet 1.
 abbrev after-job : ℕ → Trace
@@ -136,7 +137,8 @@ unfolding anyBelow allBelow only foldBelow countBelow largest when putAt upto bl
     between ranged pastSize versionSize placeSize siteSize writerSize runSize masterAt sitesAt
     writersAt runsAt tailSize tailAt totalOf lacking held dependency supersedes leadsOn
     mergedLeaders larger merge draws drawSet fetchSet fetched unfetchable pullSet pulled fresh
-    planned doneReads withMaster withLast withSites withCache withWriter withRun withState
+    planned doneReads withMaster withLast siteWith withMarks withCaches withSites withCache
+    withWriter withRun withState isStale staleMask siteFormed
     withJobDone zeroRows zeroVersion leadersFormed versionFormed placeFormed validJob zeroJob
     freeFormed jobsFormed masksFormed snapshotFormed runFormed wellFormed answer refuse unless
     allowed runCause listedJob listedCount listedJobs listValid openCause openedRun openDone

@@ -134,9 +134,9 @@ module _ {s : Store} {b : Book} (F : Follows s b) where
   pub follows-cache : (o : ℕ) (p : Place Version) (q : Place Copy)
       → Related (s .counts .keys) (Stands s b) p q → ClosedAll (s .counts .keys) (b .history) q
       → Follows (withCache s o p) (withBookCaches b (putAt (b .cache) o q))
-  unfolding withCache
+  unfolding withCache siteWith
   follows-cache o p q c d =
-      let x = siteWith (s .site o) p in
+      let x = siteWith s (s .site o) p in
       let K = s .counts .keys in
       follows-caches (putAt (s .site) o x) (putAt (b .cache) o q) (λ i l.
       putAt-both (λ (x : Site) (q : Place Copy). Related K (Stands s b) (x .cache) q

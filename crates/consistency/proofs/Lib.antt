@@ -3,6 +3,7 @@ pub mod Explaining
 pub mod Uses
 pub mod UsesRuns
 pub mod UsesLeads
+pub mod UsesMarks
 pub mod Excluded
 pub mod ExcludedLeads
 pub mod Simulation
@@ -18,6 +19,7 @@ pub mod Leads
 pub mod Changing
 pub mod Issuing
 pub mod Covering
+pub mod Marking
 pub mod Stepped
 pub mod Cutting
 pub mod Finished

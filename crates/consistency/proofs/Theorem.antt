@@ -16,9 +16,10 @@ use Rattle.history.proofs.Behind.{past-is-before}
 use Rattle.consistency.specs.Trace.{ReadSet, Trace}
 use Rattle.consistency.specs.Claim.{Holds, HoldsAt, Demand3}
 use Rattle.consistency.proofs.Invariant.{Inv}
-use Rattle.consistency.proofs.Following.{master-related, cache-related, snapshot-related}
+use Rattle.consistency.proofs.Following.{master-related, cache-related, cache-part, snapshot-related}
 use Rattle.consistency.proofs.Leads.{led-place, named}
 use Rattle.consistency.proofs.Covering.{caches-behind, snapshots-behind}
+use Rattle.consistency.proofs.Marking.{marks-true, marks-copies}
 use Rattle.consistency.proofs.Cutting.{cuts, overlaps, breaks}
 use Rattle.consistency.proofs.Finished.{read-counted, shared}
 use Rattle.consistency.proofs.Points.{At, start-at, follow-at}
@@ -44,6 +45,9 @@ inv-holds s b f F I =
       every-save = λ k i. G .every k i;
       behind-caches = caches-behind G;
       behind-snapshots = snapshots-behind G;
+      caches-part = λ o k i l h. cache-part G o l k i h;
+      marks-true = marks-true s F;
+      marks-copies = marks-copies G F;
     }
 
 pub point-holds : (t : Trace) → At t → HoldsAt t

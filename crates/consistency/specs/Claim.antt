@@ -1,6 +1,7 @@
 -- Demand 3: one claim about a whole list of calls on the buffer that an accepted new left.
 -- PastIsBefore ("stands behind"), Counted and Led (b), Named (somebody leads a merge), Snapshot
--- (c), NotAhead (no copy is ahead of the master's), Pick, Works, BreakExact (d), Holds (all of it
+-- (c), NotAhead (no copy is ahead of the master's), IsBehind (one is behind it), Pick, Works,
+-- BreakExact (d), Holds (all of it
 -- at one point of the list), Consistent.
 -- Assumes nothing.
 use mathlib.Core.Path.{_≡_}
@@ -14,6 +15,7 @@ use Rattle.clock.specs.Clock.{standing}
 use Rattle.sizes.specs.declared.Counts.{Counts}
 use Rattle.model.specs.Algebra.{Place, needsMet, causalCut, overlappingCut}
 use Rattle.model.specs.Version.{Version, held, leadsOn, merge, unheld, versions}
+use Rattle.model.specs.Marks.{staleMask}
 use Rattle.model.specs.Store.{Store, planned}
 use Rattle.model.specs.Outcome.{Outcome, refused, broken, done, told}
 use Rattle.model.specs.Calls.{step}
@@ -100,6 +102,13 @@ abbrev pub NotAhead : ℕ → ℕ → Place Version → Place Version → Type 0
 NotAhead W K master p =
     (k : ℕ) → k < K → let s = standing W (p k .past k) (master k .past k) in
     (s ≡ Equal) ⊎ (s ≡ Older)
+
+-- ---- CR 4: "which shelf copies are behind", on copies
+
+-- A shelf's copy that isn't empty and isn't the master's.
+pub record IsBehind (c master : Copy) : Type 0 where
+  pub some : (i : ℕ) × So (c i)
+  pub other : ¬ ((i : ℕ) → c i ≡ master i)
 
 -- ---- (d) "a step in the list that is not turned down breaks its run exactly if no choice .. "
 
@@ -195,6 +204,16 @@ pub record Holds (s : Store) (b : Book) (finished : ℕ → List ReadSet) : Type
       → NotAhead (s .counts .writers) (s .counts .keys) (s .master) (s .site o .cache)
   pub behind-snapshots : (r : ℕ) → r < s .counts .runs
       → NotAhead (s .counts .writers) (s .counts .keys) (s .master) (s .run r .branch .snapshot)
+  -- A shelf's copy is a part of the master's.
+  pub caches-part : (o k i : ℕ) → o < s .counts .sites → k < s .counts .keys
+      → So (b .cache o k i) → So (b .master k i)
+  -- CR 4: each shelf's mark is "the mask of held sheets whose own row isn't equal to the
+  -- master's",
+  -- and names the copies that are behind.
+  pub marks-true : (o : ℕ) → o < s .counts .sites
+      → s .site o .stale ≡ staleMask (s .counts) (s .master) (s .site o .cache)
+  pub marks-copies : (o k : ℕ) → o < s .counts .sites → k < s .counts .keys
+      → So (testBit (s .site o .stale) k) ↔ IsBehind (b .cache o k) (b .master k)
 
 -- At a point: the buffer is in form too, so that a store that spoils itself and then refuses all
 -- won't do. (d) is about the step as a call on that buffer.

@@ -13,7 +13,7 @@ use Rattle.words.specs.Words.{put}
 use Rattle.words.specs.Lists.{blocks}
 use Rattle.sizes.specs.declared.Counts.{Counts}
 use Rattle.sizes.specs.declared.Sizes.{Sizes}
-use Rattle.sizes.specs.Bounds.{headerSize, pastOffset, writerPastOffset, snapshotOffset, pastSize, versionSize, placeSize, siteSize, writerSize, runSize, tailSize, masterAt, sitesAt, writersAt, runsAt, tailAt, totalOf}
+use Rattle.sizes.specs.Bounds.{headerSize, pastOffset, siteRest, writerPastOffset, snapshotOffset, pastSize, versionSize, placeSize, siteSize, writerSize, runSize, tailSize, masterAt, sitesAt, writersAt, runsAt, tailAt, totalOf}
 use Rattle.model.specs.Version.{zeroPast, unheld}
 use Rattle.model.specs.Store.{emptyPlace, noWriter, noSite, freeRun, noTail, fresh}
 use Rattle.layout.specs.Words.{clockWords, pastWords, versionWords, placeWords, siteWords, sitesWords, writerWords, writersWords, jobWords, jobsWords, runWords, runsWords, tailWords, headerWords, storeWords}
@@ -68,9 +68,15 @@ module _ (z : Counts) where
   unfolding placeWords placeSize
   place-zero = zero-blocks (z .keys) (versionSize z) (versionWords z unheld) version-zero
 
+  site-zero : siteWords z noSite ≡ zeros (siteSize z)
+  unfolding siteWords siteSize
+  site-zero =
+      zero-join (placeWords z emptyPlace) (0 ∷ []) (placeSize z) siteRest (siteSize z) place-zero
+      refl refl
+
   sites-zero : sitesWords z (λ o. noSite) ≡ zeros (z .sites * siteSize z)
-  unfolding sitesWords siteWords siteSize
-  sites-zero = zero-blocks (z .sites) (placeSize z) (placeWords z emptyPlace) place-zero
+  unfolding sitesWords
+  sites-zero = zero-blocks (z .sites) (siteSize z) (siteWords z noSite) site-zero
 
   writers-zero : writersWords z (λ w. noWriter) ≡ zeros (z .writers * writerSize z)
   unfolding writersWords writerWords writerSize

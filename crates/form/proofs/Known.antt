@@ -8,13 +8,14 @@ use mathlib.Core.Bool.{false, So}
 use mathlib.Core.Logic.{_≢_}
 use mathlib.Core.List.{List, [], _∷_}
 use Prim.Native.Nat.{ℕ, _≤_, _<_}
-use lib.ListN.{length}
+use lib.ListN.{length, set}
 use Rattle.words.proofs.Bools.{and-left}
 use Rattle.sizes.specs.declared.Counts.{Counts}
 use Rattle.sizes.specs.declared.Sizes.{Sizes}
-use Rattle.sizes.specs.Bounds.{headerSize, sizesOf, masterAt, siteAt}
+use Rattle.sizes.specs.Bounds.{headerSize, sizesOf, masterAt, siteAt, staleAt}
 use Rattle.model.specs.Algebra.{Place}
 use Rattle.model.specs.Version.{Version}
+use Rattle.model.specs.Marks.{staleMask}
 use Rattle.model.specs.Store.{withCache}
 use Rattle.model.specs.Form.{placeFormed, wellFormed}
 use Rattle.model.specs.Outcome.{Outcome, refused, answer, unless}
@@ -25,7 +26,11 @@ use Rattle.layout.specs.Stored.{putPlace}
 use Rattle.layout.specs.Buffer.{written, shaped, inForm}
 use Rattle.layout.specs.Calls.{on, callOn, leaves}
 use Rattle.layout.proofs.Whole.{store-kept}
-use Rattle.layout.proofs.Updates.{put-cache}
+use Rattle.layout.proofs.Parts.{FitPlace, place-laws}
+use Rattle.layout.proofs.Windows.{part-back}
+use Rattle.layout.proofs.Updates.{put-site}
+use Rattle.version.specs.Places.{putMark}
+use Rattle.version.proofs.Stores.{place-beside, site-apart, site-master}
 use Rattle.layout.proofs.Readings.{counts-in, master-in, cache-in}
 use Rattle.layout.proofs.Follow.{form-fine}
 use Rattle.layout.proofs.Forms.{no-form, form-refused, form-done}
@@ -67,14 +72,27 @@ module _ (l : List ℕ) (z : Counts) (H : FormWith l z) where
       (well-out s (form-fine l (H .form) .formed) .cache o (rw form-counts h)) in
       rw (← cache-in l z (H .counts) o h, ← form-counts) formed
 
-  pub cache-stored : (o : ℕ) (p : Place Version) → o < z .sites
-      → putPlace z l (siteAt z o) p ≡ written (withCache (storeOf l) o p) l
-  cache-stored o p h =
+  -- Another cache stored, then the mark that is found there.
+  pub cache-stored : (o : ℕ) (p : Place Version) → o < z .sites → FitPlace z p
+      → putMark z (putPlace z l (siteAt z o) p) (masterAt z) (siteAt z o)
+      ≡ written (withCache (storeOf l) o p) l
+  cache-stored o p h F =
       let s = storeOf l in
+      let at = siteAt z o in
       let same = form-counts in
-      let stored : putPlace z (written s l) (siteAt z o) p ≡ written (withCache s o p) l =
-      rw (← same) (put-cache s l o p (rw same h)) in
-      ap (λ (m : List ℕ). putPlace z m (siteAt z o) p) (sym form-again) ∙ stored
+      let A = form-area in
+      let areas = site-master (length l) z (A .ranged) (A .fits) o h in
+      let stored : set (putPlace z (written s l) at p) (staleAt z at) (staleMask z (s .master) p)
+      ≡ written (withCache s o p) l =
+      rw (← same) (put-site s l o p (rw same h)) in
+      let beside : readPlace z (putPlace z l at p) (masterAt z) ≡ s .master =
+      place-beside z l at (masterAt z) p (site-apart (length l) z (A .ranged) (A .fits) o h)
+      ∙ sym (master-in l z (H .counts)) in
+      let back : readPlace z (putPlace z l at p) at ≡ p =
+      part-back (place-laws z) l at p F (areas .target .fits) in
+      rw (beside, back)
+      (ap (λ (m : List ℕ). set (putPlace z m at p) (staleAt z at) (staleMask z (s .master) p))
+      (sym form-again) ∙ stored)
 
 pub master-found : (z : Counts) (s : Sizes) → s ≡ sizesOf z → s .master ≡ masterAt z
 unfolding sizesOf

@@ -11,10 +11,10 @@ use Rattle.words.proofs.Tests.{all-same}
 use Rattle.sizes.specs.Bounds.{headerSize, runSize, masterAt, siteAt, runAt}
 use Rattle.sizes.specs.declared.Counts.{Counts}
 use Rattle.sizes.proofs.Offsets.{ordered, run-lies}
-use Rattle.model.specs.Form.{placeFormed, runFormed, wellFormed}
+use Rattle.model.specs.Form.{placeFormed, siteFormed, runFormed, wellFormed}
 use Rattle.layout.specs.Buffer.{shaped}
-use Rattle.layout.specs.Reading.{readPlace, readRun, countsIn, storeOf}
-use Rattle.layout.proofs.Readings.{cache-in, run-in}
+use Rattle.layout.specs.Reading.{readPlace, readSite, readRun, countsIn, storeOf}
+use Rattle.layout.proofs.Readings.{site-in, run-in}
 use Rattle.layout.proofs.Shapes.{shaped-out}
 use Rattle.form.specs.Parts.{RunArea, StoreArea}
 
@@ -37,15 +37,17 @@ shaped-long l p =
 
 pub store-test : (l : List ℕ) → let z = countsIn l in
     placeFormed z (readPlace z l (masterAt z))
-    && (allBelow (z .sites) (λ o. placeFormed z (readPlace z l (siteAt z o)))
+    && (allBelow (z .sites) (λ o.
+    siteFormed z (readPlace z l (masterAt z)) (readSite z l (siteAt z o)))
     && allBelow (z .runs) (λ r. runFormed z (readRun z l (runAt z r))))
     ≡ wellFormed (storeOf l)
 unfolding wellFormed storeOf
 store-test l =
     let z = countsIn l in
-    ap (λ (t : Bool). placeFormed z (readPlace z l (masterAt z)) && t) (ap₂ _&&_
-    (all-same (z .sites) (λ o. placeFormed z (readPlace z l (siteAt z o)))
-    (λ o. placeFormed z (storeOf l .site o .cache))
-    (λ o h. ap (placeFormed z) (sym (cache-in l z refl o h))))
+    let master = readPlace z l (masterAt z) in
+    ap (λ (t : Bool). placeFormed z master && t) (ap₂ _&&_
+    (all-same (z .sites) (λ o. siteFormed z master (readSite z l (siteAt z o)))
+    (λ o. siteFormed z master (storeOf l .site o))
+    (λ o h. ap (siteFormed z master) (sym (site-in l z refl o h))))
     (all-same (z .runs) (λ r. runFormed z (readRun z l (runAt z r)))
     (λ r. runFormed z (storeOf l .run r)) (λ r h. ap (runFormed z) (sym (run-in l z refl r h)))))

@@ -10,11 +10,11 @@ use Prim.Native.Nat.{ℕ, _+_, _≤_, _<_}
 use lib.Dec.{ltb}
 use Rattle.words.specs.Numbers.{when}
 use Rattle.masks.specs.Mask.{testBit, unionBelow}
-use Rattle.sizes.specs.Bounds.{placeLimit, Ranged, snapshotOffset, placeSize, totalOf, siteAt, runAt}
+use Rattle.sizes.specs.Bounds.{placeLimit, Ranged, snapshotOffset, placeSize, totalOf, masterAt, siteAt, runAt}
 use Rattle.sizes.specs.declared.Counts.{Counts}
 use Rattle.model.specs.Store.{Job}
-use Rattle.model.specs.Form.{validJob, zeroJob, placeFormed, runFormed}
-use Rattle.layout.specs.Reading.{readPlace, readRun, countsIn}
+use Rattle.model.specs.Form.{validJob, zeroJob, siteFormed, runFormed}
+use Rattle.layout.specs.Reading.{readPlace, readSite, readRun, countsIn}
 use Rattle.layout.specs.Buffer.{inForm}
 use Rattle.form.specs.declared.Part.{Part}
 
@@ -35,7 +35,8 @@ partCount z Part.Site = z .sites
 partCount z Part.Run = z .runs
 
 unfoldable pub partFormed : Counts → List ℕ → Part → ℕ → Bool
-partFormed z l Part.Site i = placeFormed z (readPlace z l (siteAt z i))
+partFormed z l Part.Site i =
+    siteFormed z (readPlace z l (masterAt z)) (readSite z l (siteAt z i))
 partFormed z l Part.Run i = runFormed z (readRun z l (runAt z i))
 
 -- ---- where a part lies in a buffer of len words

@@ -4,12 +4,15 @@ pub mod header;
 pub mod job;
 pub mod place;
 pub mod run;
+pub mod site;
 
 use header::counts;
 use header::shaped;
 use place::place_formed;
 use run::run_formed;
+use site::site_formed;
 use sizes::Counts;
+use sizes::header::HeaderOffset;
 ghost use mathlib.Core.Path.{_≡_};
 ghost use Prim.Native.Nat.{_≤_, _<_};
 ghost use lib.ListN.{length};
@@ -30,7 +33,7 @@ fn part_formed(words: &[u32], z: Counts, part: Part, i: usize) -> bool
     ensures { λ r. ⌜ r ≡ partFormed z (now (words .entry)) part i ⌝ }
 {
     match part {
-        Part::Site => place_formed(words, z, z.site_at(i)),
+        Part::Site => site_formed(words, z, HeaderOffset::SIZE, z.site_at(i)),
         Part::Run => run_formed(words, z, z.run_at(i)),
     }
 }

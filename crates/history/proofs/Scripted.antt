@@ -21,7 +21,7 @@ use Rattle.sizes.specs.declared.Counts.{Counts}
 use Rattle.model.specs.Algebra.{Place, lacking}
 use Rattle.model.specs.Version.{Version, held, dependency, supersedes, leadsOn, mergedLeaders, larger, merge}
 use Rattle.model.specs.Sets.{draws, drawSet, fetchSet, fetched, unfetchable, evictSet, evicted, pullSet, pulled}
-use Rattle.model.specs.Store.{Store, fresh, planned, withMaster, withLast, withSites, withCache, withCaches, withWriter, withRun, withState, withSnapshot, withJobDone}
+use Rattle.model.specs.Store.{Store, fresh, planned, withMaster, withLast, withSites, withCache, siteWith, withMarks, withCaches, withWriter, withRun, withState, withSnapshot, withJobDone}
 use Rattle.model.specs.Form.{validJob}
 use Rattle.model.specs.Outcome.{refuse, unless, replied, allowed, runCause}
 use Rattle.model.specs.Caches.{fetchCause, fetchDone, fetchRule, evictCause, evictDone, evictRule}
@@ -153,7 +153,8 @@ unfolding anyBelow allBelow only foldBelow countBelow largest when putAt upto bl
     between pastSize versionSize placeSize siteSize writerSize runSize masterAt sitesAt
     writersAt runsAt tailSize tailAt totalOf lacking held dependency supersedes leadsOn
     mergedLeaders larger merge draws drawSet fetchSet fetched unfetchable evictSet evicted
-    pullSet pulled fresh planned withMaster withLast withSites withCache withCaches withWriter
+    pullSet pulled fresh planned withMaster withLast withSites withCache siteWith withMarks
+    withCaches withWriter
     withRun withState withSnapshot withJobDone validJob refuse unless allowed runCause
     fetchCause fetchDone fetchRule evictCause evictDone evictRule listedJob listedCount
     listedJobs listValid openCause openedRun openDone openRule dropCause dropDone dropRule

@@ -1,53 +1,49 @@
--- An issue's stores one after the other: last issue number, writer, master, run.
+-- An issue's stores one after the other: last issue number, writer, master, marks, run.
 -- run-put: a run stored in a store just written.
 -- saved-number, savable-in: where a key is saved. countedStore: number and writer are stored.
--- writer-done, master-done: from the words that the phases leave to the store.
+-- writer-done, master-done, marks-done: from the words that the phases leave to the store.
 -- Assumes nothing.
 use mathlib.Core.Path.{_≡_, sym, ap, _∙_}
 use mathlib.Core.List.{List}
 use Prim.Native.Nat.{ℕ, _+_, _<_, _^_}
 use native.Mathlib.Omega.{arith}
 use lib.ListN.{set}
+use Rattle.words.specs.Numbers.{foldBelow}
 use Rattle.words.proofs.Bools.{ne-eqb}
 use Rattle.words.proofs.Lists.{putAt-same}
 use Rattle.sizes.specs.declared.Counts.{Counts}
 use Rattle.sizes.specs.Bounds.{masterAt, writerAt, runAt, snapshotAt}
 use Rattle.model.specs.Algebra.{Place}
 use Rattle.model.specs.Version.{Version}
-use Rattle.model.specs.Store.{Writer, Run, Store, withLast, withMaster, withWriter, withRun}
+use Rattle.model.specs.Store.{Writer, Run, Store, withLast, withMarks, withMaster, withWriter, withRun}
 use Rattle.model.specs.Issue.{takenIn, rowsSet, newPast, newVersion, issuedMaster, issuedWriter, savedStore, issuedStore, issuedNumber}
-use Rattle.layout.specs.Reading.{readPlace, readWriter, countsIn, storeOf}
+use Rattle.layout.specs.Reading.{readPlace, readWriter, storeOf}
 use Rattle.layout.specs.Stored.{putPlace, putWriter, putRun}
 use Rattle.layout.specs.Buffer.{written}
-use Rattle.layout.proofs.Whole.{FitStore, store-fits, counts-back, store-back}
-use Rattle.layout.proofs.Fit.{fit-last, fit-writer}
-use Rattle.layout.proofs.Rules.Issue.{taken-fits, rows-fit}
+use Rattle.layout.proofs.Whole.{FitStore, store-fits, store-back}
+use Rattle.layout.proofs.Fit.{fit-last, fit-master, fit-writer}
+use Rattle.layout.proofs.Rules.Issue.{past-fits, master-fits}
+use Rattle.layout.proofs.Follow.{form-fine}
 use Rattle.layout.proofs.Updates.{put-last, put-master, put-writer, put-run}
-use Rattle.layout.proofs.Readings.{master-in, writer-in, snapshot-in}
+use Rattle.layout.proofs.Readings.{writer-in, snapshot-in}
 use Rattle.form.specs.Parts.{FormWith}
 use Rattle.form.proofs.Known.{form-counts, form-again}
-use Rattle.issue.specs.Saves.{Savable}
+use Rattle.issue.specs.Saves.{Savable, markAt}
+use Rattle.issue.proofs.Marking.{counted, master-back, marks-stored}
 
 -- ---- a store that was just written: its parts, and another one of them
 
 module _ (s : Store) (l : List ℕ) (z : Counts) (F : FitStore s) (e : s .counts ≡ z) where
-  counted : z ≡ countsIn (written s l)
-  counted = sym (counts-back s l ∙ e)
-
-  master-back : readPlace z (written s l) (masterAt z) ≡ s .master
-  master-back =
-      sym (master-in (written s l) z counted) ∙ ap (λ (t : Store). t .master) (store-back s l F)
-
   writer-back : (w : ℕ) → w < z .writers
       → readWriter z (written s l) (writerAt z w) ≡ s .writer w
   writer-back w h =
-      sym (writer-in (written s l) z counted w h)
+      sym (writer-in (written s l) z (counted s l z F e) w h)
       ∙ ap (λ (t : Store). t .writer w) (store-back s l F)
 
   snapshot-back : (r : ℕ) → r < z .runs
       → readPlace z (written s l) (snapshotAt z r) ≡ s .run r .branch .snapshot
   snapshot-back r h =
-      sym (snapshot-in (written s l) z counted r h)
+      sym (snapshot-in (written s l) z (counted s l z F e) r h)
       ∙ ap (λ (t : Store). t .run r .branch .snapshot) (store-back s l F)
 
 module _ (s : Store) (l : List ℕ) (z : Counts) (e : s .counts ≡ z) where
@@ -73,11 +69,15 @@ saved-number s S h = rw (ne-eqb S 0 (omega arith))
 abbrev pub countedStore : Store → ℕ → ℕ → ℕ → Store
 countedStore s r w S = withWriter (withLast s (s .last + 1)) w (issuedWriter s r w S)
 
-saved-store : (s : Store) (r w S : ℕ) → 0 < S
-    → issuedStore s r w S
-    ≡ withMaster (countedStore s r w S)
+-- The master too, the marks aren't yet.
+abbrev pub mergedStore : Store → ℕ → ℕ → ℕ → Store
+mergedStore s r w S =
+    withMaster (countedStore s r w S)
     (issuedMaster (s .counts .writers) S (newVersion (s .last + 1) w (newPast s r w S))
     (s .master))
+
+saved-store : (s : Store) (r w S : ℕ) → 0 < S
+    → issuedStore s r w S ≡ withMarks (mergedStore s r w S)
 unfolding issuedStore savedStore
 saved-store s r w S h = rw (ne-eqb S 0 (omega arith))
 
@@ -135,15 +135,12 @@ module _ (l : List ℕ) (z : Counts) (H : FormWith l z) (r w S : ℕ) (hr : r < 
   saved-as = rw (← form-counts l z H)
 
   fits₂ : FitStore s₂
-  unfolding withLast issuedWriter newPast
+  unfolding withLast issuedWriter
   fits₂ =
       let same = form-counts l z H in
-      let F = store-fits l in
-      let taken = taken-fits (s .counts) (s .run r .branch .read) (s .run r .branch .snapshot)
-      (s .writer w .past) (F .run .each r (rw same hr) .snapshot)
-      (F .writer .each w (rw same hw) .past) in
-      fit-writer s₁ fits₁ w (issuedWriter s r w S) (rw same hw)
-      (record { past = rows-fit (s .counts) S w _ _ (rw same hS) (rw same hw) taken })
+      fit-writer s₁ fits₁ w (issuedWriter s r w S) (rw same hw) (record {
+        past = past-fits s r w S (form-fine l (H .form)) (rw same hr) (rw same hw) (rw same hS);
+      })
 
   same₂ : s₂ .counts ≡ z
   unfolding withWriter
@@ -195,12 +192,24 @@ module _ (l : List ℕ) (z : Counts) (H : FormWith l z) (r w S : ℕ) (hr : r < 
   writer-done at place read i n m₁ m₂ p q a b c e₁ e₂ =
       writer-stored m₁ m₂ read n a c (e₁ ∙ rw b number-stored) (rw (p, q) at e₂)
 
-  -- and the master.
-  pub master-done : (master at i : ℕ) (m₂ m₃ : List ℕ) → 0 < S → master ≡ masterAt z
+  -- the master,
+  pub master-done : (master at i : ℕ) (m₂ m₃ : List ℕ) → master ≡ masterAt z
       → at ≡ writerAt z w → i ≡ s .last + 1 → m₂ ≡ written s₂ l
       → m₃ ≡ putPlace z m₂ master
       (issuedMaster (z .writers) S (newVersion i w (readWriter z m₂ at .past))
       (readPlace z m₂ master))
-      → m₃ ≡ written (issuedStore s r w S) l
-  master-done master at i m₂ m₃ h d p b e₂ e₃ =
-      rw (saved-store s r w S h) (master-stored m₂ m₃ i b e₂ (rw (p, d) at e₃))
+      → m₃ ≡ written (mergedStore s r w S) l
+  master-done master at i m₂ m₃ d p b e₂ e₃ = master-stored m₂ m₃ i b e₂ (rw (p, d) at e₃)
+
+  -- and the marks.
+  pub marks-done : (master : ℕ) (m₃ m₄ : List ℕ) → 0 < S → master ≡ masterAt z
+      → m₃ ≡ written (mergedStore s r w S) l → m₄ ≡ foldBelow (z .sites) (markAt z master) m₃
+      → m₄ ≡ written (issuedStore s r w S) l
+  unfolding withMaster withWriter withLast
+  marks-done master m₃ m₄ h d e₃ e₄ =
+      let same = form-counts l z H in
+      let fits = master-fits s r w S (form-fine l (H .form)) (rw same hr) (rw same hw)
+      (rw same hS) in
+      let t = mergedStore s r w S in
+      let F : FitStore t = fit-master s₂ fits₂ new fits in
+      e₄ ∙ rw (d, e₃, saved-store s r w S h) (marks-stored t l z F same₂)

@@ -10,7 +10,7 @@ use lib.Dec.{eqb}
 use Rattle.words.proofs.Bools.{test}
 use Rattle.sizes.specs.declared.Counts.{Counts}
 use Rattle.sizes.specs.Bounds.{runAt}
-use Rattle.model.specs.Store.{Store, freeRun, withLast, withMaster, withWriter, withRun}
+use Rattle.model.specs.Store.{Store, freeRun, withCaches, withLast, withMarks, withMaster, withSites, withWriter, withRun}
 use Rattle.model.specs.Outcome.{answer, unless}
 use Rattle.model.specs.Issue.{issueCause, savedStore, issuedStore, issuedNumber, issueDone, issueRule}
 use Rattle.model.specs.Calls.{issue, ruleOf}
@@ -35,7 +35,7 @@ issue-refused l r w S n F e h =
     ends-refused (issue r w S) l n (issueDone s r w S) F rule h
 
 issued-counts : (s : Store) (r w S : ℕ) → issuedStore s r w S .counts ≡ s .counts
-unfolding issuedStore savedStore withMaster withWriter withLast
+unfolding issuedStore savedStore withMarks withCaches withSites withMaster withWriter withLast
 issued-counts s r w S = test (eqb S 0) (λ t. rw t) (λ t. rw t)
 
 pub issue-done : (l : List ℕ) (z : Counts) (r w S n : ℕ) (m₁ m : List ℕ) → FormWith l z

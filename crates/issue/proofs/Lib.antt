@@ -3,6 +3,7 @@ pub mod Pasts
 pub mod Turns
 pub mod Writers
 pub mod Masters
+pub mod Marking
 pub mod Chain
 pub mod Known
 pub mod Causes

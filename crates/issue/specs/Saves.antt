@@ -1,21 +1,23 @@
--- What an issue stores, one key at a time: a writer's past.
+-- What an issue stores: a writer's past, one key at a time, and the marks, one site at a time.
 -- withPast, takes, rowSet: a writer that takes in the past of a key, or whose row of it is set.
--- Savable: what holds where there is no cause.
+-- markAt: the mark of a site set again. Savable: what holds where there is no cause.
 -- WriterArea, Takes, Saves: where a writer lies, and a place before or behind it.
 -- Assumes nothing.
 use mathlib.Core.Path.{_≡_}
 use mathlib.Core.Bool.{false, cond}
+use mathlib.Core.List.{List}
 use Prim.Native.Nat.{ℕ, _+_, _≤_, _<_, _^_}
 use lib.Dec.{eqb}
 use Rattle.words.specs.Lists.{putAt}
 use Rattle.masks.specs.Mask.{testBit}
 use Rattle.clock.specs.Clock.{Clock}
 use Rattle.sizes.specs.declared.Counts.{Counts}
-use Rattle.sizes.specs.Bounds.{placeLimit, Ranged, placeSize, writerSize}
+use Rattle.sizes.specs.Bounds.{placeLimit, Ranged, placeSize, writerSize, siteAt}
 use Rattle.model.specs.Algebra.{Place}
 use Rattle.model.specs.Version.{Version, joinPasts}
 use Rattle.model.specs.Store.{Writer, Store}
 use Rattle.model.specs.Issue.{raiseCause}
+use Rattle.version.specs.Places.{putMark}
 
 -- ---- a writer
 
@@ -32,6 +34,12 @@ takes read p k x =
 abbrev pub rowSet : ℕ → ℕ → ℕ → ℕ → Writer → Writer
 rowSet S w n k x =
     withPast x (cond (testBit S k) (putAt (x .past) k (putAt (x .past k) w n)) (x .past))
+
+-- ---- a mark
+
+-- The words with the mark of site o set again, by the master at an index.
+abbrev pub markAt : Counts → ℕ → ℕ → List ℕ → List ℕ
+markAt z master o l = putMark z l master (siteAt z o)
 
 -- ---- what can be saved
 

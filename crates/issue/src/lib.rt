@@ -1,9 +1,11 @@
 // Issue: a writer saves keys from a finished run. Causes are all tested before a word is stored.
+mod marks;
 mod past;
 
 use answers::Answered;
 use form::header::counts;
 use form::job::is_below;
+use marks::mark_sites;
 use masks::has;
 use numbers::IssueNumber;
 use numbers::Tally;
@@ -181,7 +183,7 @@ fn next_numbers(words: &[u32], z: Counts, w: usize) -> Tally
 }
 
 // Saves the keys of a mask that isn't empty. The rows are all set before the first version is made
-// of them.
+// of them, and the marks follow the master.
 fn save_keys(words: &mut [u32], z: Counts, r: usize, w: usize, mask: u32) -> IssueNumber
     requires { ⌜ FormWith (now words) z ⌝ }
     requires { ⌜ Savable (storeOf (now words)) r w mask × (0 < mask) ⌝ }
@@ -197,5 +199,6 @@ fn save_keys(words: &mut [u32], z: Counts, r: usize, w: usize, mask: u32) -> Iss
     set_last_issue(words, tally.issue);
     save_writer(words, z, at, snapshot, read, w, mask, tally.count);
     merge_saved(words, z, areas.master, at, w, mask, tally.issue);
+    mark_sites(words, z, areas.master);
     tally.issue
 }

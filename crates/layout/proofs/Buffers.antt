@@ -10,12 +10,14 @@ use Prim.Native.Nat.{ℕ, _+_, _-_}
 use lib.ListN.{length, getD, take, replicate}
 use lib.Seq.{sets}
 use Rattle.words.specs.Tests.{anyBelow, allBelow}
-use Rattle.words.specs.Lists.{upto, blocks}
-use Rattle.clock.specs.Clock.{present}
+use Rattle.words.specs.Lists.{putAt, upto, blocks}
+use Rattle.clock.specs.Clock.{exceeds, standing, present}
 use Rattle.sizes.specs.Bounds.{countsOf, between, ranged, pastSize, versionSize, placeSize, siteSize, writerSize, runSize, masterAt, sitesAt, writersAt, runsAt, tailSize, tailAt, totalOf}
 use Rattle.model.specs.Version.{held}
-use Rattle.model.specs.Store.{fresh}
-use Rattle.model.specs.Form.{zeroRows, zeroVersion, leadersFormed, versionFormed, placeFormed, zeroJob, freeFormed, runFormed, wellFormed}
+use Rattle.model.specs.Store.{Site, emptyPlace, fresh, withSites, withSite}
+use Rattle.model.specs.Form.{zeroRows, zeroVersion, leadersFormed, versionFormed, placeFormed, zeroJob, freeFormed, runFormed, siteFormed, wellFormed}
+use Rattle.model.specs.Marks.{isStale, staleMask}
+use Rattle.masks.specs.Mask.{withBit, withIf, maskBelow}
 use Rattle.model.specs.Outcome.{answer, refuse, unless, allowed, runCause}
 use Rattle.model.specs.Runs.{dropCause, dropDone, dropRule}
 use Rattle.model.specs.Calls.{dropRun, ruleOf}
@@ -31,6 +33,12 @@ right = storeWords (fresh (countsOf 1 1 1 1))
 
 abbrev put : ℕ → ℕ → List ℕ
 put i x = sets right i (x ∷ [])
+
+-- The words of a store with marks 2 and 1.
+abbrev marks : List ℕ
+marks =
+    let marking : ℕ → Site = λ m. record { cache = emptyPlace; stale = m } in
+    storeWords (withSite (withSite (fresh (countsOf 2 2 2 1)) 0 (marking 2)) 1 (marking 1))
 
 -- One more, one less in a word.
 abbrev raised : ℕ → List ℕ
@@ -66,7 +74,7 @@ pub record Asked : Type 0 where
   pub on-total : answer (callOn (on (dropRun 1)) (raised 9)) ≡ not-taken 1
   pub new-short : answer (callOn (new 1 1 1 1) short) ≡ not-taken 1
   pub new-range : answer (callOn (new 0 1 1 1) short) ≡ not-taken 2
-  pub new-taken : answer (callOn (new 1 1 1 1) (raised 9)) ≡ ok₁ 49
+  pub new-taken : answer (callOn (new 1 1 1 1) (raised 9)) ≡ ok₁ 50
 
 pub record Buffers : Type 0 where
   pub whole : inForm right ≡ true
@@ -78,18 +86,24 @@ pub record Buffers : Type 0 where
   pub wrong-total : totals ≡ replicate 2 false
   pub wrong-count : counts ≡ replicate 6 false
   -- The last issue number and the writers are free; a master's version isn't.
-  pub free-words : map inForm (raised 4 ∷ raised 16 ∷ raised 17 ∷ []) ≡ replicate 3 true
+  pub free-words : map inForm (raised 4 ∷ raised 17 ∷ raised 18 ∷ []) ≡ replicate 3 true
   pub unheld-row : map inForm (raised 10 ∷ raised 11 ∷ raised 12 ∷ []) ≡ replicate 3 false
   pub held-row : inForm (sets right 10 (1 ∷ 1 ∷ 1 ∷ [])) ≡ true
+  -- Each mark stands behind its shelf: with two sheets, writers and offices, words 34 and 47.
+  pub mark-words : getD marks 34 0 ∷ getD marks 47 0 ∷ [] ≡ 2 ∷ 1 ∷ []
+  -- The mark of the shelf, word 16, is asked: nothing is held there.
+  pub no-mark : inForm (raised 16) ≡ false
   pub held-mask : map inForm (sets right 10 (1 ∷ 0 ∷ 1 ∷ []) ∷ sets right 10 (1 ∷ 2 ∷ 1 ∷ []) ∷ [])
       ≡ replicate 2 false
   pub calls : Asked
 
 pub buffers : Buffers
-unfolding anyBelow allBelow upto blocks present between ranged pastSize versionSize placeSize
+unfolding putAt withSites anyBelow allBelow upto blocks present between ranged pastSize
+    versionSize placeSize
     siteSize writerSize runSize masterAt sitesAt writersAt runsAt tailSize tailAt totalOf held
     fresh zeroRows zeroVersion leadersFormed versionFormed placeFormed zeroJob freeFormed
-    runFormed wellFormed clockWords
+    runFormed siteFormed
+    wellFormed isStale staleMask maskBelow withIf exceeds standing clockWords
     pastWords versionWords placeWords siteWords sitesWords writerWords writersWords jobWords
     jobsWords runWords runsWords tailWords headerWords storeWords readClock readPast readVersion
     readPlace readSite readWriter readJob readJobs readRun readTail countsIn storeOf headerRight
@@ -107,6 +121,8 @@ buffers = record {
   free-words = refl;
   unheld-row = refl;
   held-row = refl;
+  mark-words = refl;
+  no-mark = refl;
   held-mask = refl;
   calls = record {
     range = refl;

@@ -10,11 +10,13 @@ use Rattle.words.specs.Lists.{putAt}
 use Rattle.words.proofs.Bools.{test}
 use Rattle.words.proofs.Tests.{below-or-not}
 use Rattle.words.proofs.Lists.{putAt-other, putAt-cases}
+use Rattle.masks.proofs.Sets.{mask-no}
 use Rattle.clock.specs.Clock.{Clock, join}
 use Rattle.sizes.specs.declared.Counts.{Counts}
 use Rattle.model.specs.Algebra.{Place}
-use Rattle.model.specs.Version.{Version, unheld, larger, merge}
-use Rattle.model.specs.Store.{Writer, Run, Site, Store, emptyPlace, noSite, freeRun, zeroStore, fresh, siteWith, withLast, withMaster, withSites, withCache, withCaches, withWriter, withRun}
+use Rattle.model.specs.Version.{Version, unheld, held, larger, merge}
+use Rattle.model.specs.Marks.{isStale, staleMask}
+use Rattle.model.specs.Store.{Writer, Run, Site, Store, emptyPlace, noSite, freeRun, zeroStore, fresh, siteWith, withLast, withMarks, withMaster, withSites, withCache, withCaches, withWriter, withRun}
 use Rattle.model.proofs.Merges.{held-unheld, merge-cases, merge-unheld-left}
 use Rattle.layout.proofs.Codec.{FitMany}
 use Rattle.layout.proofs.Parts.{FitPast, FitVersion, FitPlace, FitSite, FitSites, FitWriter, FitRun}
@@ -126,9 +128,18 @@ place-fit z p F k =
 
 -- ---- a site with another cache
 
-fit-site-with : (z : Counts) (x : Site) (p : Place Version) → FitSite z x → FitPlace z p
-    → FitSite z (siteWith x p)
-fit-site-with z x p F G = record { cache = G }
+fit-site-with : (s : Store) (x : Site) (p : Place Version) → FitSite (s .counts) x
+    → FitPlace (s .counts) p → FitSite (s .counts) (siteWith s x p)
+unfolding siteWith
+fit-site-with s x p F G = record { cache = G }
+
+-- An empty cache has no mark.
+no-marks : (s : Store) → siteWith s noSite emptyPlace ≡ noSite
+unfolding siteWith staleMask isStale held
+no-marks s =
+    let e : staleMask (s .counts) (s .master) emptyPlace ≡ 0 =
+    mask-no (s .counts .keys) _ (λ k l. refl) in
+    λ i. record { cache = emptyPlace; stale = e i }
 
 -- ---- the store with one part changed
 
@@ -167,20 +178,26 @@ module _ (s : Store) (F : FitStore s) where
       → FitStore (withCache s o p)
   unfolding withCache
   fit-cache o p h G =
-      let x = siteWith (s .site o) p in
+      let x = siteWith s (s .site o) p in
       fit-sites (putAt (s .site) o x) (fit-put (s .site) o x (F .site) h
-      (fit-site-with (s .counts) (s .site o) p (F .site .each o h) G))
+      (fit-site-with s (s .site o) p (F .site .each o h) G))
 
   pub fit-caches : (p : ℕ → Place Version)
       → FitMany (s .counts .sites) emptyPlace (FitPlace (s .counts)) p
       → FitStore (withCaches s p)
   unfolding withCaches
   fit-caches p G =
-      let z = s .counts in
-      fit-sites (λ o. siteWith (s .site o) (p o)) (record {
-        each = λ o h. fit-site-with z (s .site o) (p o) (F .site .each o h) (G .each o h);
-        rest = λ o h. ap₂ siteWith (F .site .rest o h) (G .rest o h);
+      fit-sites (λ o. siteWith s (s .site o) (p o)) (record {
+        each = λ o h. fit-site-with s (s .site o) (p o) (F .site .each o h) (G .each o h);
+        rest = λ o h. ap₂ (siteWith s) (F .site .rest o h) (G .rest o h) ∙ no-marks s;
       })
+
+  pub fit-marks : FitStore (withMarks s)
+  unfolding withMarks
+  fit-marks = fit-caches (λ o. s .site o .cache) (record {
+    each = λ o h. F .site .each o h .cache;
+    rest = λ o h. ap (λ (x : Site). x .cache) (F .site .rest o h);
+  })
 
   pub fit-writer : (w : ℕ) (x : Writer) → w < s .counts .writers → FitWriter (s .counts) x
       → FitStore (withWriter s w x)

@@ -2,6 +2,7 @@ pub mod Buffers
 pub mod Older
 pub mod Scripted
 pub mod Codec
+pub mod Jobs
 pub mod Parts
 pub mod Tail
 pub mod Shapes
@@ -9,6 +10,7 @@ pub mod Whole
 pub mod Fit
 pub mod Views
 pub mod Updates
+pub mod Tails
 pub mod Windows
 pub mod Places
 pub mod Merges

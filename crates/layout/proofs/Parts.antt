@@ -11,7 +11,7 @@ use Rattle.words.specs.Lists.{window, upto}
 use Rattle.words.proofs.Lists.{append-same, window-add, window-cons}
 use Rattle.clock.specs.Clock.{Clock}
 use Rattle.sizes.specs.declared.Counts.{Counts}
-use Rattle.sizes.specs.Bounds.{maxJobs, jobSize, upstreamOffset, jobsOffset, doneOffset, readOffset, planOffset, planSize, snapshotOffset, pastSize, versionSize, placeSize, siteSize, writerSize, runSize}
+use Rattle.sizes.specs.Bounds.{jobsOffset, doneOffset, readOffset, planOffset, planSize, snapshotOffset, pastSize, versionSize, placeSize, siteSize, writerSize, runSize}
 use Rattle.model.specs.Algebra.{Place}
 use Rattle.model.specs.Version.{Version, unheld}
 use Rattle.model.specs.Store.{Writer, Job, Run, Site, noWriter, noJob, noSite, freeRun}
@@ -19,14 +19,12 @@ use Rattle.model.proofs.Merges.{version-path}
 use Rattle.layout.specs.Words.{clockWords, pastWords, versionWords, placeWords, siteWords, sitesWords, writerWords, writersWords, jobWords, jobsWords, runWords, runsWords}
 use Rattle.layout.specs.Reading.{readWord, readClock, readPast, readVersion, readPlace, readSite, readWriter, readJob, readJobs, readRun}
 use Rattle.layout.proofs.Codec.{Laws, FitMany, many}
+use Rattle.layout.proofs.Jobs.{cons-same, FitJobs, jobs-laws}
 
 -- ---- words
 
 -- Any number.
 pub record Any (x : ℕ) : Type 0 where
-
-cons-same : (x y : ℕ) (a b : List ℕ) → x ∷ a ≡ y ∷ b → (x ≡ y) × (a ≡ b)
-cons-same x y a b e = (ap (λ (l : List ℕ). getD l 0 0) e, ap (drop 1) e)
 
 pub word-laws : Laws 1 (λ x. x ∷ []) readWord Any
 unfolding window
@@ -109,12 +107,16 @@ unfolding siteSize siteWords readSite
 site-laws z =
     let L = place-laws z in
     record {
-      long = λ x. L .long (x .cache);
-      round = L .round;
+      long = λ x. rw (length-append, L .long (x .cache)) (omega arith);
+      round = λ l at.
+          ap₂ _++_ (L .round l at) (word-laws .round l (at + placeSize z))
+          ∙ sym (window-add l at (placeSize z) 1);
       fits = λ l at. record { cache = L .fits l at };
       same = λ a b F G e.
-          let p = L .same (a .cache) (b .cache) (F .cache) (G .cache) e in
-          λ i. record { cache = p i };
+          let d = append-same _ _ _ _ (L .long (a .cache) ∙ sym (L .long (b .cache))) e in
+          let p = L .same (a .cache) (b .cache) (F .cache) (G .cache) (d .0) in
+          let q = cons-same _ _ _ _ (d .1) .0 in
+          λ i. record { cache = p i; stale = q i };
     }
 
 abbrev pub FitSites : Counts → (ℕ → Site) → Type 0
@@ -156,31 +158,6 @@ unfolding writersWords
 writers-laws z = many (z .writers) (writer-laws z) noWriter
 
 -- ---- runs
-
--- Any job.
-pub record AnyJob (x : Job) : Type 0 where
-
-job-laws : Laws jobSize jobWords readJob AnyJob
-unfolding jobWords readJob window
-job-laws = record {
-  long = λ a. refl;
-  round = λ l at.
-      let e : at + 1 + 1 ≡ at + upstreamOffset = omega arith in rw e;
-  fits = λ l at. record {};
-  same = λ a b _ _ e.
-      let x = cons-same _ _ _ _ e in
-      let y = cons-same _ _ _ _ (x .1) in
-      let w = cons-same _ _ _ _ (y .1) in
-      let p = x .0 in let q = y .0 in let r = w .0 in
-      λ i. record { site = p i; reads = q i; upstream = r i };
-}
-
-abbrev pub FitJobs : (ℕ → Job) → Type 0
-FitJobs = FitMany maxJobs noJob AnyJob
-
-pub jobs-laws : Laws planSize jobsWords readJobs FitJobs
-unfolding jobsWords readJobs
-jobs-laws = many maxJobs job-laws noJob
 
 pub record FitRun (z : Counts) (r : Run) : Type 0 where
   pub job : FitJobs (r .job)

@@ -15,8 +15,9 @@ use Rattle.sizes.specs.Bounds.{between, ranged, pastSize, versionSize, placeSiz
 use Rattle.model.specs.Algebra.{lacking}
 use Rattle.model.specs.Version.{held, dependency, supersedes, leadsOn, mergedLeaders, larger, merge}
 use Rattle.model.specs.Sets.{draws, drawSet, fetchSet, fetched, unfetchable, evictSet, evicted, pullSet, pulled}
-use Rattle.model.specs.Store.{fresh, planned, doneReads, withMaster, withLast, withSites, withCache, withCaches, withWriter, withRun, withState, withSnapshot, withJobDone}
-use Rattle.model.specs.Form.{zeroRows, zeroVersion, leadersFormed, versionFormed, placeFormed, validJob, zeroJob, freeFormed, jobsFormed, masksFormed, snapshotFormed, runFormed, wellFormed}
+use Rattle.model.specs.Store.{fresh, siteWith, withMarks, planned, doneReads, withMaster, withLast, withSites, withCache, withCaches, withWriter, withRun, withState, withSnapshot, withJobDone}
+use Rattle.model.specs.Form.{zeroRows, zeroVersion, leadersFormed, versionFormed, placeFormed, validJob, zeroJob, freeFormed, jobsFormed, masksFormed, snapshotFormed, runFormed, siteFormed, wellFormed}
+use Rattle.model.specs.Marks.{isStale, staleMask}
 use Rattle.model.specs.Outcome.{answer, refuse, unless, replied, allowed, runCause}
 use Rattle.model.specs.Caches.{fetchCause, fetchDone, fetchRule, evictCause, evictDone, evictRule}
 use Rattle.model.specs.Runs.{listedJob, listedCount, listedJobs, listValid, openCause, openedRun, openDone, openRule, dropCause, dropDone, dropRule}
@@ -53,35 +54,35 @@ out-of-range l = record {
 -- ---- "K=1, K=32, W=16, N=8 and P=8 are taken if the buffer has the total"
 
 pub record Taken : Type 0 where
-  pub smallest : (l : List ℕ) → 49 ≤ length l → answer (callOn (new 1 1 1 1) l) ≡ ok₁ 49
-  pub largest : (l : List ℕ) → 288058 ≤ length l → answer (callOn (new 32 16 8 8) l) ≡ ok₁ 288058
+  pub smallest : (l : List ℕ) → 50 ≤ length l → answer (callOn (new 1 1 1 1) l) ≡ ok₁ 50
+  pub largest : (l : List ℕ) → 288066 ≤ length l → answer (callOn (new 32 16 8 8) l) ≡ ok₁ 288066
 
 pub in-range : Taken
 unfolding callOn newOn newCause ranged between refuse unless answer pastSize versionSize placeSize
     siteSize writerSize runSize masterAt sitesAt writersAt runsAt tailSize tailAt totalOf
 in-range = record {
-  smallest = λ l h. rw (le-leb 49 (length l) h);
-  largest = λ l h. rw (le-leb 288058 (length l) h);
+  smallest = λ l h. rw (le-leb 50 (length l) h);
+  largest = λ l h. rw (le-leb 288066 (length l) h);
 }
 
 -- ---- the scripts, on a buffer of any words and two words more than the total
 
 abbrev pub words-a : List ℕ
-words-a = replicate 98 5
+words-a = replicate 100 5
 
 abbrev pub calls-a : List Call
 calls-a = new 2 2 2 1 ∷ map on case-a-script
 
 abbrev pub words-longer : List ℕ
-words-longer = replicate 202 5
+words-longer = replicate 204 5
 
 abbrev pub calls-longer : List Call
 calls-longer = new 3 2 2 2 ∷ map on longer-script
 
 pub record Scripted : Type 0 where
-  pub case-a : map answer (outcomes calls-a words-a) ≡ ok₁ 96 ∷ case-a-answers
-  pub case-a-past : drop 96 (after calls-a words-a) ≡ 5 ∷ 5 ∷ []
-  pub longer : map answer (outcomes calls-longer words-longer) ≡ ok₁ 200 ∷ longer-answers
+  pub case-a : map answer (outcomes calls-a words-a) ≡ ok₁ 98 ∷ case-a-answers
+  pub case-a-past : drop 98 (after calls-a words-a) ≡ 5 ∷ 5 ∷ []
+  pub longer : map answer (outcomes calls-longer words-longer) ≡ ok₁ 202 ∷ longer-answers
 
 pub scripted : Scripted
 unfolding anyBelow allBelow only foldBelow putAt upto blocks testBit withBit withIf maskBelow
@@ -93,7 +94,8 @@ unfolding anyBelow allBelow only foldBelow putAt upto blocks testBit withBit wit
     withLast withSites withCache withCaches withWriter withRun withState withSnapshot
     withJobDone zeroRows zeroVersion leadersFormed versionFormed placeFormed validJob zeroJob
     freeFormed jobsFormed
-    masksFormed snapshotFormed runFormed wellFormed answer refuse unless allowed runCause
+    masksFormed snapshotFormed runFormed siteFormed wellFormed isStale staleMask siteWith
+    withMarks answer refuse unless allowed runCause
     fetchCause fetchDone fetchRule evictCause evictDone evictRule listedJob listedCount
     listedJobs listValid openCause openedRun openDone openRule dropCause dropDone dropRule
     jobStart fetchReads preparedCaches unpreparable usesSite sitesMerged siteCaches prepareCause

@@ -1,5 +1,5 @@
 -- A store of words into one part of a written store, as a change of the store.
--- put-..-part: within one site, writer or run, or the tail. put-..: a whole part, or some words
+-- put-..-part: within one site, writer or run. put-..: a whole part, or some words
 -- of it.
 -- run-twice, phase: one change after another.
 -- Assumes nothing.
@@ -13,19 +13,21 @@ use lib.Dec.{eqb}
 use lib.ListN.{length, set}
 use lib.Seq.{sets}
 use Rattle.words.specs.Lists.{putAt}
-use Rattle.words.proofs.Stores.{sets-behind, sets-all}
-use Rattle.sizes.specs.Bounds.{doneOffset, snapshotOffset, siteSize, writerSize, runSize, tailSize, masterAt, sitesAt, writersAt, runsAt, tailAt, siteAt, writerAt, runAt, snapshotAt}
+use Rattle.words.proofs.Stores.{sets-left, sets-behind, sets-all}
+use Rattle.words.proofs.Lists.{putAt-same}
+use Rattle.sizes.specs.Bounds.{doneOffset, snapshotOffset, placeSize, siteSize, writerSize, runSize, masterAt, sitesAt, writersAt, runsAt, tailAt, siteAt, staleAt, writerAt, runAt, snapshotAt}
 use Rattle.model.specs.Algebra.{Place}
 use Rattle.model.specs.Version.{Version}
-use Rattle.model.specs.Store.{Writer, Run, Site, Tail, Store, withLast, withMaster, withSites, withSite, siteWith, withCache, withWriter, withRun, withTail, withState, withSnapshot, withJobDone}
-use Rattle.layout.specs.Words.{headerWords, placeWords, siteWords, sitesWords, writerWords, writersWords, jobsWords, runWords, runsWords, tailWords, storeWords}
+use Rattle.model.specs.Marks.{staleMask}
+use Rattle.model.specs.Store.{Writer, Run, Site, Tail, Store, withLast, withMaster, withSites, withSite, siteWith, withCache, withWriter, withRun, withState, withSnapshot, withJobDone}
+use Rattle.layout.specs.Words.{headerWords, placeWords, siteWords, sitesWords, writerWords, writersWords, jobsWords, runWords, runsWords, storeWords}
 use Rattle.layout.specs.Buffer.{written}
 use Rattle.layout.specs.Reading.{storeOf}
 use Rattle.layout.proofs.Codec.{many-part, many-room}
-use Rattle.layout.proofs.Parts.{place-laws, site-laws, writer-laws, jobs-laws, run-laws}
+use Rattle.layout.proofs.Parts.{place-laws, site-laws, writer-laws, run-laws}
+use Rattle.layout.proofs.Jobs.{jobs-laws}
 use Rattle.layout.proofs.Whole.{FitStore, store-back, written-twice, toMaster, toSites, toWriters, toRuns, header-long, master-long, sites-long, writers-long, runs-long}
-use Rattle.layout.proofs.Tail.{tail-laws}
-use Rattle.layout.proofs.Views.{area-to, afterTail, afterRuns, afterWriters, afterSites, afterMaster, view-master, view-sites, view-writers, view-runs, view-tail}
+use Rattle.layout.proofs.Views.{area-to, afterTail, afterRuns, afterWriters, afterSites, afterMaster, view-master, view-sites, view-writers, view-runs}
 
 -- ---- the last number and the master
 
@@ -99,35 +101,70 @@ put-run-part s l r i x y h j e =
     (many-part (z .runs) L (s .run) r i x y h j e)
     ∙ sym (view-runs (withRun s r y) l))
 
--- The tail.
-pub put-tail-part : (s : Store) (l : List ℕ) (i : ℕ) (x : List ℕ) (y : Tail)
-    → i + length x ≤ tailSize (s .counts)
-    → sets (tailWords (s .counts) (s .tail)) i x ≡ tailWords (s .counts) y
-    → sets (written s l) (tailAt (s .counts) + i) x ≡ written (withTail s y) l
-unfolding withTail toMaster toSites toWriters toRuns afterTail
-put-tail-part s l i x y j e =
-    let z = s .counts in
-    let room : i + length x ≤ length (tailWords z (s .tail)) =
-    rw (tail-laws z .long (s .tail)) j in
-    ap (λ (t : List ℕ). sets t (tailAt z + i) x) (view-tail s l)
-    ∙ area-to (toRuns s) (tailWords z (s .tail)) (afterTail s l) _ x (tailAt z) i (runs-long s)
-    room e
-    ∙ sym (view-tail (withTail s y) l)
-
 -- ---- whole parts
+
+-- A part put twice.
+put-twice : {A : Type 0} (f : ℕ → A) (i : ℕ) (x y : A) → putAt (putAt f i x) i y ≡ putAt f i y
+unfolding putAt
+put-twice {A} f i x y = fun-ext (λ j. last (eqb j i) j)
+  where
+    last : (b : Bool) (j : ℕ) → cond b y (cond b x (f j)) ≡ cond b y (f j)
+    last true j = refl
+    last false j = refl
+
+-- The cache of a site, its mark as it is.
+abbrev pub cached : Site → Place Version → Site
+cached x p = record { cache = p; stale = x .stale }
+
+-- The mark of a site.
+abbrev pub marked : Site → ℕ → Site
+marked x m = record { cache = x .cache; stale = m }
 
 pub put-cache : (s : Store) (l : List ℕ) (o : ℕ) (p : Place Version) → o < s .counts .sites
     → sets (written s l) (siteAt (s .counts) o) (placeWords (s .counts) p)
-    ≡ written (withCache s o p) l
-unfolding siteWords siteSize withCache
+    ≡ written (withSite s o (cached (s .site o) p)) l
+unfolding siteWords siteSize
 put-cache s l o p h =
     let z = s .counts in
     let L = place-laws z in
     let x = s .site o in
     let c = x .cache in
+    let new = placeWords z p in
     let e : siteAt z o ≡ siteAt z o + 0 = omega arith in
-    rw e (put-site-part s l o 0 (placeWords z p) (siteWith x p) h (omega (arith, L .long p))
-    (sets-all (placeWords z c) (placeWords z p) (L .long p ∙ sym (L .long c))))
+    let same : length new ≡ length (placeWords z c) = L .long p ∙ sym (L .long c) in
+    rw e (put-site-part s l o 0 new (cached x p) h (omega (arith, L .long p))
+    (sets-left new (placeWords z c) (x .stale ∷ []) 0 (omega arith)
+    ∙ ap (λ (t : List ℕ). t ++ (x .stale ∷ [])) (sets-all (placeWords z c) new same)))
+
+pub put-mark : (s : Store) (l : List ℕ) (o m : ℕ) → o < s .counts .sites
+    → set (written s l) (staleAt (s .counts) (siteAt (s .counts) o)) m
+    ≡ written (withSite s o (marked (s .site o) m)) l
+unfolding siteWords siteSize staleAt
+put-mark s l o m h =
+    let z = s .counts in
+    let x = s .site o in
+    let c = placeWords z (x .cache) in
+    let long = place-laws z .long (x .cache) in
+    put-site-part s l o (placeSize z) (m ∷ []) (marked x m) h (omega arith)
+    (ap (λ (i : ℕ). sets (c ++ (x .stale ∷ [])) i (m ∷ [])) (sym long ∙ sym (add-zero (length c)))
+    ∙ sets-behind c (x .stale ∷ []) (m ∷ []) 0 (omega arith))
+
+-- Both: another cache, with a true mark.
+pub put-site : (s : Store) (l : List ℕ) (o : ℕ) (p : Place Version) → o < s .counts .sites
+    → set (sets (written s l) (siteAt (s .counts) o) (placeWords (s .counts) p))
+    (staleAt (s .counts) (siteAt (s .counts) o)) (staleMask (s .counts) (s .master) p)
+    ≡ written (withCache s o p) l
+unfolding withCache withSites siteWith
+put-site s l o p h =
+    let z = s .counts in
+    let m = staleMask z (s .master) p in
+    let x = s .site o in
+    let t = withSite s o (cached x p) in
+    ap (λ (w : List ℕ). set w (staleAt z (siteAt z o)) m) (put-cache s l o p h)
+    ∙ put-mark t l o m h
+    ∙ ap (λ (f : ℕ → Site). written (withSites s f) l)
+    (put-twice (s .site) o (cached x p) _
+    ∙ ap (λ (y : Site). putAt (s .site) o (marked y m)) (putAt-same (s .site) o (cached x p)))
 
 pub put-writer : (s : Store) (l : List ℕ) (w : ℕ) (y : Writer) → w < s .counts .writers
     → sets (written s l) (writerAt (s .counts) w) (writerWords (s .counts) y)
@@ -191,8 +228,8 @@ put-masks s l r x y h =
 
 -- A run changed twice.
 pub run-twice : (s : Store) (r : ℕ) (x y : Run) → withRun (withRun s r x) r y ≡ withRun s r y
-unfolding withRun putAt
-run-twice s r x y = ap storeWith (fun-ext (λ i. last (eqb i r) i))
+unfolding withRun
+run-twice s r x y = ap storeWith (put-twice (s .run) r x y)
   where
     storeWith : (ℕ → Run) → Store
     storeWith f = record {
@@ -204,10 +241,6 @@ run-twice s r x y = ap storeWith (fun-ext (λ i. last (eqb i r) i))
       run = f;
       tail = s .tail;
     }
-
-    last : (b : Bool) (i : ℕ) → cond b y (cond b x (s .run i)) ≡ cond b y (s .run i)
-    last true i = refl
-    last false i = refl
 
 -- A change of what the change before it left is the change of its store.
 pub phase : (s : Store) (l : List ℕ) (f : Store → Store) → FitStore s → f s .counts ≡ s .counts

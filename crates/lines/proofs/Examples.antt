@@ -8,11 +8,11 @@ use mathlib.Core.Option.{none, some}
 use lib.ListN.{replicate}
 use Rattle.text.specs.Bytes.{bytesOf, sameBytes}
 use Rattle.text.specs.Fields.{inFirst, fieldsOf, digitsOnly, valueFrom, isEmpty, numberOf, numberBefore, numbersOf}
-use Rattle.model.specs.Calls.{openRun, fetch, evict, prepare, step, issue, dropRun, ask, look, explain}
+use Rattle.model.specs.Calls.{openRun, fetch, evict, prepare, step, issue, dropRun, ask, look, explain, stale}
 use Rattle.layout.specs.Calls.{new, on}
 use Rattle.lines.specs.Grammar.{formOf, takes, calling, asked, fieldsCall, lineCall}
 
--- Case A's lines, each once, a prepare, a drop and an explain.
+-- Case A's lines, each once, a prepare, a drop, an explain and a stale.
 pub case-lines :
     (lineCall (bytesOf "new 2 2 2 1") ≡ some (new 2 2 2 1))
     × (lineCall (bytesOf "open 0 0 0 0") ≡ some (on (openRun 0 (0 ∷ 0 ∷ 0 ∷ []))))
@@ -30,10 +30,27 @@ pub case-lines :
     × (lineCall (bytesOf "prepare 0") ≡ some (on (prepare 0)))
     × (lineCall (bytesOf "drop 0") ≡ some (on (dropRun 0)))
     × (lineCall (bytesOf "explain 0 1") ≡ some (on (ask (explain 0 1))))
+    × (lineCall (bytesOf "stale 1") ≡ some (on (ask (stale 1))))
 unfolding lineCall fieldsCall fieldsOf inFirst asked formOf sameBytes takes calling numbersOf
     numberBefore numberOf isEmpty digitsOnly valueFrom
-case-lines =
-    (refl, refl, refl, refl, refl, refl, refl, refl, refl, refl, refl, refl, refl, refl, refl)
+case-lines = (
+  refl,
+  refl,
+  refl,
+  refl,
+  refl,
+  refl,
+  refl,
+  refl,
+  refl,
+  refl,
+  refl,
+  refl,
+  refl,
+  refl,
+  refl,
+  refl,
+)
 
 -- Zeros in front, the largest number, an open with any count of numbers.
 pub read-lines :

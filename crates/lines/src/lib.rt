@@ -31,7 +31,7 @@ struct Row {
 }
 
 // How many commands there are.
-const COMMANDS: usize = 10;
+const COMMANDS: usize = 11;
 
 // The commands: a command's number is its row's. Document 01's nine, then the later ones.
 const ROWS: [Row; COMMANDS] = [
@@ -84,6 +84,11 @@ const ROWS: [Row; COMMANDS] = [
         word: *b"explain ",
         least: 2,
         most: 2,
+    },
+    Row {
+        word: *b"stale   ",
+        least: 1,
+        most: 1,
     },
 ];
 
@@ -150,6 +155,7 @@ fn later_command(number: usize, numbers: &[u32], n: usize) -> Command
     let b = number_at(numbers, n, 1);
     match number {
         9 => Command::Explain(a, b),
+        10 => Command::Stale(a),
         _ => Command::Unread,
     }
 }

@@ -12,12 +12,13 @@ use lib.ListN.{getD, replicate}
 use Rattle.words.specs.Tests.{anyBelow, allBelow}
 use Rattle.words.specs.Lists.{putAt}
 use Rattle.masks.specs.Mask.{testBit, withBit, withIf, maskBelow}
-use Rattle.clock.specs.Clock.{present}
+use Rattle.clock.specs.Clock.{exceeds, standing, present}
 use Rattle.sizes.specs.Bounds.{countsOf, between}
 use Rattle.model.specs.Algebra.{Place}
 use Rattle.model.specs.Version.{Version, unheld, held}
-use Rattle.model.specs.Store.{Job, Run, noJob, noJobs, emptyPlace, freeRun, fresh, planned, doneReads, withMaster, withSites, withCache, withRun}
-use Rattle.model.specs.Form.{zeroRows, zeroVersion, leadersFormed, versionFormed, placeFormed, validJob, zeroJob, freeFormed, jobsFormed, masksFormed, snapshotFormed, runFormed, wellFormed}
+use Rattle.model.specs.Store.{Job, Run, noJob, noJobs, emptyPlace, freeRun, fresh, planned, doneReads, siteWith, withMaster, withSites, withCache, withRun}
+use Rattle.model.specs.Form.{zeroRows, zeroVersion, leadersFormed, versionFormed, placeFormed, validJob, zeroJob, freeFormed, jobsFormed, masksFormed, snapshotFormed, runFormed, siteFormed, wellFormed}
+use Rattle.model.specs.Marks.{isStale, staleMask}
 use Rattle.model.proofs.Readings.{led, version, place}
 
 -- ---- a store with 2 sheets, 2 writers, 2 offices and 2 runs, the last of them given
@@ -186,7 +187,8 @@ pub clauses : Clauses
 unfolding anyBelow allBelow putAt testBit withBit withIf maskBelow present between held fresh
     planned doneReads withMaster withSites withCache withRun zeroRows zeroVersion
     leadersFormed versionFormed placeFormed
-    validJob zeroJob freeFormed jobsFormed masksFormed snapshotFormed runFormed wellFormed
+    validJob zeroJob freeFormed jobsFormed masksFormed snapshotFormed runFormed siteFormed
+    wellFormed isStale staleMask siteWith exceeds standing
 clauses = record {
   of-version = record {
     nothing = refl;

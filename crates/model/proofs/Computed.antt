@@ -15,8 +15,10 @@ use Rattle.sizes.specs.Bounds.{countsOf, between}
 use Rattle.model.specs.Algebra.{lacking, needsMet, causalCut, overlappingCut}
 use Rattle.model.specs.Version.{held, dependency, supersedes, leadsOn, mergedLeaders, larger, merge}
 use Rattle.model.specs.Sets.{draws, drawSet, fetchSet, fetched, unfetchable, evictSet, evicted, pullSet, pulled}
-use Rattle.model.specs.Store.{fresh, planned, doneReads, withMaster, withLast, withSites, withCache, withCaches, withWriter, withRun, withState, withSnapshot, withJobDone}
-use Rattle.model.specs.Form.{zeroRows, zeroVersion, leadersFormed, versionFormed, placeFormed, validJob, zeroJob, freeFormed, jobsFormed, masksFormed, snapshotFormed, runFormed, wellFormed}
+use Rattle.model.specs.Store.{fresh, planned, doneReads, siteWith, withMarks, withMaster, withLast, withSites, withCache, withCaches, withWriter, withRun, withState, withSnapshot, withJobDone}
+use Rattle.model.specs.Form.{zeroRows, zeroVersion, leadersFormed, versionFormed, placeFormed, validJob, zeroJob, freeFormed, jobsFormed, masksFormed, snapshotFormed, runFormed, siteFormed, wellFormed}
+use Rattle.model.specs.Marks.{isStale, staleMask}
+use Rattle.model.specs.Stale.{staleCause, staleReply}
 use Rattle.model.specs.Outcome.{answer, refuse, unless, replied, allowed, runCause}
 use Rattle.model.specs.Caches.{fetchCause, fetchDone, fetchRule, evictCause, evictDone, evictRule}
 use Rattle.model.specs.Runs.{listedJob, listedCount, listedJobs, listValid, openCause, openedRun, openDone, openRule, dropCause, dropDone, dropRule}
@@ -30,6 +32,7 @@ use Rattle.model.proofs.Readings.{marked, sentences, unmarked, limits, 
 use Rattle.model.proofs.Looks.{looked}
 use Rattle.model.proofs.Scripts.{ok₁, ok₃, seen, answers, case-a-script, case-a-answers, longer-script, longer-answers, refusals-script, refusals-answers, reading-script, reading-answers, again-script, again-answers, broken-script, broken-answers, behind-script, behind-answers}
 use Rattle.model.proofs.Leaders as leaders
+use Rattle.model.proofs.Stales as stales
 use Rattle.model.proofs.Explanations as explained
 
 -- The ten marked readings pass, and each script is answered as it should be, answer by answer.
@@ -65,6 +68,16 @@ pub record Computed : Type 0 where
   pub folded-once : leaders.folded-once ≡ ok₁ 1 ∷ seen 1 3 1 1 0 ∷ []
   pub stepped : leaders.stepped ≡ ok₃ 0 2 0 ∷ seen 5 3 2 3 2 ∷ []
   pub alone : leaders.alone ≡ ok₁ 1 ∷ seen 1 2 1 0 0 ∷ []
+  pub marks-kept : answers stales.kept-script (fresh (countsOf 3 2 2 2)) ≡ stales.kept-answers
+  pub marks-broken : answers stales.broken-script (fresh (countsOf 2 2 2 2))
+      ≡ stales.broken-answers
+  pub marks-stepped : answers stales.stepped-script (fresh (countsOf 2 2 1 2))
+      ≡ stales.stepped-answers
+  pub marks-others : answers stales.others-script (fresh (countsOf 3 2 2 2))
+      ≡ stales.others-answers
+  pub marks-ahead : stales.lent-ahead ≡ stales.lent-answers
+  pub marks-lent : stales.lent ≡ replicate 7 true
+  pub marks-asked : stales.unmarked ≡ replicate 5 true
   pub passing : explained.toldAfter
       (explained.passing-before (0 ∷ 1 ∷ 0 ∷ 1 ∷ 4 ∷ 0 ∷ 1 ∷ 2 ∷ 0 ∷ [])) explained.passing-calls
       (fresh (countsOf 3 4 2 2)) ≡ explained.passing-answers
@@ -88,7 +101,8 @@ pub record Computed : Type 0 where
 pub computed : Computed
 unfolding needsMet causalCut overlappingCut concurrent doneReads zeroRows zeroVersion
     leadersFormed versionFormed placeFormed zeroJob freeFormed jobsFormed masksFormed
-    snapshotFormed runFormed wellFormed
+    snapshotFormed runFormed siteFormed
+    wellFormed isStale staleMask siteWith withMarks staleCause staleReply
     anyBelow allBelow only foldBelow putAt upto blocks testBit withBit withIf maskBelow closure
     rounds round exceeds standing dominates present join between lacking held dependency
     supersedes leadsOn mergedLeaders larger merge draws drawSet fetchSet fetched unfetchable
@@ -134,6 +148,13 @@ computed = record {
   folded-once = refl;
   stepped = refl;
   alone = refl;
+  marks-kept = refl;
+  marks-broken = refl;
+  marks-stepped = refl;
+  marks-others = refl;
+  marks-ahead = refl;
+  marks-lent = refl;
+  marks-asked = refl;
   passing = refl;
   unplanned = refl;
   ends = refl;

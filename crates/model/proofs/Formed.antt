@@ -8,7 +8,7 @@ use Prim.Native.Nat.{ℕ, _≤_, _<_, _^_}
 use lib.Dec.{eqb, leb, ltb}
 use Rattle.words.specs.Tests.{allBelow}
 use Rattle.words.specs.Lists.{putAt}
-use Rattle.words.proofs.Bools.{test, and-intro, and-left, and-right, not-intro, not-elim, leb-le, le-leb, ltb-lt, lt-ltb, eqb-eq}
+use Rattle.words.proofs.Bools.{test, and-intro, and-left, and-right, not-intro, not-elim, leb-le, le-leb, ltb-lt, lt-ltb, eqb-eq, eq-eqb}
 use Rattle.words.proofs.Tests.{all-intro, all-at, any-no}
 use Rattle.words.proofs.Lists.{putAt-cases}
 use Rattle.clock.specs.Clock.{present, join}
@@ -16,8 +16,9 @@ use Rattle.clock.proofs.Order.{present-mono, absent, join-left}
 use Rattle.sizes.specs.declared.Counts.{Counts}
 use Rattle.model.specs.Algebra.{Place}
 use Rattle.model.specs.Version.{Version, unheld, zeroPast, held, larger, merge}
-use Rattle.model.specs.Store.{Writer, Run, Site, Store, emptyPlace, siteWith, withLast, withMaster, withSites, withCache, withCaches, withWriter, withRun}
-use Rattle.model.specs.Form.{zeroRows, zeroVersion, leadersFormed, versionFormed, placeFormed, runFormed, wellFormed}
+use Rattle.model.specs.Store.{Writer, Run, Site, Store, emptyPlace, siteWith, withLast, withMarks, withMaster, withSites, withCache, withCaches, withWriter, withRun}
+use Rattle.model.specs.Form.{zeroRows, zeroVersion, leadersFormed, versionFormed, placeFormed, runFormed, siteFormed, wellFormed}
+use Rattle.model.specs.Marks.{staleMask}
 use Rattle.model.proofs.Merges.{larger-held, leaders-lt, leaders-some, merge-cases}
 
 -- ---- versions
@@ -125,70 +126,92 @@ formed-choice z b p q F G k h = test (b k) (λ t. rw t (F k h)) (λ t. rw t (G k
 
 -- ---- the store
 
+-- A site whose mark is true.
+abbrev pub Marked : Store → Site → Type 0
+Marked s x = x .stale ≡ staleMask (s .counts) (s .master) (x .cache)
+
 pub record Formed (s : Store) : Type 0 where
   pub master : PlaceFormed (s .counts) (s .master)
   pub cache : (o : ℕ) → o < s .counts .sites → PlaceFormed (s .counts) (s .site o .cache)
+  pub mark : (o : ℕ) → o < s .counts .sites → Marked s (s .site o)
   pub run : (r : ℕ) → r < s .counts .runs → So (runFormed (s .counts) (s .run r))
 
 pub well-out : (s : Store) → So (wellFormed s) → Formed s
-unfolding wellFormed
+unfolding wellFormed siteFormed
 well-out s p =
     let z = s .counts in
     let m = placeFormed z (s .master) in
-    let o = allBelow (z .sites) (λ o. placeFormed z (s .site o .cache)) in
+    let o = allBelow (z .sites) (λ o. siteFormed z (s .master) (s .site o)) in
     let r = allBelow (z .runs) (λ r. runFormed z (s .run r)) in
     let q = and-right m (o && r) p in
+    let site = all-at (z .sites) (λ o. siteFormed z (s .master) (s .site o)) (and-left o r q) in
+    let mask : ℕ → ℕ = λ i. staleMask z (s .master) (s .site i .cache) in
     record {
       master = place-out z (s .master) (and-left m (o && r) p);
       cache = λ i h. place-out z (s .site i .cache)
-          (all-at (z .sites) (λ o. placeFormed z (s .site o .cache)) (and-left o r q) i h);
+          (and-left (placeFormed z (s .site i .cache)) (eqb (s .site i .stale) (mask i))
+          (site i h));
+      mark = λ i h. eqb-eq _ _
+          (and-right (placeFormed z (s .site i .cache)) (eqb (s .site i .stale) (mask i))
+          (site i h));
       run = all-at (z .runs) (λ r. runFormed z (s .run r)) (and-right o r q);
     }
 
 pub well-in : (s : Store) → Formed s → So (wellFormed s)
-unfolding wellFormed
+unfolding wellFormed siteFormed
 well-in s F =
     let z = s .counts in
     and-intro (place-in z (s .master) (F .master))
     (and-intro
-    (all-intro (z .sites) (λ o. placeFormed z (s .site o .cache))
-    (λ o h. place-in z (s .site o .cache) (F .cache o h)))
+    (all-intro (z .sites) (λ o. siteFormed z (s .master) (s .site o))
+    (λ o h. and-intro (place-in z (s .site o .cache) (F .cache o h)) (eq-eqb _ _ (F .mark o h))))
     (all-intro (z .runs) (λ r. runFormed z (s .run r)) (F .run)))
 
 module _ (s : Store) (F : Formed s) where
   pub formed-last : (n : ℕ) → Formed (withLast s n)
   unfolding withLast
-  formed-last n = record { master = F .master; cache = F .cache; run = F .run }
+  formed-last n =
+      record { master = F .master; cache = F .cache; mark = F .mark; run = F .run }
 
-  pub formed-master : (p : Place Version) → PlaceFormed (s .counts) p → Formed (withMaster s p)
-  unfolding withMaster
-  formed-master p G = record { master = G; cache = F .cache; run = F .run }
+  -- Another master: the marks follow it.
+  pub formed-master : (p : Place Version) → PlaceFormed (s .counts) p
+      → Formed (withMarks (withMaster s p))
+  unfolding withMaster withMarks withCaches withSites siteWith
+  formed-master p G =
+      record { master = G; cache = F .cache; mark = λ o h. refl; run = F .run }
 
   pub formed-sites : (f : ℕ → Site)
-      → ((o : ℕ) → o < s .counts .sites → PlaceFormed (s .counts) (f o .cache))
+      → ((o : ℕ) → o < s .counts .sites → PlaceFormed (s .counts) (f o .cache) × Marked s (f o))
       → Formed (withSites s f)
   unfolding withSites
-  formed-sites f G = record { master = F .master; cache = G; run = F .run }
+  formed-sites f G = record {
+    master = F .master;
+    cache = λ o h. G o h .0;
+    mark = λ o h. G o h .1;
+    run = F .run;
+  }
 
   pub formed-cache : (o : ℕ) (p : Place Version) → PlaceFormed (s .counts) p
       → Formed (withCache s o p)
-  unfolding withCache
+  unfolding withCache siteWith
   formed-cache o p G =
       let z = s .counts in
-      let x = siteWith (s .site o) p in
+      let x = siteWith s (s .site o) p in
       formed-sites (putAt (s .site) o x) (λ i h.
-      putAt-cases (λ (x : Site). PlaceFormed z (x .cache)) (s .site) o x i (λ _. G)
-      (λ _. F .cache i h))
+      putAt-cases (λ (x : Site). PlaceFormed z (x .cache) × Marked s x) (s .site) o x i
+      (λ _. (G, refl)) (λ _. (F .cache i h, F .mark i h)))
 
   pub formed-caches : (p : ℕ → Place Version)
       → ((o : ℕ) → o < s .counts .sites → PlaceFormed (s .counts) (p o))
       → Formed (withCaches s p)
-  unfolding withCaches
-  formed-caches p G = formed-sites (λ o. siteWith (s .site o) (p o)) G
+  unfolding withCaches siteWith
+  formed-caches p G =
+      formed-sites (λ o. siteWith s (s .site o) (p o)) (λ o h. (G o h, refl))
 
   pub formed-writer : (w : ℕ) (x : Writer) → Formed (withWriter s w x)
   unfolding withWriter
-  formed-writer w x = record { master = F .master; cache = F .cache; run = F .run }
+  formed-writer w x =
+      record { master = F .master; cache = F .cache; mark = F .mark; run = F .run }
 
   pub formed-run : (r : ℕ) (x : Run) → So (runFormed (s .counts) x) → Formed (withRun s r x)
   unfolding withRun
@@ -197,6 +220,7 @@ module _ (s : Store) (F : Formed s) where
       record {
         master = F .master;
         cache = F .cache;
+        mark = F .mark;
         run = λ i h.
             putAt-cases (λ (x : Run). So (runFormed z x)) (s .run) r x i (λ _. G)
             (λ _. F .run i h);

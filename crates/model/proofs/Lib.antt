@@ -1,6 +1,7 @@
 pub mod Outcomes
 pub mod Scripts
 pub mod Leaders
+pub mod Stales
 pub mod Explanations
 pub mod Readings
 pub mod Looks
@@ -15,4 +16,5 @@ pub mod Steps
 pub mod DoneReads
 pub mod Formed
 pub mod Plans
+pub mod Marked
 pub mod Explained

@@ -15,7 +15,7 @@ use Rattle.sizes.specs.Bounds.{countsOf}
 use Rattle.model.specs.Algebra.{Place, causalCut, overlappingCut}
 use Rattle.model.specs.Version.{Version, zeroPast, unheld, dependency, supersedes, merge, versions}
 use Rattle.model.specs.Sets.{evictSet}
-use Rattle.model.specs.Store.{Store, Job, noJob, noJobs, noBranch, fresh, withLast, withMaster, withCache, withWriter, withRun}
+use Rattle.model.specs.Store.{Store, Job, noJob, noJobs, noBranch, fresh, withLast, withMarks, withMaster, withCache, withWriter, withRun}
 use Rattle.model.specs.Form.{wellFormed}
 use Rattle.model.specs.Outcome.{answer}
 use Rattle.model.specs.Issue.{maxWord}
@@ -244,4 +244,5 @@ abbrev pub shelved : List Bool
 shelved =
     let p = place (version 1 (one-zero ∷ []) ∷ []) in
     let s = withCache (fresh (countsOf 2 2 1 1)) 0 p in
-    answered s (fetch 0 0) (not-taken 7) ∷ answered (withMaster s p) (fetch 0 0) (ok₁ 1) ∷ []
+    answered s (fetch 0 0) (not-taken 7) ∷ answered (withMarks (withMaster s p)) (fetch 0 0)
+    (ok₁ 1) ∷ []

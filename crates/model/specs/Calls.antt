@@ -13,15 +13,18 @@ use Rattle.model.specs.Step.{stepRule}
 use Rattle.model.specs.Issue.{issueRule}
 use Rattle.model.specs.Look.{lookReply}
 use Rattle.model.specs.Explain.{explainReply}
+use Rattle.model.specs.Stale.{staleReply}
 
 -- A call that only answers.
 pub data Query : Type 0 where
   look : ℕ → ℕ → ℕ → Query  -- place, its number, sheet
   explain : ℕ → ℕ → Query  -- run, job
+  stale : ℕ → Query  -- office
 
 unfoldable pub replyOf : Query → Store → Reply
 replyOf (look p i k) = lookReply p i k
 replyOf (explain r j) = explainReply r j
+replyOf (stale o) = staleReply o
 
 -- A call on a store that is in form.
 pub data StoreCall : Type 0 where

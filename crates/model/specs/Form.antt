@@ -1,5 +1,5 @@
 -- In form, the part that speaks of the store (document 01: "A desk is in form if ..").
--- versionFormed, placeFormed, validJob, runFormed, wellFormed.
+-- versionFormed, placeFormed, validJob, runFormed, siteFormed, wellFormed.
 -- Header, offsets and length are the buffer's: crate layout, `inForm`.
 -- Assumes nothing.
 use mathlib.Core.Bool.{Bool, cond, not, _&&_}
@@ -12,7 +12,8 @@ use Rattle.sizes.specs.Bounds.{between, maxJobs}
 use Rattle.sizes.specs.declared.Counts.{Counts}
 use Rattle.model.specs.Algebra.{Place, implies}
 use Rattle.model.specs.Version.{Version, held}
-use Rattle.model.specs.Store.{Job, Run, Store, planned, doneReads}
+use Rattle.model.specs.Marks.{staleMask}
+use Rattle.model.specs.Store.{Job, Run, Site, Store, planned, doneReads}
 
 -- Only zero counts.
 unfoldable pub zeroRows : Counts → Version → Bool
@@ -79,9 +80,14 @@ runFormed z r =
     cond (eqb (r .state) 0) (freeFormed z r)
     (leb (r .state) 2 && (jobsFormed z r && (masksFormed z r && snapshotFormed z r)))
 
+-- CR 4: "Form asks it": the mark is true.
+unfoldable pub siteFormed : Counts → Place Version → Site → Bool
+siteFormed z master x =
+    placeFormed z (x .cache) && eqb (x .stale) (staleMask z master (x .cache))
+
 unfoldable pub wellFormed : Store → Bool
 wellFormed s =
     let z = s .counts in
     placeFormed z (s .master)
-    && (allBelow (z .sites) (λ o. placeFormed z (s .site o .cache))
+    && (allBelow (z .sites) (λ o. siteFormed z (s .master) (s .site o))
     && allBelow (z .runs) (λ r. runFormed z (s .run r)))

@@ -13,7 +13,7 @@ use Rattle.masks.specs.Mask.{testBit}
 use Rattle.clock.specs.Clock.{Clock, join}
 use Rattle.model.specs.Algebra.{Place}
 use Rattle.model.specs.Version.{Version, merge}
-use Rattle.model.specs.Store.{Store, Writer, freeRun, withLast, withMaster, withRun, withWriter}
+use Rattle.model.specs.Store.{Store, Writer, freeRun, withLast, withMarks, withMaster, withRun, withWriter}
 use Rattle.model.specs.Outcome.{Outcome, done, refuse, unless, issueRow, runCause}
 
 -- The largest word.
@@ -68,11 +68,12 @@ unfoldable pub issuedWriter : Store → ℕ → ℕ → ℕ → Writer
 issuedWriter s r w S = record { count = s .writer w .count + 1; past = newPast s r w S }
 
 -- "the issue number and the writer's count rise by 1"; "When all these rows are set", the master.
+-- CR 4: the marks follow it.
 unfoldable pub savedStore : Store → ℕ → ℕ → ℕ → Store
 savedStore s r w S =
     let n = s .last + 1 in
-    withMaster (withWriter (withLast s n) w (issuedWriter s r w S))
-    (issuedMaster (s .counts .writers) S (newVersion n w (newPast s r w S)) (s .master))
+    withMarks (withMaster (withWriter (withLast s n) w (issuedWriter s r w S))
+    (issuedMaster (s .counts .writers) S (newVersion n w (newPast s r w S)) (s .master)))
 
 -- "with S empty only the run is freed, and 0 answered"
 unfoldable pub issuedStore : Store → ℕ → ℕ → ℕ → Store

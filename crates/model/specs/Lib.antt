@@ -1,6 +1,7 @@
 pub mod Algebra
 pub mod Version
 pub mod Sets
+pub mod Marks
 pub mod Store
 pub mod Form
 pub mod Outcome
@@ -11,4 +12,5 @@ pub mod Step
 pub mod Issue
 pub mod Look
 pub mod Explain
+pub mod Stale
 pub mod Calls

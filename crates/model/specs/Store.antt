@@ -1,6 +1,6 @@
 -- The store ("desk"): what a buffer of words stands for.
--- Writer, Job, Branch (read mask and card), Run, Site (an office and its shelf), Tail (behind the
--- runs), Store; planned ("plan's sheets"), doneReads; with..: one part changed.
+-- Writer, Job, Branch (read mask and card), Run, Site (an office: its shelf and stale mark), Tail
+-- (behind the runs), Store; planned ("plan's sheets"), doneReads; with..: one part changed.
 -- Assumes nothing.
 use mathlib.Core.Bool.{_&&_}
 use Prim.Native.Nat.{ℕ}
@@ -11,6 +11,7 @@ use Rattle.clock.specs.Clock.{Clock}
 use Rattle.sizes.specs.declared.Counts.{Counts}
 use Rattle.model.specs.Algebra.{Place}
 use Rattle.model.specs.Version.{Version, zeroPast, unheld}
+use Rattle.model.specs.Marks.{staleMask}
 
 -- "a writer's count, then its past"
 pub record Writer : Type 0 where
@@ -36,9 +37,10 @@ pub record Run : Type 0 where
   pub job : ℕ → Job
   pub branch : Branch
 
--- An office: its shelf.
+-- An office: its shelf, and the mask of the sheets on it that are behind (CR 4).
 pub record Site : Type 0 where
   pub cache : Place Version
+  pub stale : ℕ
 
 -- What stands behind the runs: nothing.
 pub record Tail : Type 0 where
@@ -68,7 +70,7 @@ abbrev pub noJobs : ℕ → Job
 noJobs j = noJob
 
 abbrev pub noSite : Site
-noSite = record { cache = emptyPlace }
+noSite = record { cache = emptyPlace; stale = 0 }
 
 abbrev pub noBranch : Branch
 noBranch = record { read = 0; snapshot = emptyPlace }
@@ -144,16 +146,20 @@ withSites s f = record {
 abbrev pub withSite : Store → ℕ → Site → Store
 withSite s o x = withSites s (putAt (s .site) o x)
 
--- A site with another cache: its other words stay.
-abbrev pub siteWith : Site → Place Version → Site
-siteWith x p = record { cache = p }
+-- The site x of a store with another cache: its mark is true, and its other words stay.
+unfoldable pub siteWith : Store → Site → Place Version → Site
+siteWith s x p = record { cache = p; stale = staleMask (s .counts) (s .master) p }
 
 unfoldable pub withCache : Store → ℕ → Place Version → Store
-withCache s o p = withSite s o (siteWith (s .site o) p)
+withCache s o p = withSite s o (siteWith s (s .site o) p)
 
 -- Another cache for each site.
 unfoldable pub withCaches : Store → (ℕ → Place Version) → Store
-withCaches s cache = withSites s (λ o. siteWith (s .site o) (cache o))
+withCaches s cache = withSites s (λ o. siteWith s (s .site o) (cache o))
+
+-- The caches as they are, each with a true mark: for a master that has changed.
+unfoldable pub withMarks : Store → Store
+withMarks s = withCaches s (λ o. s .site o .cache)
 
 unfoldable pub withWriter : Store → ℕ → Writer → Store
 withWriter s w x = record {

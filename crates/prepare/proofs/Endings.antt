@@ -12,7 +12,7 @@ use Rattle.sizes.specs.declared.Counts.{Counts}
 use Rattle.sizes.specs.Bounds.{snapshotAt}
 use Rattle.model.specs.Algebra.{Place}
 use Rattle.model.specs.Version.{Version, held}
-use Rattle.model.specs.Store.{Run, Store, withCaches, withSites, withRun, withSnapshot}
+use Rattle.model.specs.Store.{Run, Store, siteWith, withCaches, withSites, withRun, withSnapshot}
 use Rattle.model.specs.Outcome.{done, answer, unless}
 use Rattle.model.specs.Prepare.{siteCaches, prepareCause, prepareCaches, prepareSnapshot, prepareDone, prepareRule}
 use Rattle.model.specs.Calls.{prepare, ruleOf}
@@ -54,13 +54,13 @@ abbrev carriedMask : Store → ℕ → ℕ
 carriedMask s r = maskBelow (s .counts .keys) (λ k. held (prepareSnapshot s r k))
 
 next-as : (s : Store) (r : ℕ) → prepareDone s r ≡ done (carriedMask s r ∷ []) (next s r)
-unfolding prepareDone next merged mergedSites fetchedJobs withCaches withSites prepareSnapshot
-    prepareCaches siteCaches
+unfolding prepareDone next merged mergedSites fetchedJobs withCaches withSites siteWith
+    prepareSnapshot prepareCaches siteCaches
 next-as s r = refl
 
 -- Its snapshot of the run.
 next-snapshot : (s : Store) (r : ℕ) → next s r .run r .branch .snapshot ≡ prepareSnapshot s r
-unfolding next merged mergedSites fetchedJobs withCaches withSites withRun withSnapshot
+unfolding next merged mergedSites fetchedJobs withCaches withSites siteWith withRun withSnapshot
     prepareSnapshot prepareCaches siteCaches
 next-snapshot s r = ap (λ (a : Run). a .branch .snapshot) (putAt-same (s .run) r _)
 

@@ -1,6 +1,6 @@
 -- The fetches of a run's jobs, as changes of the store.
--- lacking-bits: a mask of lacking keys is their set. start-as, lacked-as, job-stored: what the
--- code finds and stores for one job.
+-- lacking-bits: a mask of lacking keys is their set. site-again: a true mark set again. start-as,
+-- lacked-as, job-stored: what the code finds and stores for one job.
 -- no-jobs, more-jobs: the fetches of the first jobs. jobs-fine: they keep the store fine.
 -- Assumes nothing.
 use mathlib.Core.Path.{_≡_, refl, sym, ap, _∙_, fun-ext}
@@ -23,16 +23,19 @@ use Rattle.sizes.specs.Bounds.{masterAt, siteAt}
 use Rattle.model.specs.Algebra.{Algebra, Place, lacking}
 use Rattle.model.specs.Version.{Version, versions}
 use Rattle.model.specs.Sets.{fetched, unfetchable}
-use Rattle.model.specs.Store.{Store, withCaches, withSites, withCache}
+use Rattle.model.specs.Store.{Store, siteWith, withCaches, withMarks, withSites, withCache}
 use Rattle.model.specs.Prepare.{jobStart, fetchReads, preparedCaches, siteCaches}
 use Rattle.model.proofs.Formed.{well-out, formed-cache}
 use Rattle.layout.specs.Reading.{readPlace, storeOf}
 use Rattle.layout.specs.Stored.{putPlace}
 use Rattle.layout.specs.Buffer.{written}
-use Rattle.layout.proofs.Fit.{fit-cache}
+use Rattle.layout.proofs.Parts.{FitPlace, place-laws}
+use Rattle.layout.proofs.Fit.{fit-cache, fit-marks}
+use Rattle.layout.proofs.Updates.{marked}
 use Rattle.layout.proofs.Readings.{master-in, cache-in}
-use Rattle.layout.proofs.Follow.{Fine}
+use Rattle.layout.proofs.Follow.{Fine, form-fine}
 use Rattle.layout.proofs.Kept.{fine-next, fetched-fits, fetched-formed}
+use Rattle.version.specs.Places.{putMark}
 use Rattle.form.proofs.Known.{form-counts, cache-stored}
 use Rattle.trial.specs.Jobs.{UsedRun}
 use Rattle.prepare.specs.Turns.{startOf, fetchedJob, fetchedJobs}
@@ -51,6 +54,15 @@ lacking-bits alg K p m h =
 
 -- ---- one job
 
+-- A site of a fine store is as it is with its mark set again.
+site-again : (s : Store) → Fine s → (o : ℕ) → siteWith s (s .site o) (s .site o .cache) ≡ s .site o
+unfolding siteWith withMarks withCaches withSites
+site-again s F o =
+    ⊎-elim
+    (λ h. ap (λ (m : ℕ). marked (s .site o) m) (sym (well-out s (F .formed) .mark o h)))
+    (λ h. fit-marks s (F .fits) .site .rest o h ∙ sym (F .fits .site .rest o h))
+    (below-or-not o (s .counts .sites))
+
 -- The cache of job j of run r after its fetch.
 abbrev jobCache : Store → ℕ → ℕ → Place Version
 jobCache s r j =
@@ -59,17 +71,20 @@ jobCache s r j =
     (startOf z s r j)
 
 -- It changes one cache.
-job-cache : (s : Store) (r j : ℕ)
+job-cache : (s : Store) (r j : ℕ) → Fine s
     → withCache s (s .run r .job j .site) (jobCache s r j) ≡ fetchedJob s r j
-unfolding fetchedJob withCaches withCache fetchReads putAt siteCaches
-job-cache s r j =
+unfolding fetchedJob withCaches withCache siteWith fetchReads putAt siteCaches
+job-cache s r j F =
     ap (withSites s) (fun-ext (λ i. one (eqb i (s .run r .job j .site)) i))
   where
+    p : Place Version
+    p = jobCache s r j
+
     one : (b : Bool) (i : ℕ)
-        → cond b (record { cache = jobCache s r j }) (s .site i)
-        ≡ record { cache = cond b (jobCache s r j) (s .site i .cache) }
+        → cond b (siteWith s (s .site (s .run r .job j .site)) p) (s .site i)
+        ≡ siteWith s (s .site i) (cond b p (s .site i .cache))
     one true i = refl
-    one false i = refl
+    one false i = sym (site-again s F i)
 
 job-fine : (s : Store) (r j : ℕ) → s .run r .job j .site < s .counts .sites → Fine s
     → Fine (fetchedJob s r j)
@@ -84,7 +99,7 @@ job-fine s r j h F =
     (F .fits .site .each o h .cache) in
     let formed = fetched-formed z (s .master) (s .site o .cache) start (G .master)
     (G .cache o h) in
-    rw (← job-cache s r j)
+    rw (← job-cache s r j F)
     (fine-next s (withCache s o p) F (fit-cache s (F .fits) o p h fits)
     (formed-cache s G o p formed) refl)
 
@@ -128,8 +143,8 @@ module _ (l : List ℕ) (z : Counts) (r j : ℕ) (U : UsedRun l z r)
 
   pub job-stored : (o at master mask : ℕ) (m : List ℕ) → o ≡ storeOf l .run r .job j .site
       → at ≡ siteAt z o → master ≡ masterAt z → mask ≡ maskBelow (z .keys) start
-      → m ≡ putPlace z l at (fetched (versions (z .writers)) (z .keys) (readPlace z l master)
-      (readPlace z l at) (testBit mask))
+      → m ≡ putMark z (putPlace z l at (fetched (versions (z .writers)) (z .keys)
+      (readPlace z l master) (readPlace z l at) (testBit mask))) master at
       → m ≡ written (fetchedJob (storeOf l) r j) l
   unfolding siteCaches
   job-stored o at master mask m p q f g e =
@@ -138,7 +153,10 @@ module _ (l : List ℕ) (z : Counts) (r j : ℕ) (U : UsedRun l z r)
       let cache = s .site o .cache in
       let taken = fetched (versions (z .writers)) (z .keys) (s .master) cache start in
       let same : taken ≡ jobCache s r j = rw (form-counts l z (U .form), ← p) in
-      let stored : m ≡ putPlace z l (siteAt z o) taken =
+      let P = place-laws z .fits l in
+      let C : FitPlace z cache = rw (cache-in l z (U .form .counts) o below) (P (siteAt z o)) in
+      let M : FitPlace z (s .master) = rw (master-in l z (U .form .counts)) (P (masterAt z)) in
+      let stored : m ≡ putMark z (putPlace z l (siteAt z o) taken) (masterAt z) (siteAt z o) =
       rw (
         ← start-bits,
         ← g,
@@ -147,17 +165,19 @@ module _ (l : List ℕ) (z : Counts) (r j : ℕ) (U : UsedRun l z r)
         cache-in l z (U .form .counts) o below,
         ← q,
       ) e in
-      stored ∙ cache-stored l z (U .form) o taken below
-      ∙ ap (λ (t : Store). written t l) (ap (withCache s o) same ∙ rw p (job-cache s r j))
+      stored
+      ∙ cache-stored l z (U .form) o taken below (fetched-fits z (s .master) cache start M C)
+      ∙ ap (λ (t : Store). written t l)
+      (ap (withCache s o) same ∙ rw p (job-cache s r j (form-fine l (U .form .form))))
 
 -- ---- the first n jobs
 
-pub no-jobs : (s : Store) (r : ℕ) → fetchedJobs s r 0 ≡ s
+pub no-jobs : (s : Store) (r : ℕ) → Fine s → fetchedJobs s r 0 ≡ s
 unfolding fetchedJobs withCaches withSites preparedCaches foldBelow siteCaches
-no-jobs s r = refl
+no-jobs s r F = ap (withSites s) (fun-ext (site-again s F))
 
 job-next : (s : Store) (r n : ℕ) → fetchedJob (fetchedJobs s r n) r n ≡ fetchedJobs s r (suc n)
-unfolding fetchedJob fetchedJobs withCaches withSites preparedCaches foldBelow siteCaches
+unfolding fetchedJob fetchedJobs withCaches withSites siteWith preparedCaches foldBelow siteCaches
 job-next s r n = refl
 
 pub more-jobs : (s : Store) (r n : ℕ)
@@ -168,7 +188,7 @@ pub jobs-fine : (s : Store) (r n : ℕ)
     → ((j : ℕ) → j < n → s .run r .job j .site < s .counts .sites) → Fine s
     → Fine (fetchedJobs s r n)
 unfolding fetchedJobs withCaches withSites
-jobs-fine s r zero h F = rw (no-jobs s r) F
+jobs-fine s r zero h F = rw (no-jobs s r F) F
 jobs-fine s r (suc n) h F =
     rw (← job-next s r n)
     (job-fine (fetchedJobs s r n) r n (h n (omega arith))

@@ -22,7 +22,8 @@ use Rattle.prepare.proofs.Fetching.{no-jobs, more-jobs, jobs-fine}
 -- l: the buffer before, and m: after the fetches of the first n jobs.
 module _ (l : List ℕ) (z : Counts) (r : ℕ) (U : UsedRun l z r) where
   pub jobs-start : l ≡ written (fetchedJobs (storeOf l) r 0) l
-  jobs-start = rw (no-jobs (storeOf l) r) (sym (form-again l z (U .form)))
+  jobs-start =
+      rw (no-jobs (storeOf l) r (form-fine l (U .form .form))) (sym (form-again l z (U .form)))
 
   fine : (n : ℕ) → n ≤ storeOf l .run r .jobs → Fine (fetchedJobs (storeOf l) r n)
   fine n h =

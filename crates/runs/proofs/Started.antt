@@ -20,7 +20,8 @@ use Rattle.model.specs.Outcome.{openState}
 use Rattle.model.specs.Runs.{listedJob, listedCount, listedJobs, openedRun}
 use Rattle.layout.specs.Words.{jobsWords, placeWords, runWords}
 use Rattle.layout.specs.Reading.{readJob, readJobs, readRun}
-use Rattle.layout.proofs.Parts.{jobs-laws, run-laws}
+use Rattle.layout.proofs.Parts.{run-laws}
+use Rattle.layout.proofs.Jobs.{jobs-laws}
 use Rattle.layout.proofs.Windows.{part-again, part-twice}
 use Rattle.layout.proofs.Readings.{job-at}
 use Rattle.layout.proofs.Rules.Open.{Listed, job-in, job-out}

@@ -11,6 +11,7 @@ use version::clear_keys;
 use version::copy_keys;
 use version::held;
 use version::held_mask;
+use version::mark::mark_site;
 use version::meets;
 use version::needs;
 ghost use mathlib.Core.Path.{_≡_};
@@ -20,7 +21,7 @@ ghost use Rattle.masks.specs.Mask.{testBit, maskBelow};
 ghost use Rattle.model.specs.Version.{versions};
 ghost use Rattle.model.specs.Sets.{drawSet, fetchSet, fetched, evictSet, evicted};
 ghost use Rattle.layout.specs.Reading.{readPlace};
-ghost use Rattle.version.specs.Places.{Area, Areas};
+ghost use Rattle.version.specs.Places.{putMark, SiteArea, Area, Areas};
 ghost use Rattle.layout.specs.Stored.{putPlace};
 ghost use Rattle.sets.specs.Draws.{viewAt, viewed, DrawArea, drawsIn};
 
@@ -103,19 +104,21 @@ pub fn fetch_set(words: &[u32], z: Counts, master: usize, cache: usize, start: u
     draw_set(words, z, scope, cache, source, start)
 }
 
-// The cache takes the master's version of each key in T. Answers T.
+// The cache of a site takes the master's version of each key in T, and its mark is set. Answers T.
 pub fn fetch_keys(words: &mut [u32], z: Counts, master: usize, cache: usize, start: u32) -> u32
     requires { ⌜ Areas (length (now words)) z cache master ⌝ }
+    requires { ⌜ SiteArea (length (now words)) z cache ⌝ }
     requires { ⌜ start < 2 ^ z .keys ⌝ }
     ensures answers { λ r. ⌜ r ≡ maskBelow (z .keys)
         (fetchSet (versions (z .writers)) (z .keys) (readPlace z (now (words .entry)) master)
         (readPlace z (now (words .entry)) cache) (testBit start)) ⌝ }
-    ensures leaves { λ _. ⌜ now (words .exit) ≡ putPlace z (now (words .entry)) cache
+    ensures leaves { λ _. ⌜ now (words .exit) ≡ putMark z (putPlace z (now (words .entry)) cache
         (fetched (versions (z .writers)) (z .keys) (readPlace z (now (words .entry)) master)
-        (readPlace z (now (words .entry)) cache) (testBit start)) ⌝ }
+        (readPlace z (now (words .entry)) cache) (testBit start))) master cache ⌝ }
 {
     let taken = fetch_set(words, z, master, cache, start);
     copy_keys(words, z, cache, master, taken);
+    mark_site(words, z, master, cache);
     taken
 }
 
@@ -131,18 +134,19 @@ pub fn evict_set(words: &[u32], z: Counts, at: usize, start: u32) -> u32
     grow(words, z, Rule::Evict(at), scope, start, start)
 }
 
-// E leaves the cache. Answers E.
-pub fn evict_keys(words: &mut [u32], z: Counts, at: usize, start: u32) -> u32
-    requires { ⌜ Area (length (now words)) z at ⌝ }
+// E leaves the cache of a site, and its mark is set. Answers E.
+pub fn evict_keys(words: &mut [u32], z: Counts, master: usize, at: usize, start: u32) -> u32
+    requires { ⌜ Area (length (now words)) z master × SiteArea (length (now words)) z at ⌝ }
     requires { ⌜ start < 2 ^ z .keys ⌝ }
     ensures answers { λ r. ⌜ r ≡ maskBelow (z .keys)
         (evictSet (versions (z .writers)) (z .keys) (readPlace z (now (words .entry)) at)
         (testBit start)) ⌝ }
-    ensures leaves { λ _. ⌜ now (words .exit) ≡ putPlace z (now (words .entry)) at
+    ensures leaves { λ _. ⌜ now (words .exit) ≡ putMark z (putPlace z (now (words .entry)) at
         (evicted (versions (z .writers)) (z .keys) (readPlace z (now (words .entry)) at)
-        (testBit start)) ⌝ }
+        (testBit start))) master at ⌝ }
 {
     let gone = evict_set(words, z, at, start);
     clear_keys(words, z, at, gone);
+    mark_site(words, z, master, at);
     gone
 }

@@ -4,8 +4,8 @@ use Prim.Native.Nat.{ℕ}
 
 -- It rises when an exported call, its arguments or its answer change.
 abbrev pub interfaceVersion : ℕ
-interfaceVersion = 4
+interfaceVersion = 5
 
 -- It rises when the words of a store change.
 abbrev pub layoutVersion : ℕ
-layoutVersion = 2
+layoutVersion = 3

@@ -5,7 +5,7 @@ pub mod clocks;
 
 use form::in_form;
 ghost use mathlib.Core.Path.{_≡_};
-ghost use Rattle.model.specs.Calls.{look, explain, openRun, fetch, evict, prepare, step, issue, dropRun, ask};
+ghost use Rattle.model.specs.Calls.{look, explain, stale, openRun, fetch, evict, prepare, step, issue, dropRun, ask};
 ghost use Rattle.layout.specs.Calls.{new, on};
 ghost use Rattle.calls.specs.Performs.{Exported};
 ghost use Rattle.sheetdesk_c.specs.Versions.{interfaceVersion, layoutVersion};
@@ -109,12 +109,20 @@ pub extern "C" fn sheetdesk_explain(store: &[u32], run: u32, job: u32, out: &mut
     calls::explain(store, in_form(store), run, job, out)
 }
 
+#[no_mangle]
+pub extern "C" fn sheetdesk_stale(store: &[u32], office: u32, out: &mut [u32]) -> u32
+    ensures { λ n. ⌜ Exported (on (ask (stale office)))
+        (now (store .entry)) (now (store .entry)) (now (out .entry)) (now (out .exit)) n ⌝ }
+{
+    calls::stale(store, in_form(store), office, out)
+}
+
 // The version of this interface: it rises when a call, its arguments or its answer change.
 #[no_mangle]
 pub extern "C" fn sheetdesk_version() -> u32
     ensures { λ r. ⌜ r ≡ interfaceVersion ⌝ }
 {
-    4
+    5
 }
 
 // The version of the layout: it rises when the words of a desk change.
@@ -122,5 +130,5 @@ pub extern "C" fn sheetdesk_version() -> u32
 pub extern "C" fn sheetdesk_layout() -> u32
     ensures { λ r. ⌜ r ≡ layoutVersion ⌝ }
 {
-    2
+    3
 }

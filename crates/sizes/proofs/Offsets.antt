@@ -11,7 +11,7 @@ use lib.Dec.{leb}
 use Rattle.words.proofs.Bools.{and-intro, and-left, and-right, leb-le, le-leb}
 use Rattle.words.proofs.Slots.{slot-end}
 use Rattle.sizes.specs.declared.Counts.{Counts}
-use Rattle.sizes.specs.Bounds.{maxKeys, maxWriters, maxSites, maxRuns, maxJobs, maxTotal, jobSize, planSize, headerSize, pastOffset, writerPastOffset, snapshotOffset, between, ranged, Ranged, pastSize, versionSize, placeSize, siteSize, writerSize, runSize, masterAt, sitesAt, writersAt, runsAt, tailSize, tailAt, totalOf, siteAt, writerAt, runAt, snapshotAt, jobAt, keyAt, pastRowAt, rowAt, writerRowAt}
+use Rattle.sizes.specs.Bounds.{maxKeys, maxWriters, maxSites, maxRuns, maxJobs, maxTotal, jobSize, planSize, headerSize, pastOffset, writerPastOffset, snapshotOffset, between, ranged, Ranged, pastSize, versionSize, placeSize, siteSize, writerSize, runSize, masterAt, sitesAt, writersAt, runsAt, tailSize, tailAt, totalOf, siteAt, staleAt, writerAt, runAt, snapshotAt, jobAt, keyAt, pastRowAt, rowAt, writerRowAt}
 
 -- ---- counts in range
 
@@ -65,10 +65,10 @@ pub record Largest (z : Counts) : Type 0 where
   pub past : pastSize z ≤ 512
   pub version : versionSize z ≤ 514
   pub place : placeSize z ≤ 16448
-  pub site : siteSize z ≤ 16448
+  pub site : siteSize z ≤ 16449
   pub writer : writerSize z ≤ 513
   pub run : runSize z ≤ 16476
-  pub sites : z .sites * siteSize z ≤ 131584
+  pub sites : z .sites * siteSize z ≤ 131592
   pub writers : z .writers * writerSize z ≤ 8208
   pub runs : z .runs * runSize z ≤ 131808
 
@@ -78,16 +78,17 @@ largest z R =
     let past : pastSize z ≤ 32 * 16 = mul-le-mul (R .keys-high) (R .writers-high) in
     let version : versionSize z ≤ 514 = omega arith in
     let place : placeSize z ≤ 32 * 514 = mul-le-mul (R .keys-high) version in
+    let site : siteSize z ≤ 16449 = omega arith in
     let writer : writerSize z ≤ 513 = omega arith in
     let run : runSize z ≤ 16476 = omega arith in
     record {
       past = past;
       version = version;
       place = place;
-      site = place;
+      site = site;
       writer = writer;
       run = run;
-      sites = mul-le-mul (R .sites-high) place;
+      sites = mul-le-mul (R .sites-high) site;
       writers = mul-le-mul (R .writers-high) writer;
       runs = mul-le-mul (R .runs-high) run;
     }
@@ -144,6 +145,12 @@ unfolding runAt tailAt totalOf
 run-lies z r h =
     let e = part-lies (runsAt z) r (z .runs) (runSize z) h in
     record { starts = e .starts; ends = omega (arith, e .ends) }
+
+-- The cache is the first part of its site, and the stale mark stands behind it.
+pub mark-lies : (z : Counts) (at : ℕ)
+    → Lies (at + placeSize z) (at + siteSize z) (staleAt z at) 1
+unfolding staleAt siteSize
+mark-lies z at = record { starts = omega arith; ends = omega arith }
 
 -- The snapshot is the last part of its run.
 pub snapshot-lies : (z : Counts) (r : ℕ)

@@ -4,7 +4,7 @@ use Rattle.sizes.specs.Bounds.{countsOf, maxTotal, pastSize, versionSize
 
 -- Two keys, two writers, a site and a run.
 small : sizesOf (countsOf 2 2 1 1)
-    ≡ record { master = 10; sites = 22; writers = 34; runs = 44; tail = 84; total = 84 }
+    ≡ record { master = 10; sites = 22; writers = 35; runs = 45; tail = 85; total = 85 }
 unfolding sizesOf pastSize versionSize placeSize siteSize writerSize runSize tailSize
     masterAt sitesAt writersAt runsAt tailAt totalOf
 small = refl

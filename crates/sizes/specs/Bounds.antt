@@ -157,9 +157,16 @@ versionSize z = pastOffset + pastSize z
 unfoldable pub placeSize : Counts → ℕ
 placeSize z = z .keys * versionSize z
 
--- What a site keeps: its cache.
+-- What a site keeps: its cache, then CR 4's "one stored word after its versions", the stale mark.
+abbrev pub staleOffset : Counts → ℕ
+staleOffset z = placeSize z
+
+-- The words behind the cache.
+abbrev pub siteRest : ℕ
+siteRest = 1
+
 unfoldable pub siteSize : Counts → ℕ
-siteSize z = placeSize z
+siteSize z = placeSize z + siteRest
 
 -- "a writer's count, then its past"
 unfoldable pub writerSize : Counts → ℕ
@@ -174,7 +181,7 @@ unfoldable pub tailSize : Counts → ℕ
 tailSize z = 0
 
 -- ---- offsets, after the header:
--- ---- "master K·V; shelves N·K·V; writers W·(1 + K·W); runs P·(28 + K·V)"
+-- ---- "master K·V; shelves N·(K·V + 1); writers W·(1 + K·W); runs P·(28 + K·V)"
 
 unfoldable pub masterAt : Counts → ℕ
 masterAt z = headerSize
@@ -196,7 +203,7 @@ totalOf z = tailAt z + tailSize z
 
 -- The total of the largest counts.
 abbrev pub maxTotal : ℕ
-maxTotal = 288058
+maxTotal = 288066
 
 -- Offsets and total.
 unfoldable pub sizesOf : Counts → Sizes
@@ -214,6 +221,10 @@ sizesOf z = record {
 -- Site o, its cache first.
 unfoldable pub siteAt : Counts → ℕ → ℕ
 siteAt z o = sitesAt z + o * siteSize z
+
+-- The stale mark of the site at an index.
+unfoldable pub staleAt : Counts → ℕ → ℕ
+staleAt z at = at + staleOffset z
 
 unfoldable pub writerAt : Counts → ℕ → ℕ
 writerAt z u = writersAt z + u * writerSize z

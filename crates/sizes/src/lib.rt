@@ -9,7 +9,7 @@ use past::WriterOffset;
 use run::RunOffset;
 ghost use mathlib.Core.Path.{_≡_};
 ghost use Prim.Native.Nat.{_+_, _*_, _<_, _^_};
-ghost use Rattle.sizes.specs.Bounds.{between, ranged, Ranged, countsOf, sizesOf, maxKeys, maxWriters, maxSites, maxRuns, maxJobs, placeLimit, versionLimit, everyJob, jobSize, pastSize, versionSize, placeSize, siteSize, writerSize, runSize, siteAt, writerAt, runAt, snapshotAt, jobAt, keyAt, pastRowAt, rowAt, writerRowAt};
+ghost use Rattle.sizes.specs.Bounds.{between, ranged, Ranged, countsOf, sizesOf, maxKeys, maxWriters, maxSites, maxRuns, maxJobs, placeLimit, versionLimit, everyJob, jobSize, siteRest, pastSize, versionSize, placeSize, siteSize, writerSize, runSize, siteAt, staleAt, writerAt, runAt, snapshotAt, jobAt, keyAt, pastRowAt, rowAt, writerRowAt};
 
 // Sheets, writers, offices and runs (document 01: K, W, N, P).
 pub struct Counts {
@@ -19,8 +19,7 @@ pub struct Counts {
     pub runs: usize,
 }
 
-// Where each area begins, and how many words there are in all. The tail, behind the runs, is
-// empty.
+// Where each area begins, and how many words there are. The tail, behind the runs, is empty.
 pub struct Sizes {
     pub master: usize,
     pub sites: usize,
@@ -46,6 +45,9 @@ impl Sizes {
 
     pub const JOB_SIZE: usize = 3;
 
+    // The words of a site behind its cache.
+    pub const SITE_REST: usize = 1;
+
     // Offsets and total from four counts.
     pub fn of(keys: usize, writers: usize, sites: usize, runs: usize) -> Sizes
         requires { ⌜ Ranged (countsOf keys writers sites runs) ⌝ }
@@ -54,7 +56,7 @@ impl Sizes {
         let past = keys * writers;
         let place = keys * (VersionOffset::PAST + past);
         let sites_at = HeaderOffset::SIZE + place;
-        let writers_at = sites_at + sites * place;
+        let writers_at = sites_at + sites * (place + Sizes::SITE_REST);
         let runs_at = writers_at + writers * (WriterOffset::PAST + past);
         let tail = runs_at + runs * (RunOffset::SNAPSHOT + place);
         Sizes {
@@ -76,6 +78,7 @@ impl Sizes {
         ensures jobs { λ _. do ⌜ (← ⟦Sizes::MAX_JOBS⟧ .entry) ≡ maxJobs ⌝ }
         ensures every { λ _. do ⌜ (← ⟦Sizes::EVERY_JOB⟧ .entry) ≡ everyJob ⌝ }
         ensures job { λ _. do ⌜ (← ⟦Sizes::JOB_SIZE⟧ .entry) ≡ jobSize ⌝ }
+        ensures rest { λ _. do ⌜ (← ⟦Sizes::SITE_REST⟧ .entry) ≡ siteRest ⌝ }
     {}
 }
 
@@ -151,7 +154,7 @@ impl Counts {
         requires { ⌜ Ranged self ⌝ }
         ensures { λ r. ⌜ r ≡ siteSize self ⌝ }
     {
-        self.place_size()
+        self.place_size() + Sizes::SITE_REST
     }
 
     // The words of a writer.
@@ -198,6 +201,15 @@ impl Counts {
     {
         let areas = self.areas();
         nth(areas.runs, self.run_size(), r)
+    }
+
+    // Where the stale mark stands of the site at an index.
+    pub fn stale_at(self, at: usize) -> usize
+        requires { ⌜ Ranged self ⌝ }
+        requires { ⌜ at < placeLimit ⌝ }
+        ensures { λ r. ⌜ r ≡ staleAt self at ⌝ }
+    {
+        at + self.place_size()
     }
 
     // Where the snapshot of run r begins.

@@ -1,34 +1,37 @@
--- What a step that doesn't break stores: the cache with T, the snapshot with C, and two masks.
--- fetch-areas, merge-areas: where the places lie.
--- copied, merged: the two places as the rule has them.
+-- What a step that doesn't break stores: the cache with T and its mark, the snapshot with C, and
+-- two masks.
+-- fetch-areas, mark-areas, merge-areas: where the places lie.
+-- copied, cache-kept, merged: the two places as the rule has them.
 -- step-left: the buffer after it.
 -- Assumes nothing.
-use mathlib.Core.Path.{_≡_, sym, ap, _∙_}
-use mathlib.Core.Logic.{inl}
+use mathlib.Core.Path.{_≡_, sym, ap, subst, _∙_}
 use mathlib.Core.List.{List}
-use Prim.Native.Nat.{ℕ, suc, _+_, _<_, _≤_}
+use Prim.Native.Nat.{ℕ, suc, _+_, _<_}
 use native.Mathlib.Omega.{arith}
 use lib.Bits.{bitOr}
 use lib.ListN.{length, getD, set}
 use Rattle.words.proofs.Lists.{putAt-same}
 use Rattle.masks.specs.Mask.{testBit, withBit, maskBelow}
 use Rattle.sizes.specs.declared.Counts.{Counts}
-use Rattle.sizes.specs.Bounds.{doneOffset, readOffset, placeSize, siteAt, runAt, snapshotAt}
+use Rattle.sizes.specs.Bounds.{doneOffset, readOffset, siteAt, runAt, snapshotAt}
 use Rattle.model.specs.Algebra.{Place}
 use Rattle.model.specs.Version.{Version, merge, versions}
 use Rattle.model.specs.Sets.{fetched, pulled}
-use Rattle.model.specs.Store.{Run, Store, withSites, withCache, withRun, withSnapshot, withJobDone}
+use Rattle.model.specs.Store.{Run, Site, Store, siteWith, withSites, withCache, withRun, withSnapshot, withJobDone}
 use Rattle.model.specs.Step.{stepBranch, stepSite, stepStart, stepFetch, stepCache, stepPull, stepSnapshot, stepDone}
-use Rattle.layout.specs.Reading.{readPlace, storeOf}
+use Rattle.layout.specs.Reading.{readPlace, countsIn, storeOf}
 use Rattle.layout.specs.Stored.{putPlace}
 use Rattle.layout.specs.Buffer.{written}
 use Rattle.layout.specs.Calls.{leaves}
-use Rattle.layout.proofs.Parts.{place-laws}
-use Rattle.layout.proofs.Windows.{part-back}
+use Rattle.layout.proofs.Parts.{FitPlace, place-laws}
+use Rattle.layout.proofs.Whole.{counts-back, store-back}
+use Rattle.layout.proofs.Fit.{fit-cache}
+use Rattle.layout.proofs.Readings.{cache-in, snapshot-in}
+use Rattle.layout.proofs.Follow.{form-fine}
 use Rattle.layout.proofs.Updates.{put-snapshot, put-masks, run-twice}
 use Rattle.layout.proofs.Kept.{fetched-fits}
-use Rattle.version.specs.Places.{choice, Areas}
-use Rattle.version.proofs.Stores.{place-beside, site-master, snapshot-site}
+use Rattle.version.specs.Places.{putMark, choice, Area, SiteArea, Areas}
+use Rattle.version.proofs.Stores.{site-master, site-whole, snapshot-site}
 use Rattle.form.specs.Parts.{FormWith}
 use Rattle.form.proofs.Known.{form-area, form-counts, cache-stored}
 use Rattle.sets.proofs.Views.{chosen}
@@ -36,8 +39,8 @@ use Rattle.trial.specs.declared.Visit.{Visit}
 use Rattle.trial.specs.declared.Trial.{Trial}
 use Rattle.trial.specs.Jobs.{UsedRun}
 use Rattle.trial.specs.Trials.{Finds}
-use Rattle.trial.proofs.Known.{snapshot-behind, done-word}
-use Rattle.trial.proofs.Finds.{found-counts, found-run, found-site, found-taken, found-pulled, found-read, found-reads, found-cache-at, found-snapshot-at, found-master-at, found-master, found-cache, found-snapshot}
+use Rattle.trial.proofs.Known.{done-word}
+use Rattle.trial.proofs.Finds.{found-counts, found-run, found-site, found-taken, found-pulled, found-read, found-reads, found-cache-at, found-snapshot-at, found-master-at, found-master, found-cache}
 
 -- ---- by the store
 
@@ -60,19 +63,21 @@ run-stepped s l r q x y h =
 
 -- The cache before them.
 step-stored : (l : List ℕ) (z : Counts) (r o : ℕ) (p q : Place Version) (x y : ℕ) → FormWith l z
-    → r < z .runs → o < z .sites
-    → set (set (putPlace z (putPlace z l (siteAt z o) p) (snapshotAt z r) q) (runAt z r + 2) x)
-    (runAt z r + 3) y
+    → r < z .runs
+    → set (set (putPlace z (written (withCache (storeOf l) o p) l) (snapshotAt z r) q)
+    (runAt z r + 2) x) (runAt z r + 3) y
     ≡ written (withRun (withCache (storeOf l) o p) r
     (withJobDone (storeOf l .run r) x y q)) l
 unfolding withCache withSites
-step-stored l z r o p q x y H h i =
-    let s = storeOf l in
+step-stored l z r o p q x y H h =
     let same = form-counts l z H in
-    rw (cache-stored l z H o p i, ← same)
-    (run-stepped (withCache s o p) l r q x y (rw same h))
+    rw (← same) (run-stepped (withCache (storeOf l) o p) l r q x y (rw same h))
 
 -- ---- by what was found
+
+-- The store with the cache that has taken T, and a true mark.
+abbrev pub shelved : Store → ℕ → ℕ → Store
+shelved s r j = withCache s (stepSite s r j) (stepCache s r j)
 
 module _ (l : List ℕ) (z : Counts) (r j : ℕ) (v : Visit) (t : Trial)
     (F : Finds l z r j v t) where
@@ -101,6 +106,13 @@ module _ (l : List ℕ) (z : Counts) (r j : ℕ) (v : Visit) (t : Trial)
       let S = form-area l z (F .form) in
       rw (site-at, found-master-at l z r j v t F)
       (site-master (length l) z (S .ranged) (S .fits) _ site-low)
+
+  pub mark-areas : Area (length l) z (v .master) × SiteArea (length l) z (v .cache)
+  mark-areas =
+      let S = form-area l z (F .form) in (
+        fetch-areas .source,
+        rw site-at (site-whole (length l) z (S .ranged) (S .fits) _ site-low),
+      )
 
   pub merge-areas : Areas (length l) z (v .snapshot) (v .cache)
   merge-areas =
@@ -144,21 +156,46 @@ module _ (l : List ℕ) (z : Counts) (r j : ℕ) (v : Visit) (t : Trial)
       ap (λ (y : Counts). taken y (s .master) old) counts
       ∙ ap (λ (p : Place Version). taken z p old) same-master ∙ ap (taken z master) same-cache
 
+  cache-fits : FitPlace z (stepCache s r j)
+  cache-fits =
+      rw as-fetched (fetched-fits z master cache (stepStart s r j)
+      (place-laws z .fits l (v .master)) (place-laws z .fits l (v .cache)))
+
+  pub cache-kept :
+      putMark z (putPlace z l (v .cache) (stepCache s r j)) (v .master) (v .cache)
+      ≡ written (shelved s r j) l
+  cache-kept =
+      rw (site-at, found-master-at l z r j v t F)
+      (cache-stored l z (F .form) (stepSite s r j) (stepCache s r j) site-low cache-fits)
+
   -- ---- the snapshot, on the buffer with that cache
 
-  module _ (m : List ℕ) (e : m ≡ putPlace z l (v .cache) (stepCache s r j)) where
+  module _ (m : List ℕ) (e : m ≡ written (shelved s r j) l) where
+    store-there : storeOf m ≡ shelved s r j
+    store-there =
+        let o = stepSite s r j in
+        let p = stepCache s r j in
+        rw e (store-back (shelved s r j) l (fit-cache s (form-fine l (F .form .form) .fits) o p
+        (subst (λ (y : Counts). o < y .sites) (sym counts) site-low)
+        (subst (λ (y : Counts). FitPlace y p) (sym counts) cache-fits)))
+
+    counts-there : z ≡ countsIn m
+    unfolding withCache withSites
+    counts-there = sym counts ∙ rw e (sym (counts-back (shelved s r j) l))
+
     cache-back : readPlace z m (v .cache) ≡ stepCache s r j
+    unfolding withCache withSites siteWith
     cache-back =
-        rw (e, as-fetched) (part-back (place-laws z) l (v .cache) _
-        (fetched-fits z master cache (stepStart s r j) (place-laws z .fits l (v .master))
-        (place-laws z .fits l (v .cache))) (fetch-areas .target .fits))
+        let o = stepSite s r j in
+        rw site-at (sym (cache-in m z counts-there o site-low)
+        ∙ ap (λ (t : Store). t .site o .cache) store-there
+        ∙ ap (λ (x : Site). x .cache) (putAt-same (s .site) o _))
 
     snapshot-back : readPlace z m (v .snapshot) ≡ stepBranch s r j .snapshot
+    unfolding withCache withSites
     snapshot-back =
-        let behind : v .cache + placeSize z ≤ v .snapshot =
-        rw (site-at, snapshot-at) (snapshot-behind l z r (used .0) _ site-low) in
-        rw (e, found-snapshot l z r j v t F)
-        (place-beside z l (v .cache) (v .snapshot) _ (inl behind))
+        rw snapshot-at (sym (snapshot-in m z counts-there r (used .0 .run))
+        ∙ ap (λ (t : Store). t .run r .branch .snapshot) store-there)
 
     pub merged : putPlace z m (v .snapshot) (choice (testBit (t .pulled))
         (λ k. merge (z .writers) k (readPlace z m (v .snapshot) k) (readPlace z m (v .cache) k))
@@ -180,7 +217,7 @@ module _ (l : List ℕ) (z : Counts) (r j : ℕ) (v : Visit) (t : Trial)
 
   -- at: where the run begins.
   pub step-left : (at : ℕ) → at ≡ runAt z r
-      → set (set (putPlace z (putPlace z l (v .cache) (stepCache s r j)) (v .snapshot)
+      → set (set (putPlace z (written (shelved s r j) l) (v .snapshot)
       (stepSnapshot s r j)) (at + doneOffset) (withBit (getD l (at + doneOffset) 0) j))
       (at + readOffset) (bitOr (v .read) (v .reads))
       ≡ leaves (stepDone s r j) l
@@ -191,8 +228,7 @@ module _ (l : List ℕ) (z : Counts) (r j : ℕ) (v : Visit) (t : Trial)
         done-word l z r (used .0),
         found-read l z r j v t F,
         found-reads l z r j v t F,
-        site-at,
         snapshot-at,
       )
       (step-stored l z r (stepSite s r j) (stepCache s r j) (stepSnapshot s r j) _ _ (F .form)
-      (used .0 .run) site-low)
+      (used .0 .run))

@@ -13,6 +13,7 @@ use trial::Tried;
 use trial::Visit;
 use trial::try_job;
 use version::copy_keys;
+use version::mark::mark_site;
 use version::merge::merge_keys;
 ghost use mathlib.Core.Path.{_≡_};
 ghost use mathlib.Core.Bool.{So};
@@ -74,7 +75,8 @@ fn act(words: &mut [u32], z: Counts, r: usize, job: u32, visit: Visit, trial: Tr
     divided(visit.reads, trial)
 }
 
-// The cache takes T, the snapshot C; the job is done, and its reads are read.
+// The cache takes T, and its mark is set; the snapshot takes C; the job is done, and its reads are
+// read.
 fn finish(words: &mut [u32], z: Counts, r: usize, job: u32, visit: Visit, trial: Trial)
     requires { ⌜ Finds (now words) z r job visit trial ⌝ }
     ensures { λ _. ⌜ now (words .exit)
@@ -83,6 +85,7 @@ fn finish(words: &mut [u32], z: Counts, r: usize, job: u32, visit: Visit, trial:
     let at = z.run_at(r);
     let jobs_done = with_item(words[at + RunOffset::DONE], job);
     copy_keys(words, z, visit.cache, visit.master, trial.taken);
+    mark_site(words, z, visit.master, visit.cache);
     merge_keys(words, z, visit.snapshot, visit.cache, trial.pulled);
     mark_done(words, at, jobs_done, visit.read | visit.reads);
 }

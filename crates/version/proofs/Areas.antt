@@ -11,12 +11,12 @@ use Rattle.words.specs.Words.{Apart}
 use Rattle.clock.specs.Clock.{standing, clockAt}
 use Rattle.clock.proofs.Standings.{standing-same}
 use Rattle.sizes.specs.declared.Counts.{Counts}
-use Rattle.sizes.specs.Bounds.{versionLimit, leadersOffset, pastOffset, versionSize, keyAt, rowAt}
-use Rattle.sizes.proofs.Offsets.{largest, key-lies, row-lies}
+use Rattle.sizes.specs.Bounds.{versionLimit, leadersOffset, pastOffset, versionSize, siteSize, staleAt, keyAt, rowAt}
+use Rattle.sizes.proofs.Offsets.{largest, mark-lies, key-lies, row-lies}
 use Rattle.layout.specs.Reading.{readWord, readVersion, readPlace}
 use Rattle.layout.proofs.Places.{place-at}
 use Rattle.layout.proofs.Readings.{row-word}
-use Rattle.version.specs.Places.{Area, Areas, Merges}
+use Rattle.version.specs.Places.{Area, SiteArea, Areas, Merges}
 
 module _ (len : ℕ) (z : Counts) (at : ℕ) (A : Area len z at) where
   pub key-in : (k : ℕ) → k < z .keys → keyAt z at k + versionSize z ≤ len
@@ -42,6 +42,18 @@ pub leaders-word : (z : Counts) (l : List ℕ) (at k : ℕ) → k < z .keys
     → readPlace z l at k .leaders ≡ readWord l (keyAt z at k + leadersOffset)
 unfolding readVersion
 leaders-word z l at k h = rw (place-at z l at k h)
+
+-- The cache of a site.
+pub site-cache : (len : ℕ) (z : Counts) (at : ℕ) → SiteArea len z at → Area len z at
+unfolding siteSize
+site-cache len z at A = record { ranged = A .ranged; low = A .low; fits = omega (arith, A .fits) }
+
+-- Its stale mark.
+pub mark-in : (len : ℕ) (z : Counts) (at : ℕ) → SiteArea len z at
+    → (staleAt z at < versionLimit) × (staleAt z at < len)
+mark-in len z at A =
+    let m = largest z (A .ranged) in
+    let e = mark-lies z at in (omega (arith, A .low), omega (arith, A .fits))
 
 -- The versions of one key in two places.
 pub key-apart : (len : ℕ) (z : Counts) (dst src : ℕ) → Areas len z dst src → (k : ℕ) → k < z .keys

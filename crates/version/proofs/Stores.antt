@@ -16,7 +16,8 @@ use Rattle.layout.specs.Words.{placeWords}
 use Rattle.layout.specs.Reading.{readPlace}
 use Rattle.layout.proofs.Parts.{place-laws}
 use Rattle.layout.proofs.Windows.{part-beside}
-use Rattle.version.specs.Places.{Area, Areas}
+use Rattle.version.proofs.Areas.{site-cache}
+use Rattle.version.specs.Places.{Area, SiteArea, Areas}
 use Rattle.layout.specs.Stored.{putPlace}
 
 pub place-beside : (z : Counts) (l : List ℕ) (at from : ℕ) (p : Place Version)
@@ -35,13 +36,15 @@ module _ (len : ℕ) (z : Counts) (R : Ranged z) (fits : totalOf z ≤ len) wher
       let o = ordered z R in
       record { ranged = R; low = omega arith; fits = omega arith }
 
-  -- The cache is all of its site.
-  pub site-area : (o : ℕ) → o < z .sites → Area len z (siteAt z o)
-  unfolding siteSize
-  site-area o h =
+  pub site-whole : (o : ℕ) → o < z .sites → SiteArea len z (siteAt z o)
+  site-whole o h =
       let q = ordered z R in
       let s = site-lies z o h in
       record { ranged = R; low = omega arith; fits = omega arith }
+
+  -- The cache is the first part of its site.
+  pub site-area : (o : ℕ) → o < z .sites → Area len z (siteAt z o)
+  site-area o h = site-cache len z (siteAt z o) (site-whole o h)
 
   pub snapshot-area : (r : ℕ) → r < z .runs → Area len z (snapshotAt z r)
   snapshot-area r h =
@@ -49,6 +52,12 @@ module _ (len : ℕ) (z : Counts) (R : Ranged z) (fits : totalOf z ≤ len) wher
       let s = run-lies z r h in
       let t = snapshot-lies z r in
       record { ranged = R; low = omega arith; fits = omega arith }
+
+  pub site-apart : (o : ℕ) → o < z .sites
+      → (siteAt z o + placeSize z ≤ masterAt z) ⊎ (masterAt z + placeSize z ≤ siteAt z o)
+  site-apart o h =
+      let q = ordered z R in
+      let s = site-lies z o h in inr (omega arith)
 
   pub site-master : (o : ℕ) → o < z .sites → Areas len z (siteAt z o) (masterAt z)
   site-master o h =

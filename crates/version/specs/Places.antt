@@ -1,6 +1,7 @@
 -- Versions and places in the words of a buffer: stored at an index, and where they lie.
--- versionOf: a version by its parts. putKey: one key stored. choice: a place by a set of keys.
--- Area, Areas: where places lie. Merges: where a version and a past lie.
+-- versionOf: a version by its parts. putKey: one key stored. putMark: a stale mark stored.
+-- choice: a place by a set of keys.
+-- Area, SiteArea, Areas: where places lie. Merges: where a version and a past lie.
 -- Outside: what a store leaves as it was. Own: a version given by the words of the target itself.
 -- Assumes nothing.
 use mathlib.Core.Path.{_≡_}
@@ -8,13 +9,15 @@ use mathlib.Core.Bool.{cond}
 use mathlib.Core.List.{List}
 use mathlib.Core.Logic.{_⊎_}
 use Prim.Native.Nat.{ℕ, _+_, _≤_, _<_}
-use lib.ListN.{length, getD}
+use lib.ListN.{length, getD, set}
 use Rattle.words.specs.Tests.{Items}
 use Rattle.clock.specs.Clock.{Clock}
 use Rattle.sizes.specs.declared.Counts.{Counts}
-use Rattle.sizes.specs.Bounds.{placeLimit, versionLimit, leadersOffset, pastOffset, Ranged, pastSize, versionSize, placeSize, keyAt}
+use Rattle.sizes.specs.Bounds.{placeLimit, versionLimit, leadersOffset, pastOffset, Ranged, pastSize, versionSize, placeSize, siteSize, staleAt, keyAt}
 use Rattle.model.specs.Algebra.{Place}
 use Rattle.model.specs.Version.{Version}
+use Rattle.model.specs.Marks.{staleMask}
+use Rattle.layout.specs.Reading.{readPlace}
 use Rattle.layout.specs.Stored.{putVersion}
 
 -- The version with an issue number, a mask of leading writers and a past.
@@ -25,6 +28,11 @@ versionOf n m p = record { issue = n; leaders = m; past = p }
 abbrev pub putKey : Counts → List ℕ → ℕ → Items → ℕ → Version → List ℕ
 putKey z l at S k v = cond (S k) (putVersion z l (keyAt z at k) v) l
 
+-- The words l with the stale mark of the site at an index stored: it is true there.
+abbrev pub putMark : Counts → List ℕ → ℕ → ℕ → List ℕ
+putMark z l master site =
+    set l (staleAt z site) (staleMask z (readPlace z l master) (readPlace z l site))
+
 -- p for the keys of a set, and q for the others.
 abbrev pub choice : Items → Place Version → Place Version → Place Version
 choice S p q k = cond (S k) (p k) (q k)
@@ -34,6 +42,12 @@ pub record Area (len : ℕ) (z : Counts) (at : ℕ) : Type 0 where
   pub ranged : Ranged z
   pub low : at < placeLimit
   pub fits : at + placeSize z ≤ len
+
+-- A site at an index: a place, and the words behind it.
+pub record SiteArea (len : ℕ) (z : Counts) (at : ℕ) : Type 0 where
+  pub ranged : Ranged z
+  pub low : at < placeLimit
+  pub fits : at + siteSize z ≤ len
 
 -- Two places: one and the same, or two that do not overlap.
 pub record Areas (len : ℕ) (z : Counts) (dst src : ℕ) : Type 0 where

@@ -1,4 +1,5 @@
 // Versions in the words of a buffer: read, copied, cleared, merged.
+pub mod mark;
 pub mod merge;
 
 use clock::compare;

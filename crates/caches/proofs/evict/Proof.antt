@@ -8,9 +8,9 @@ use borrow.Author.Tests.{not-true, not-false}
 use native.Mathlib.Omega.{arith}
 use lib.ListN.{length}
 use Rattle.version.specs.Places.{Area}
-use Rattle.version.proofs.Stores.{site-area}
+use Rattle.version.proofs.Stores.{master-area, site-whole, site-area}
 use Rattle.form.specs.Parts.{StoreArea, FormWith}
-use Rattle.form.proofs.Known.{form-long, form-area}
+use Rattle.form.proofs.Known.{form-long, form-area, master-found}
 use Rattle.answers.specs.Answers.{answeredWords}
 use Rattle.caches.specs.Range.{outOfRange}
 use Rattle.caches.proofs.Known.{inside, one-low}
@@ -82,16 +82,25 @@ returns-2 c =
     evict-lacks _ _ (holds (e .before)) _ _ _ (site .site-at .ensures)
     (in-range e) (sym (h .held .ensures) ∙ not-true _ (c .if2 .taken))
 
+areas-requires : tie.Need-areas-requires
+areas-requires c κs = area (c .before .before .before .before) .ranged
+
 with-item-requires : tie.Need-with-item-requires
 with-item-requires c κs =
-    let e = c .before .before .before .before in
+    let e = c .before .before .before .before .before in
     omega (arith, ready e, area e .ranged .keys-high)
 
 evict-keys-requires : tie.Need-evict-keys-requires
 evict-keys-requires c κs =
-    let site = c .before .before .before .before .before in (
-      cache site,
-      one-low _ _ _ (ready (site .before) .1) (c .before .with-item .ensures),
+    let areas = c .before .before in
+    let site = areas .before .before .before .before in
+    let e = site .before in
+    let A = area e in (
+      (
+        rw (master-found _ _ (areas .areas .ensures)) (master-area _ _ (A .ranged) (A .fits)),
+        rw (site .site-at .ensures) (site-whole _ _ (A .ranged) (A .fits) _ (ready e .0)),
+      ),
+      one-low _ _ _ (ready e .1) (c .before .with-item .ensures),
     )
 
 same-length-3 : tie.Need-same-length-3
@@ -102,12 +111,13 @@ unfolding answeredWords
 returns-3 c =
     let keys = c .before .before in
     let item = keys .before .before in
-    let h = item .before .before in
+    let areas = item .before in
+    let h = areas .before .before in
     let site = h .before .before in
     let e = site .before in
     evict-done _ _ (holds (e .before)) _ _ _ (site .site-at .ensures)
-    (in-range e) (sym (h .held .ensures) ∙ not-false _ (item .before .if2 .left))
-    _ _ _ (item .with-item .ensures)
+    (in-range e) (sym (h .held .ensures) ∙ not-false _ (areas .before .if2 .left))
+    _ _ _ _ (master-found _ _ (areas .areas .ensures)) (item .with-item .ensures)
     (keys .evict-keys .ensures .0) (keys .evict-keys .ensures .1)
 
 pub evict-spec : {M : Type 1} → statement M
@@ -122,6 +132,7 @@ evict-spec =
     held-requires
     same-length-2
     returns-2
+    areas-requires
     with-item-requires
     evict-keys-requires
     same-length-3

@@ -7,7 +7,7 @@ use borrow.Author.Needs.{needs}
 use borrow.Author.Tests.{not-true, not-false}
 use native.Mathlib.Omega.{arith}
 use lib.ListN.{length}
-use Rattle.version.proofs.Stores.{master-area, site-master}
+use Rattle.version.proofs.Stores.{master-area, site-master, site-whole}
 use Rattle.form.specs.Parts.{StoreArea, FormWith}
 use Rattle.form.proofs.Known.{form-long, form-area, master-found}
 use Rattle.answers.specs.Answers.{answeredWords}
@@ -95,7 +95,10 @@ fetch-keys-requires c κs =
     let low = ready e in (
       rw (site .site-at .ensures, master-found _ _ (areas .areas .ensures))
           (site-master _ _ (A .ranged) (A .fits) _ (low .0)),
-      one-low _ _ _ (low .1) (c .before .with-item .ensures),
+      (
+        rw (site .site-at .ensures) (site-whole _ _ (A .ranged) (A .fits) _ (low .0)),
+        one-low _ _ _ (low .1) (c .before .with-item .ensures),
+      ),
     )
 
 same-length-3 : tie.Need-same-length-3

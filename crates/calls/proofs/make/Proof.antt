@@ -123,6 +123,14 @@ returns-11 c =
     let s = x .before .before .before .before .before in
     rw (x .command10 .given .1) (e .explain .ensures .does (s .pre .1 .1))
 
+returns-12 : tie.Need-returns-12
+unfolding Made
+returns-12 c =
+    let e = c .before .before in
+    let x = e .before .before .before .before in
+    let s = x .before .before .before .before .before in
+    rw (x .command11 .given .1) (e .stale .ensures .does (s .pre .1 .1))
+
 pub make-spec : {M : Type 1} → statement M
 make-spec =
     tie.close
@@ -136,6 +144,8 @@ make-spec =
     (λ c. search needs)
     (λ c. search needs)
     part-open-end
+    (λ c κs. search needs)
+    (λ c. search needs)
     (λ c κs. search needs)
     (λ c. search needs)
     (λ c κs. search needs)
@@ -183,4 +193,7 @@ make-spec =
     returns-10
     (λ c. search needs)
     (λ c. search needs)
-    returns-11)
+    returns-11
+    (λ c. search needs)
+    (λ c. search needs)
+    returns-12)

@@ -14,7 +14,7 @@ use Rattle.words.proofs.Bools.{test, and-left, and-right, leb-gt}
 use Rattle.words.proofs.Lists.{putAt-same, putAt-other}
 use Rattle.masks.proofs.Bits.{test-low}
 use Rattle.masks.proofs.Sets.{mask-some}
-use Rattle.model.specs.Store.{Store, freeRun, withLast, withMaster, withRun, withWriter}
+use Rattle.model.specs.Store.{Store, freeRun, siteWith, withCaches, withLast, withMarks, withMaster, withSites, withRun, withWriter}
 use Rattle.model.specs.Outcome.{runCause}
 use Rattle.model.specs.Issue.{issueCause, issuedWriter, savedStore, issuedStore, issueDone, issueRule}
 use Rattle.model.specs.Calls.{issue}
@@ -72,7 +72,8 @@ module _ (s : Store) (b : Book) (F : Follows s b) (r w S : ℕ) (hr : r < s .cou
   -- The writer has one issue more, whose past is its own now,
   writer-next : (v : ℕ) → v ≡ w
       → WriterFollows (s .counts .keys) (entry r w S b ∷ b .history) (savedStore s r w S) v
-  unfolding savedStore withLast withWriter withMaster issuedWriter entry
+  unfolding savedStore withMarks withCaches withSites siteWith withLast withWriter withMaster
+      issuedWriter entry
   writer-next v q =
       let K = s .counts .keys in
       let e = entry r w S b in
@@ -88,7 +89,7 @@ module _ (s : Store) (b : Book) (F : Follows s b) (r w S : ℕ) (hr : r < s .cou
   -- and the others are as they were.
   writer-same : (v : ℕ) → v < s .counts .writers → v ≢ w
       → WriterFollows (s .counts .keys) (entry r w S b ∷ b .history) (savedStore s r w S) v
-  unfolding savedStore withLast withWriter withMaster entry
+  unfolding savedStore withMarks withCaches withSites siteWith withLast withWriter withMaster entry
   writer-same v l q =
       let K = s .counts .keys in
       let e = entry r w S b in
@@ -102,7 +103,8 @@ module _ (s : Store) (b : Book) (F : Follows s b) (r w S : ℕ) (hr : r < s .cou
       }
 
   issued-follows : Follows (savedStore s r w S) (issuedBook r w S b)
-  unfolding savedStore issuedBook withLast withWriter withMaster entry
+  unfolding savedStore withMarks withCaches withSites siteWith issuedBook withLast withWriter
+      withMaster entry
   issued-follows =
       let W = s .counts .writers in
       let K = s .counts .keys in
@@ -128,7 +130,8 @@ module _ (s : Store) (b : Book) (F : Follows s b) (r w S : ℕ) (hr : r < s .cou
   issued-inv : (f : ℕ → List ReadSet) → Inv s b f
       → Inv (withRun (savedStore s r w S) r freeRun) (withBookRun (issuedBook r w S b) r noRun)
       (putAt f r [])
-  unfolding savedStore issuedBook withLast withWriter withMaster withRun withBookRun
+  unfolding savedStore withMarks withCaches withSites siteWith issuedBook withLast withWriter
+      withMaster withRun withBookRun
   issued-inv f v =
       let t = savedStore s r w S in
       let c = issuedBook r w S b in
@@ -152,8 +155,8 @@ done-moves s b f r w S v hr hw hS =
     (λ n. rw (n, book-issued r w S b) (issued-inv s b (v .follows) r w S hr hw hS n f v))
 
 pub issue-laws : (r w S : ℕ) (s : Store) → Fine s → Laws (issue r w S) s (issueRule r w S s)
-unfolding issueRule issueCause runCause issueDone issuedStore savedStore withRun withMaster
-    withWriter withLast roleOf
+unfolding issueRule issueCause runCause issueDone issuedStore savedStore withMarks withCaches
+    withSites siteWith withRun withMaster withWriter withLast roleOf
 issue-laws r w S s _ =
     laws-unless (issue r w S) s (issueCause s r w S) (issueDone s r w S) (λ e.
     let x = no-cause _ 3 _ (omega arith) e in

@@ -152,11 +152,11 @@ none-read {s} {b} {f} {r} fine v A a x i =
 
 done-moves : {s : Store} {b : Book} {f : ℕ → List ReadSet} {r : ℕ} → Fine s → Inv s b f
     → Accepted s r → Moves (prepare r) s b f (prepareDone s r)
-unfolding prepareDone bookRule finish finishBy roleOf withCaches withSites withBookCaches
+unfolding prepareDone bookRule finish finishBy roleOf siteWith withCaches withSites withBookCaches
 done-moves {s} {b} {f} {r} fine v A =
     let F = v .follows in
     let after = withSnapshot (s .run r) (prepareSnapshot s r) in
-    let sites : ℕ → Site = λ o. siteWith (s .site o) (prepareCaches s r o) in
+    let sites : ℕ → Site = λ o. siteWith s (s .site o) (prepareCaches s r o) in
     let w = inv-caches v sites (copyCaches s b r)
     (λ o l. (caches-related fine F A o l, caches-cuts fine F A o l .0)) in
     rw (book-prepare s b r F (A .run))

@@ -2,7 +2,8 @@
 -- Assumes nothing.
 use mathlib.Core.Path.{_∙_}
 use borrow.Author.Needs.{needs}
-use Rattle.version.proofs.Stores.{site-area}
+use Rattle.sizes.specs.Bounds.{masterAt}
+use Rattle.version.proofs.Stores.{master-area, site-whole}
 use Rattle.form.specs.Parts.{partCount, partFormed}
 use Rattle.form.proofs.Stores.{run-area}
 use Rattle.form.proofs.part_formed.Statement.{statement}
@@ -17,14 +18,16 @@ site-at-requires c κs =
     let s = c .before .before .before in
     (s .pre .0 .ranged, rw (c .enum-told .given .1) at (s .pre .1))
 
-place-formed-requires : tie.Need-place-formed-requires
-unfolding partCount
-place-formed-requires c κs =
+site-formed-requires : tie.Need-site-formed-requires
+unfolding partCount masterAt
+site-formed-requires c κs =
     let t = c .before in
     let s = t .before .before .before in
     let A = s .pre .0 in
-    rw (c .site-at .ensures)
-    (site-area _ _ (A .ranged) (A .fits) _ (rw (t .enum-told .given .1) at (s .pre .1)))
+    rw (c .site-at .ensures) (
+      master-area _ _ (A .ranged) (A .fits),
+      site-whole _ _ (A .ranged) (A .fits) _ (rw (t .enum-told .given .1) at (s .pre .1)),
+    )
 
 enum-told-2 : tie.Need-enum-told-2
 enum-told-2 c = search needs
@@ -44,10 +47,10 @@ run-formed-requires c κs =
     (run-area _ _ (s .pre .0) _ (rw (t .enum-told2 .given .1) at (s .pre .1)))
 
 returns : tie.Need-returns
-unfolding partFormed
+unfolding partFormed masterAt
 returns c =
     let a = c .before in
-    rw (a .before .enum-told .given .1, ← a .site-at .ensures) (c .place-formed .ensures)
+    rw (a .before .enum-told .given .1, ← a .site-at .ensures) (c .site-formed .ensures)
 
 returns-2 : tie.Need-returns-2
 unfolding partFormed
@@ -61,7 +64,7 @@ part-formed-spec =
     (tie.spec
     enum-told
     site-at-requires
-    place-formed-requires
+    site-formed-requires
     enum-told-2
     run-at-requires
     run-formed-requires

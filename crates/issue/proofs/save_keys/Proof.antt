@@ -1,4 +1,4 @@
--- `save_keys` stores the issue number, the writer, then the master.
+-- `save_keys` stores the issue number, the writer, the master, then the marks.
 -- Assumes nothing.
 use mathlib.Core.Path.{_≡_, sym, _∙_}
 use Prim.Native.Nat.{_<_, _^_}
@@ -8,10 +8,11 @@ use lib.ListN.{length}
 use Rattle.words.proofs.Bools.{ne-eqb}
 use Rattle.layout.specs.Reading.{storeOf}
 use Rattle.layout.specs.Buffer.{written}
+use Rattle.version.proofs.Stores.{master-area}
 use Rattle.form.proofs.Known.{form-long, form-area, master-found}
 use Rattle.issue.specs.Saves.{Takes, Saves}
 use Rattle.issue.proofs.Areas.{takes-area, saves-area}
-use Rattle.issue.proofs.Chain.{savable-in, saved-number, countedStore, writer-done, master-done}
+use Rattle.issue.proofs.Chain.{savable-in, saved-number, countedStore, mergedStore, writer-done, master-done, marks-done}
 use Rattle.issue.proofs.save_keys.Statement.{statement}
 use Rattle.issue.proofs.save_keys.Tie as tie
 
@@ -124,12 +125,43 @@ merge-saved-requires c κs =
     let n = o .before .before in
     (rw (v .save-writer .kept .0 ∙ o .set-last-issue .kept .0) (saves n), range n .1)
 
+-- The master is merged.
+saved : (m : tie.After-merge-saved)
+    → let n = m .before .before .before .before .before .before .before .before .before .before in
+    let a = n .before .before .before .before .before .before .before .before .args in
+    let l = a .words .now in
+    m .merge-saved .last .0 ≡ written (mergedStore (storeOf l) (a .r) (a .w) (a .mask)) l
+saved m =
+    let v = m .before .before .before .before in
+    let n = v .before .before .before .before .before .before in
+    let x = n .before .before .before .before .before in
+    let s = x .before .before .before in
+    let a = s .args in
+    let R = range n in
+    master-done (a .words .now) (a .z) (s .pre .0) (a .r) (a .w) (a .mask) (R .0) (R .1) (R .2)
+    _ _ _ _ _ (master-found (a .z) (x .before .areas .result) (x .before .areas .ensures))
+    (x .writer-at .ensures) (n .next-numbers .ensures .0) (counted v) (m .merge-saved .ensures)
+
+mark-sites-requires : tie.Need-mark-sites-requires
+mark-sites-requires c κs =
+    let m = c .before .before .before in
+    let v = m .before .before .before .before in
+    let o = v .before .before .before .before in
+    let e = o .before .before .before .before .before .before .before .before in
+    let s = e .before .before in
+    let a = s .args in
+    let A = form-area (a .words .now) (a .z) (s .pre .0) in
+    let M = master-area _ (a .z) (A .ranged) (A .fits) in
+    rw (m .merge-saved .kept .0 ∙ v .save-writer .kept .0 ∙ o .set-last-issue .kept .0)
+    (rw (master-found (a .z) (e .areas .result) (e .areas .ensures)) M, A)
+
 same-length : tie.Need-same-length
 same-length c = search needs
 
 returns : tie.Need-returns
 returns c =
-    let m = c .before .before .before in
+    let k = c .before .before .before in
+    let m = k .before .before .before .before in
     let v = m .before .before .before .before in
     let n = v .before .before .before .before .before .before in
     let x = n .before .before .before .before .before in
@@ -138,11 +170,10 @@ returns c =
     let l = a .words .now in
     let R = range n in (
       n .next-numbers .ensures .0 ∙ sym (saved-number (storeOf l) (a .mask) (s .pre .1 .1)),
-      master-done l (a .z) (s .pre .0) (a .r) (a .w) (a .mask) (R .0) (R .1) (R .2) _ _ _ _ _
+      marks-done l (a .z) (s .pre .0) (a .r) (a .w) (a .mask) (R .0) (R .1) (R .2) _ _ _
           (s .pre .1 .1)
           (master-found (a .z) (x .before .areas .result) (x .before .areas .ensures))
-          (x .writer-at .ensures) (n .next-numbers .ensures .0) (counted v)
-          (m .merge-saved .ensures),
+          (saved m) (k .mark-sites .ensures),
     )
 
 pub save-keys-spec : {M : Type 1} → statement M
@@ -157,5 +188,6 @@ save-keys-spec =
     set-last-issue-requires
     save-writer-requires
     merge-saved-requires
+    mark-sites-requires
     same-length
     returns)

@@ -1,6 +1,7 @@
 -- Issue keeps a store fine.
 -- taken-fits, rows-fit: nothing stands outside of the counts in a past that takes in others, or
--- whose rows are set. issue-kept: the call.
+-- whose rows are set. past-fits, master-fits: the same of the new past and master. issue-kept: the
+-- call.
 -- Assumes nothing.
 use mathlib.Core.Path.{_≡_, refl}
 use mathlib.Core.Bool.{Bool, true, false, cond, So, _&&_}
@@ -19,13 +20,13 @@ use Rattle.clock.proofs.Order.{present-intro}
 use Rattle.sizes.specs.declared.Counts.{Counts}
 use Rattle.model.specs.Algebra.{Place}
 use Rattle.model.specs.Version.{Version, held}
-use Rattle.model.specs.Store.{Writer, Store, freeRun, withLast, withMaster, withWriter, withRun}
+use Rattle.model.specs.Store.{Writer, Store, freeRun, withLast, withMarks, withCaches, withSites, withMaster, withWriter, withRun}
 use Rattle.model.specs.Issue.{issueCause, takenIn, rowsSet, newPast, newVersion, issuedMaster, issuedWriter, savedStore, issuedStore, issueDone, issueRule}
 use Rattle.model.specs.Outcome.{done, runCause}
 use Rattle.model.proofs.Outcomes.{no-cause}
 use Rattle.layout.proofs.Parts.{FitPast, FitVersion, FitPlace}
 use Rattle.layout.proofs.Whole.{FitStore}
-use Rattle.layout.proofs.Fit.{fit-free, fit-merge, past-out, past-in, place-fit, fit-last, fit-master, fit-writer, fit-run}
+use Rattle.layout.proofs.Fit.{fit-free, fit-merge, past-out, past-in, place-fit, fit-last, fit-marks, fit-master, fit-writer, fit-run}
 use Rattle.model.proofs.Formed.{PlaceFormed, VersionFormed, version-held, version-merge, Formed, well-out, formed-last, formed-master, formed-writer, formed-run, leaders-in}
 use Rattle.model.proofs.Plans.{free-formed}
 use Rattle.layout.proofs.Follow.{Fine}
@@ -66,7 +67,7 @@ rows-fit z S w n past hS hw F =
 
 module _ (s : Store) (r w S : ℕ) (F : Fine s) (hr : r < s .counts .runs)
     (hw : w < s .counts .writers) (hS : S < 2 ^ s .counts .keys) where
-  past-fits : FitPast (s .counts) (newPast s r w S)
+  pub past-fits : FitPast (s .counts) (newPast s r w S)
   unfolding newPast
   past-fits =
       let z = s .counts in
@@ -84,7 +85,7 @@ module _ (s : Store) (r w S : ℕ) (F : Fine s) (hr : r < s .counts .runs)
   unfolding newVersion
   version-fits = record { past = past-fits }
 
-  master-fits : FitPlace (s .counts) (issuedMaster (s .counts .writers) S new (s .master))
+  pub master-fits : FitPlace (s .counts) (issuedMaster (s .counts .writers) S new (s .master))
   unfolding issuedMaster
   master-fits =
       let z = s .counts in
@@ -114,7 +115,8 @@ module _ (s : Store) (r w S : ℕ) (F : Fine s) (hr : r < s .counts .runs)
       (λ t. rw t old)
 
   saved-kept : (a : List ℕ) → Kept s (done a (withRun (savedStore s r w S) r freeRun))
-  unfolding savedStore issuedWriter withLast withWriter withMaster withRun
+  unfolding savedStore issuedWriter withLast withWriter withMaster withMarks withCaches withSites
+      withRun
   saved-kept a =
       let z = s .counts in
       let n = s .last + 1 in
@@ -122,10 +124,10 @@ module _ (s : Store) (r w S : ℕ) (F : Fine s) (hr : r < s .counts .runs)
       let m = issuedMaster (z .writers) S new (s .master) in
       let s₁ = withLast s n in
       let s₂ = withWriter s₁ w x in
-      let s₃ = withMaster s₂ m in
+      let s₃ = withMarks (withMaster s₂ m) in
       let f₁ : FitStore s₁ = fit-last s (F .fits) n in
       let f₂ : FitStore s₂ = fit-writer s₁ f₁ w x hw (record { past = past-fits }) in
-      let f₃ : FitStore s₃ = fit-master s₂ f₂ m master-fits in
+      let f₃ : FitStore s₃ = fit-marks (withMaster s₂ m) (fit-master s₂ f₂ m master-fits) in
       let g₁ : Formed s₁ = formed-last s (well-out s (F .formed)) n in
       let g₂ : Formed s₂ = formed-writer s₁ g₁ w x in
       let g₃ : Formed s₃ = formed-master s₂ g₂ m master-formed in

@@ -21,11 +21,17 @@ returns c =
     (rw (c .match .keys1, a, b), omega arith)
 
 returns-2 : tie.Need-returns-2
+unfolding calling formAt
 returns-2 c =
+    let a = c .before .before .number-at .ensures in
+    (rw (c .match .keys2, a), omega arith)
+
+returns-3 : tie.Need-returns-3
+returns-3 c =
     let s = c .before .before .before .before in
-    let past = next (s .pre .0) (c .match .rest .1) in
+    let past = next (next (s .pre .0) (c .match .rest .0 .1)) (c .match .rest .1) in
     absurd (not-past (in-table (s .args .number) (s .args .n) (s .pre .1 .0)) past)
 
 pub later-command-spec : {M : Type 1} → statement M
 later-command-spec =
-    tie.close (tie.spec number-at-requires number-at-requires-2 returns returns-2)
+    tie.close (tie.spec number-at-requires number-at-requires-2 returns returns-2 returns-3)

@@ -1,21 +1,26 @@
--- `fetch_keys` copies the keys of its set.
+-- `fetch_keys` copies the keys of its set, and sets the mark.
 -- Assumes nothing.
-use mathlib.Core.Path.{_∙_}
+use mathlib.Core.Path.{ap, _∙_}
+use mathlib.Core.List.{List}
+use Prim.Native.Nat.{ℕ}
 use borrow.Author.Needs.{needs}
 use Rattle.masks.specs.Mask.{testBit}
 use Rattle.model.specs.Version.{versions}
 use Rattle.model.specs.Sets.{fetchSet, fetched}
 use Rattle.layout.specs.Reading.{readPlace}
+use Rattle.version.specs.Places.{putMark}
 use Rattle.sets.proofs.Views.{chosen}
 use Rattle.sets.proofs.fetch_keys.Statement.{statement}
 use Rattle.sets.proofs.fetch_keys.Tie as tie
 
 fetch-set-requires : tie.Need-fetch-set-requires
-fetch-set-requires c κs =
-    let s = c .before .before in ((s .pre .0 .source, s .pre .0 .target), s .pre .1)
+fetch-set-requires c κs = search needs
 
 copy-keys-requires : tie.Need-copy-keys-requires
 copy-keys-requires c κs = search needs
+
+mark-site-requires : tie.Need-mark-site-requires
+mark-site-requires c κs = search needs
 
 same-length : tie.Need-same-length
 same-length c = search needs
@@ -23,18 +28,22 @@ same-length c = search needs
 returns : tie.Need-returns
 unfolding fetched
 returns c =
-    let set = c .before .before .before .before in
+    let copied = c .before .before .before .before in
+    let set = copied .before .before .before .before in
     let a = set .before .before .before .args in
     let l = a .words .now in
     let master = readPlace (a .z) l (a .master) in
     let cache = readPlace (a .z) l (a .cache) in
     let T = fetchSet (versions (a .z .writers)) (a .z .keys) master cache (testBit (a .start)) in (
       set .fetch-set .ensures,
-      c .before .before .copy-keys .ensures
+      c .before .before .mark-site .ensures
+          ∙ ap (λ (m : List ℕ). putMark (a .z) m (a .master) (a .cache))
+          (copied .before .before .copy-keys .ensures
           ∙ chosen (a .z) l (a .cache) (set .fetch-set .result) T master cache
-          (set .fetch-set .ensures),
+          (set .fetch-set .ensures)),
     )
 
 pub fetch-keys-spec : {M : Type 1} → statement M
 fetch-keys-spec =
-    tie.close (tie.spec fetch-set-requires copy-keys-requires same-length returns)
+    tie.close
+    (tie.spec fetch-set-requires copy-keys-requires mark-site-requires same-length returns)

@@ -1,4 +1,4 @@
--- `finish` stores the cache, the snapshot and two masks.
+-- `finish` stores the cache with its mark, the snapshot and two masks.
 -- Assumes nothing.
 use mathlib.Core.Path.{_≡_, ap, _∙_}
 use mathlib.Core.List.{List}
@@ -8,14 +8,16 @@ use native.Mathlib.Omega.{arith}
 use lib.Bits.{bitOr}
 use lib.ListN.{length}
 use Rattle.sizes.specs.Bounds.{snapshotOffset}
-use Rattle.model.specs.Step.{stepCache, stepSnapshot}
+use Rattle.model.specs.Step.{stepSnapshot}
 use Rattle.layout.specs.Reading.{storeOf}
 use Rattle.layout.specs.Stored.{putPlace}
+use Rattle.layout.specs.Buffer.{written}
+use Rattle.version.specs.Places.{putMark}
 use Rattle.form.proofs.Known.{form-area}
 use Rattle.status.proofs.Statuses.{marked-words}
 use Rattle.trial.proofs.Known.{run-index, job-low}
 use Rattle.trial.proofs.Finds.{found-run}
-use Rattle.step.proofs.Stores.{fetch-areas, merge-areas, copied, merged, step-left}
+use Rattle.step.proofs.Stores.{fetch-areas, mark-areas, merge-areas, copied, shelved, cache-kept, merged, step-left}
 use Rattle.step.proofs.finish.Statement.{statement}
 use Rattle.step.proofs.finish.Tie as tie
 
@@ -52,31 +54,44 @@ copy-keys-requires c κs =
     let a = s .args in
     fetch-areas (a .words .now) (a .z) (a .r) (a .job) (a .visit) (a .trial) (s .pre)
 
--- The cache has taken T.
-fetched : (c : tie.After-copy-keys) → let k = c .before .before .before .before in
-    let a = k .before .before .args in
-    c .copy-keys .last .0
-    ≡ putPlace (a .z) (a .words .now) (a .visit .cache)
-    (stepCache (storeOf (a .words .now)) (a .r) (a .job))
-fetched c =
-    let s = c .before .before .before .before .before .before in
-    let a = s .args in
-    c .copy-keys .ensures
-    ∙ copied (a .words .now) (a .z) (a .r) (a .job) (a .visit) (a .trial) (s .pre)
-
-merge-keys-requires : tie.Need-merge-keys-requires
-merge-keys-requires c κs =
+mark-site-requires : tie.Need-mark-site-requires
+mark-site-requires c κs =
     let n = c .before .before .before in
     let s = n .before .before .before .before .before .before in
     let a = s .args in
     rw (n .copy-keys .kept .0)
+    (mark-areas (a .words .now) (a .z) (a .r) (a .job) (a .visit) (a .trial) (s .pre))
+
+-- The cache has taken T.
+fetched : (c : tie.After-mark-site) → let n = c .before .before .before .before in
+    let a = n .before .before .before .before .before .before .args in
+    c .mark-site .last .0
+    ≡ written (shelved (storeOf (a .words .now)) (a .r) (a .job)) (a .words .now)
+fetched c =
+    let n = c .before .before .before .before in
+    let s = n .before .before .before .before .before .before in
+    let a = s .args in
+    c .mark-site .ensures
+    ∙ ap (λ (m : List ℕ). putMark (a .z) m (a .visit .master) (a .visit .cache))
+    (n .copy-keys .ensures
+    ∙ copied (a .words .now) (a .z) (a .r) (a .job) (a .visit) (a .trial) (s .pre))
+    ∙ cache-kept (a .words .now) (a .z) (a .r) (a .job) (a .visit) (a .trial) (s .pre)
+
+merge-keys-requires : tie.Need-merge-keys-requires
+merge-keys-requires c κs =
+    let k = c .before .before .before in
+    let n = k .before .before .before .before in
+    let s = n .before .before .before .before .before .before in
+    let a = s .args in
+    rw (k .mark-site .kept .0 ∙ n .copy-keys .kept .0)
     (merge-areas (a .words .now) (a .z) (a .r) (a .job) (a .visit) (a .trial) (s .pre))
 
 mark-done-requires : tie.Need-mark-done-requires
 mark-done-requires c κs =
     let m = c .before .before .before .before in
-    let n = m .before .before .before .before in
-    rw (m .merge-keys .kept .0 ∙ n .copy-keys .kept .0)
+    let k = m .before .before .before .before in
+    let n = k .before .before .before .before in
+    rw (m .merge-keys .kept .0 ∙ k .mark-site .kept .0 ∙ n .copy-keys .kept .0)
     (omega (arith, here (n .before .before .before .before)))
 
 same-length : tie.Need-same-length
@@ -87,7 +102,7 @@ returns c =
     let d = c .before .before in
     let m = d .before .before .before .before .before in
     let n = m .before .before .before .before in
-    let i = n .before .before in
+    let i = n .before .before .before .before .before .before in
     let k = i .before .before in
     let s = k .before .before in
     let a = s .args in
@@ -95,10 +110,10 @@ returns c =
     let v = a .visit in
     let x = storeOf l in
     let places : m .merge-keys .last .0
-    ≡ putPlace (a .z) (putPlace (a .z) l (v .cache) (stepCache x (a .r) (a .job))) (v .snapshot)
+    ≡ putPlace (a .z) (written (shelved x (a .r) (a .job)) l) (v .snapshot)
     (stepSnapshot x (a .r) (a .job)) =
     m .merge-keys .ensures .0
-    ∙ merged l (a .z) (a .r) (a .job) v (a .trial) (s .pre) (n .copy-keys .last .0) (fetched n)
+    ∙ merged l (a .z) (a .r) (a .job) v (a .trial) (s .pre) (n .mark-site .last .0) (fetched n)
     ∙ ap (λ (m : List ℕ). putPlace (a .z) m (v .snapshot) (stepSnapshot x (a .r) (a .job)))
     (fetched n) in
     d .mark-done .ensures
@@ -118,6 +133,7 @@ finish-spec =
     slice-read-with-item
     with-item-requires
     copy-keys-requires
+    mark-site-requires
     merge-keys-requires
     mark-done-requires
     same-length

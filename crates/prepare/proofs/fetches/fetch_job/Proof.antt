@@ -5,7 +5,7 @@ use Prim.Native.Nat.{_<_}
 use borrow.Author.Needs.{needs}
 use lib.ListN.{length}
 use Rattle.layout.specs.Reading.{storeOf}
-use Rattle.version.proofs.Stores.{site-master}
+use Rattle.version.proofs.Stores.{site-master, site-whole}
 use Rattle.form.proofs.Known.{form-area, master-found}
 use Rattle.trial.specs.declared.jobs.PlannedJob.{PlannedJob}
 use Rattle.prepare.proofs.Fetching.{site-low, start-low, job-stored}
@@ -56,8 +56,12 @@ fetch-keys-requires c κs =
     let R = form-area (a .words .now) (a .z) (s .pre .0 .form) in (
       rw (t .site-at .ensures, master-found (a .z) (u .areas .result) (u .areas .ensures))
           (site-master (length (a .words .now)) (a .z) (R .ranged) (R .fits) _ (below w)),
-      start-low (a .words .now) (a .z) (a .r) (a .j) (s .pre .0) (s .pre .1) _
-          (n .job-start .ensures),
+      (
+        rw (t .site-at .ensures)
+            (site-whole (length (a .words .now)) (a .z) (R .ranged) (R .fits) _ (below w)),
+        start-low (a .words .now) (a .z) (a .r) (a .j) (s .pre .0) (s .pre .1) _
+            (n .job-start .ensures),
+      ),
     )
 
 same-length : tie.Need-same-length

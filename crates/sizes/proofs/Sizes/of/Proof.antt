@@ -5,7 +5,7 @@ use Prim.Native.Nat.{ℕ, _+_, _*_, _≤_}
 use native.Mathlib.Nat.{add-zero}
 use native.Mathlib.Omega.{arith}
 use Rattle.sizes.specs.declared.Counts.{Counts}
-use Rattle.sizes.specs.Bounds.{Ranged, countsOf, pastOffset, writerPastOffset, snapshotOffset, pastSize, versionSize, placeSize, siteSize, writerSize, runSize, tailSize, masterAt, sitesAt, writersAt, runsAt, tailAt, totalOf, sizesOf}
+use Rattle.sizes.specs.Bounds.{Ranged, countsOf, pastOffset, writerPastOffset, siteRest, snapshotOffset, pastSize, versionSize, placeSize, siteSize, writerSize, runSize, tailSize, masterAt, sitesAt, writersAt, runsAt, tailAt, totalOf, sizesOf}
 use Rattle.sizes.proofs.Offsets.{largest}
 use Rattle.sizes.proofs.Sizes.of.Statement.{statement}
 use Rattle.sizes.proofs.Sizes.of.Tie as tie
@@ -13,7 +13,7 @@ use Rattle.sizes.proofs.Sizes.of.Tie as tie
 -- The largest products of four counts.
 most : (k w n p : ℕ) → Ranged (countsOf k w n p)
     → let place = k * (pastOffset + k * w) in
-    (place ≤ 16448) × (n * place ≤ 131584) × (k * w ≤ 512)
+    (place ≤ 16448) × (n * (place + siteRest) ≤ 131592) × (k * w ≤ 512)
     × (w * (writerPastOffset + k * w) ≤ 8208) × (p * (snapshotOffset + place) ≤ 131808)
 unfolding pastSize versionSize placeSize siteSize writerSize runSize
 most k w n p R =
@@ -30,6 +30,9 @@ mul-place c = omega (arith, most _ _ _ _ (c .pre))
 
 add-sites-at : tie.Need-add-sites-at
 add-sites-at c = omega (arith, most _ _ _ _ (c .pre))
+
+add-writers-at-2 : tie.Need-add-writers-at-2
+add-writers-at-2 c = omega (arith, most _ _ _ _ (c .pre))
 
 mul-writers-at : tie.Need-mul-writers-at
 mul-writers-at c = omega (arith, most _ _ _ _ (c .pre))
@@ -92,8 +95,9 @@ of-spec =
     add-place
     mul-place
     add-sites-at
-    mul-writers-at
     add-writers-at
+    mul-writers-at
+    add-writers-at-2
     add-runs-at
     mul-runs-at
     add-runs-at-2

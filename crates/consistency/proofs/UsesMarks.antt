@@ -1,0 +1,59 @@
+-- What a reader takes out of the claim on stale marks (CR 4); nothing here knows how it is proved.
+-- mark-is: every mark is the mask. marked-..: what a set bit says. behind-marked: a copy that is
+-- behind is marked. look-marked: a bit is set exactly if the look there doesn't end in 0.
+-- empty-fails, same-fails: what is not behind.
+-- Assumes nothing.
+use mathlib.Core.Path.{_≡_, refl}
+use mathlib.Core.Bool.{false, So}
+use mathlib.Core.Logic.{_↔_, _≢_}
+use Prim.Native.Nat.{ℕ, _<_}
+use Rattle.words.proofs.Bools.{clash, and-right}
+use Rattle.masks.specs.Mask.{testBit}
+use Rattle.clock.specs.Clock.{standingNumber}
+use Rattle.model.specs.Marks.{staleMask}
+use Rattle.model.specs.Form.{wellFormed}
+use Rattle.model.specs.Look.{lookPlace, lookStanding, lookCause}
+use Rattle.model.specs.Store.{Store}
+use Rattle.model.proofs.Marked.{stale-look}
+use Rattle.layout.specs.Reading.{storeOf}
+use Rattle.layout.specs.Buffer.{shaped, inForm}
+use Rattle.history.specs.Copies.{Copy}
+use Rattle.consistency.specs.Trace.{Trace}
+use Rattle.consistency.specs.Claim.{IsBehind, HoldsAt}
+
+-- ---- "isn't empty and isn't the master's"
+
+pub empty-fails : (c master : Copy) → ((i : ℕ) → c i ≡ false) → ¬ (IsBehind c master)
+empty-fails c master e b = clash (b .some .1) (e (b .some .0))
+
+pub same-fails : (c : Copy) → ¬ (IsBehind c c)
+same-fails c b = b .other (λ i. refl)
+
+-- ---- at a point
+
+module _ (t : Trace) (H : HoldsAt t) (o : ℕ) (ho : o < storeOf (t .buffer) .counts .sites) where
+  abbrev s : Store
+  s = storeOf (t .buffer)
+
+  pub mark-is : s .site o .stale ≡ staleMask (s .counts) (s .master) (s .site o .cache)
+  mark-is = H .holds .marks-true o ho
+
+  module _ (k : ℕ) (hk : k < s .counts .keys) where
+    pub marked-some : So (testBit (s .site o .stale) k) → (i : ℕ) × So (t .book .cache o k i)
+    marked-some p = H .holds .marks-copies o k ho hk .0 p .some
+
+    pub marked-other : So (testBit (s .site o .stale) k)
+        → ¬ ((i : ℕ) → t .book .cache o k i ≡ t .book .master k i)
+    marked-other p = H .holds .marks-copies o k ho hk .0 p .other
+
+    pub behind-marked : (i : ℕ) → So (t .book .cache o k i)
+        → ¬ ((i : ℕ) → t .book .cache o k i ≡ t .book .master k i)
+        → So (testBit (s .site o .stale) k)
+    behind-marked i p n = H .holds .marks-copies o k ho hk .1 (record { some = (i, p); other = n })
+
+    pub look-marked : So (testBit (s .site o .stale) k)
+        ↔ ((lookCause s 1 o k ≡ 0) × (standingNumber (lookStanding (s .counts .writers) k
+        (lookPlace s 1 o k) (s .master k)) ≢ 0))
+    unfolding inForm
+    look-marked =
+        stale-look s (and-right (shaped (t .buffer)) (wellFormed s) (H .formed)) o k ho hk

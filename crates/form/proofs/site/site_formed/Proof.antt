@@ -1,0 +1,54 @@
+-- `site_formed` tests the cache, and the mark behind it.
+-- Assumes nothing.
+use borrow.Author.Needs.{needs}
+use native.Mathlib.Omega.{arith}
+use Rattle.sizes.specs.Bounds.{staleAt}
+use Rattle.model.specs.Form.{siteFormed}
+use Rattle.layout.specs.Reading.{readSite}
+use Rattle.version.proofs.Areas.{site-cache, mark-in}
+use Rattle.form.proofs.site.site_formed.Statement.{statement}
+use Rattle.form.proofs.site.site_formed.Tie as tie
+
+stale-at-requires : tie.Need-stale-at-requires
+stale-at-requires c κs = search needs
+
+stale-mask-requires : tie.Need-stale-mask-requires
+stale-mask-requires c κs =
+    let s = c .before .before in
+    (s .pre .0, site-cache _ (s .args .z) (s .args .site) (s .pre .1))
+
+place-formed-requires : tie.Need-place-formed-requires
+place-formed-requires c κs =
+    let s = c .before .before .before in site-cache _ (s .args .z) (s .args .site) (s .pre .1)
+
+mul-result : tie.Need-mul-result
+mul-result c =
+    let s = c .before .before .before .before in
+    rw (c .before .before .stale-at .ensures)
+    (omega (arith, mark-in _ (s .args .z) (s .args .site) (s .pre .1) .0))
+
+shared-slice-read-result : tie.Need-shared-slice-read-result
+shared-slice-read-result c =
+    let s = c .before .before .before .before .before in
+    rw (c .before .before .before .stale-at .ensures)
+    (mark-in _ (s .args .z) (s .args .site) (s .pre .1) .1)
+
+returns : tie.Need-returns
+unfolding siteFormed readSite staleAt
+returns c =
+    rw (
+      c .before .place-formed .ensures,
+      c .before .before .stale-mask .ensures,
+      c .before .before .before .stale-at .ensures,
+    )
+
+pub site-formed-spec : {M : Type 1} → statement M
+site-formed-spec =
+    tie.close
+    (tie.spec
+    stale-at-requires
+    stale-mask-requires
+    place-formed-requires
+    mul-result
+    shared-slice-read-result
+    returns)

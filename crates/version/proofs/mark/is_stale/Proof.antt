@@ -1,0 +1,66 @@
+-- `is_stale` tests that a version is held and that its own row isn't the master's.
+-- Assumes nothing.
+use mathlib.Core.Path.{sym, _∙_}
+use borrow.Author.Needs.{needs}
+use native.Mathlib.Omega.{arith}
+use borrow.Author.Tests.{not-true, not-false}
+use lib.ListN.{length}
+use Rattle.model.specs.Marks.{isStale}
+use Rattle.version.proofs.Areas.{row-in, standing-word}
+use Rattle.version.proofs.mark.is_stale.Statement.{statement}
+use Rattle.version.proofs.mark.is_stale.Tie as tie
+
+held-requires : tie.Need-held-requires
+held-requires c κs = search needs
+
+returns : tie.Need-returns
+unfolding isStale
+returns c = rw (sym (c .before .held .ensures) ∙ not-true _ (c .if1 .taken))
+
+row-of-requires : tie.Need-row-of-requires
+row-of-requires c κs = search needs
+
+row-of-requires-2 : tie.Need-row-of-requires-2
+row-of-requires-2 c κs = search needs
+
+compare-requires : tie.Need-compare-requires
+compare-requires c κs =
+    let s = c .before .before .before .before .before in
+    let a = s .args in
+    let n = length (a .words .now) in
+    let k = s .pre .1 in
+    let own = row-in n (a .z) (a .cache) (s .pre .0 .1) (a .k) (a .k) k k in
+    let current = row-in n (a .z) (a .master) (s .pre .0 .0) (a .k) (a .k) k k in
+    rw (c .row-of2 .ensures, c .before .row-of .ensures) (omega arith, omega arith)
+
+differing-requires : tie.Need-differing-requires
+differing-requires c κs = search needs
+
+returns-2 : tie.Need-returns-2
+unfolding isStale
+returns-2 c =
+    let m = c .before in
+    let b = m .before .before in
+    let s = b .before .before .before .before in
+    let a = s .args in
+    let k = s .pre .1 in
+    rw (
+      sym (b .before .before .held .ensures) ∙ not-false _ (b .before .if1 .left),
+      standing-word (a .z) (a .words .now) (a .cache) (a .k) (a .master) (a .k) (a .k) k k k,
+      ← b .row-of .ensures,
+      ← m .before .row-of2 .ensures,
+      ← m .compare .ensures,
+    )
+    (c .differing .ensures)
+
+pub is-stale-spec : {M : Type 1} → statement M
+is-stale-spec =
+    tie.close
+    (tie.spec
+    held-requires
+    returns
+    row-of-requires
+    row-of-requires-2
+    compare-requires
+    differing-requires
+    returns-2)
