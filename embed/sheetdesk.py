@@ -133,6 +133,15 @@ def _array(numbers):
     return (ctypes.c_uint32 * max(1, len(checked)))(*checked), ctypes.c_size_t(len(checked))
 
 
+def _line(name, arguments):
+    """A call as the program's line. An open of more than 27 numbers is recorded with so many: over 8 jobs, it is refused
+    whatever the others are, for the same cause."""
+    numbers = [a for a in arguments if isinstance(a, int)]
+    if name == "open":
+        numbers += arguments[1][: min(arguments[2].value, 27)]
+    return " ".join([name, *map(str, numbers)])
+
+
 def _library():
     here = os.path.dirname(os.path.abspath(__file__))
     name = "libsheetdesk_c.so.%d" % VERSION
@@ -151,10 +160,15 @@ _calls = _library()
 
 
 class Desk:
-    """A desk over its own words: so many, all zero, or a list of words saved from another."""
+    """A desk over its own words: so many, all zero, or a list of words saved from another.
 
-    def __init__(self, content):
+    Each call is handed to `record`, if that is set, with its answer, as the program's own two lines of text
+    ("fetch 0 1\\nok 3\\n"), so that what is written down replays: ./sheetdesk --replay. One log is for one desk, from its new on.
+    """
+
+    def __init__(self, content, record=None):
         self._words, self._len = _array([0] * content if isinstance(content, int) else content)
+        self.record = record
 
     def words(self):
         """The words as a list, to be saved."""
@@ -165,7 +179,10 @@ class Desk:
         checked = [a if isinstance(a, (ctypes.Array, ctypes.c_size_t)) else ctypes.c_uint32(_word(a)) for a in arguments]
         call = getattr(_calls, "sheetdesk_" + name)
         count = call(self._words, self._len, *checked, answer, ctypes.c_size_t(ANSWER_WORDS))
-        return Answer(_OUTCOMES[answer[0]], tuple(answer[1:count]))
+        made = Answer(_OUTCOMES[answer[0]], tuple(answer[1:count]))
+        if self.record is not None:
+            self.record("%s\n%s\n" % (_line(name, arguments), made))
+        return made
 
     def new(self, sheets, writers, offices, runs):
         return self._call("new", sheets, writers, offices, runs)

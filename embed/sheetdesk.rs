@@ -6,7 +6,7 @@
 //! the words.
 #![allow(dead_code)]
 
-use std::fmt;
+use std::fmt::{self, Write};
 
 /// The version of the calls: `SHEETDESK_VERSION` of the header.
 pub const VERSION: u32 = 5;
@@ -286,6 +286,26 @@ impl Standing {
 /// A desk over lent words.
 pub struct Desk<'a> {
     words: &'a mut [u32],
+    record: Option<Take<'a>>,
+}
+
+/// Takes the text of a call and its answer.
+pub type Take<'a> = &'a (dyn Fn(&str) + Sync);
+
+/// A call with its answer, as the program's two lines; on the stack.
+struct Lines {
+    bytes: [u8; 1024],
+    length: usize,
+}
+
+impl fmt::Write for Lines {
+    fn write_str(&mut self, text: &str) -> fmt::Result {
+        let end = self.length + text.len();
+        let room = self.bytes.get_mut(self.length..end).ok_or(fmt::Error)?;
+        room.copy_from_slice(text.as_bytes());
+        self.length = end;
+        Ok(())
+    }
 }
 
 /// Hands an answer's slice to a call and reads what the call wrote there.
@@ -306,7 +326,33 @@ fn answer(call: impl FnOnce(*mut u32, usize) -> u32) -> Answer {
 impl<'a> Desk<'a> {
     /// Takes words of any content; a call other than new is refused if they hold no desk.
     pub fn lend(words: &'a mut [u32]) -> Desk<'a> {
-        Desk { words }
+        Desk { words, record: None }
+    }
+
+    /// Hands each call from now on to `take`, with its answer, as the program's own two lines of
+    /// text ("fetch 0 1\nok 3\n"), so that what is written down replays: `./sheetdesk --replay`.
+    /// `None` ends it. One log is for one desk, from its new on.
+    pub fn record(&mut self, take: Option<Take<'a>>) {
+        self.record = take;
+    }
+
+    /// Hands a call over, if calls are recorded. An open of more than 9 jobs is recorded with 9:
+    /// it is refused whatever the others are, for the same cause.
+    fn hand(&self, answer: Answer, name: &str, numbers: &[u32], jobs: &[Job]) -> Answer {
+        if let Some(take) = self.record {
+            let mut lines = Lines { bytes: [0; 1024], length: 0 };
+            let list = jobs.iter().take(9).flat_map(|job| [job.office, job.reads, job.upstream]);
+            let mut all = numbers.iter().copied().chain(list);
+            let written = lines
+                .write_str(name)
+                .and_then(|_| all.try_for_each(|number| write!(lines, " {number}")))
+                .and_then(|_| write!(lines, "\n{answer}\n"));
+            let text = std::str::from_utf8(&lines.bytes[..lines.length]);
+            if let (Ok(()), Ok(text)) = (written, text) {
+                take(text);
+            }
+        }
+        answer
     }
 
     pub fn words(&self) -> &[u32] {
@@ -320,51 +366,62 @@ impl<'a> Desk<'a> {
     /// A fresh desk of so many sheets, writers, offices and runs.
     pub fn new(&mut self, sheets: u32, writers: u32, offices: u32, runs: u32) -> Answer {
         let (desk, len) = self.lent();
-        answer(|a, n| unsafe { sheetdesk_new(desk, len, sheets, writers, offices, runs, a, n) })
+        let made = answer(|a, n| unsafe {
+            sheetdesk_new(desk, len, sheets, writers, offices, runs, a, n)
+        });
+        self.hand(made, "new", &[sheets, writers, offices, runs], &[])
     }
 
     pub fn open(&mut self, run: u32, jobs: &[Job]) -> Answer {
         let (desk, len) = self.lent();
         // A job is three words in C's layout.
         let (list, count) = (jobs.as_ptr().cast::<u32>(), 3 * jobs.len());
-        answer(|a, n| unsafe { sheetdesk_open(desk, len, run, list, count, a, n) })
+        let made = answer(|a, n| unsafe { sheetdesk_open(desk, len, run, list, count, a, n) });
+        self.hand(made, "open", &[run], jobs)
     }
 
     pub fn fetch(&mut self, office: u32, sheet: u32) -> Answer {
         let (desk, len) = self.lent();
-        answer(|a, n| unsafe { sheetdesk_fetch(desk, len, office, sheet, a, n) })
+        let made = answer(|a, n| unsafe { sheetdesk_fetch(desk, len, office, sheet, a, n) });
+        self.hand(made, "fetch", &[office, sheet], &[])
     }
 
     pub fn evict(&mut self, office: u32, sheet: u32) -> Answer {
         let (desk, len) = self.lent();
-        answer(|a, n| unsafe { sheetdesk_evict(desk, len, office, sheet, a, n) })
+        let made = answer(|a, n| unsafe { sheetdesk_evict(desk, len, office, sheet, a, n) });
+        self.hand(made, "evict", &[office, sheet], &[])
     }
 
     pub fn prepare(&mut self, run: u32) -> Answer {
         let (desk, len) = self.lent();
-        answer(|a, n| unsafe { sheetdesk_prepare(desk, len, run, a, n) })
+        let made = answer(|a, n| unsafe { sheetdesk_prepare(desk, len, run, a, n) });
+        self.hand(made, "prepare", &[run], &[])
     }
 
     pub fn step(&mut self, run: u32, job: u32) -> Answer {
         let (desk, len) = self.lent();
-        answer(|a, n| unsafe { sheetdesk_step(desk, len, run, job, a, n) })
+        let made = answer(|a, n| unsafe { sheetdesk_step(desk, len, run, job, a, n) });
+        self.hand(made, "step", &[run, job], &[])
     }
 
     /// What a step of the job would come to: clear, or the path behind the break.
     pub fn explain(&self, run: u32, job: u32) -> Answer {
         let (desk, len) = (self.words.as_ptr(), self.words.len());
-        answer(|a, n| unsafe { sheetdesk_explain(desk, len, run, job, a, n) })
+        let made = answer(|a, n| unsafe { sheetdesk_explain(desk, len, run, job, a, n) });
+        self.hand(made, "explain", &[run, job], &[])
     }
 
     pub fn issue(&mut self, run: u32, writer: u32, mask: u32) -> Answer {
         let (desk, len) = self.lent();
-        answer(|a, n| unsafe { sheetdesk_issue(desk, len, run, writer, mask, a, n) })
+        let made = answer(|a, n| unsafe { sheetdesk_issue(desk, len, run, writer, mask, a, n) });
+        self.hand(made, "issue", &[run, writer, mask], &[])
     }
 
     /// Frees the run (not the desk, which only borrows its words).
     pub fn drop(&mut self, run: u32) -> Answer {
         let (desk, len) = self.lent();
-        answer(|a, n| unsafe { sheetdesk_drop(desk, len, run, a, n) })
+        let made = answer(|a, n| unsafe { sheetdesk_drop(desk, len, run, a, n) });
+        self.hand(made, "drop", &[run], &[])
     }
 
     /// The issue number, the leading writers, the own clock, and the standing against the
@@ -376,13 +433,15 @@ impl<'a> Desk<'a> {
             Place::Shelf(office) => (1, office),
             Place::Card(run) => (2, run),
         };
-        answer(|a, n| unsafe { sheetdesk_look(desk, len, place, number, sheet, a, n) })
+        let made = answer(|a, n| unsafe { sheetdesk_look(desk, len, place, number, sheet, a, n) });
+        self.hand(made, "look", &[place, number, sheet], &[])
     }
 
     /// The mask of the sheets on the office's shelf that are behind the master's.
     pub fn stale(&self, office: u32) -> Answer {
         let (desk, len) = (self.words.as_ptr(), self.words.len());
-        answer(|a, n| unsafe { sheetdesk_stale(desk, len, office, a, n) })
+        let made = answer(|a, n| unsafe { sheetdesk_stale(desk, len, office, a, n) });
+        self.hand(made, "stale", &[office], &[])
     }
 }
 

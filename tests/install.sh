@@ -16,8 +16,9 @@ bad() {
   exit 1
 }
 
-mkdir -p "$FAKE" "$work/a copy" "$work/use" || exit 2
-cp -R Makefile README.md sheetdesk tools embed docs crates crates.txt "$work/a copy/" || exit 2
+mkdir -p "$FAKE" "$work/a copy/tests" "$work/use" || exit 2
+cp -R Makefile README.md sheetdesk tools embed docs reference crates crates.txt "$work/a copy/" || exit 2
+cp -R tests/differential "$work/a copy/tests/" || exit 2
 make=(make -s -C "$work/a copy")
 command -v make >/dev/null || make=(bash "$work/a copy/tools/install.sh")
 
@@ -47,6 +48,7 @@ defined() {
 due="sheetdesk $(defined VERSION), layout $(defined LAYOUT), toolchain fake-kit"
 [ "$(sheetdesk --version)" = "$due" ] || bad "the installed command's version: $(sheetdesk --version)"
 sheetdesk --man | grep -q "^REFUSALS" || bad "the installed command has no page"
+sheetdesk --page scripts/case-a.txt 2>"$work/log" | grep -q "<title>Sheet desk: case-a.txt" || bad "the installed command makes no page of a script"
 
 # link WORD EXAMPLE: README's line that starts with the word, on the example, which must answer case A.
 link() {
@@ -62,6 +64,7 @@ cp "$prefix/share/sheetdesk/example.c" "$work/use/desk.c" && cp "$prefix/share/s
   cp "$prefix/share/sheetdesk/sheetdesk.rs" "$work/use/" || exit 2
 cat >"$work/use/desk.cpp" <<'END'
 #include <sheetdesk.h>
+#include <sheetdesk_record.h>
 #include <vector>
 int main() {
     std::vector<uint32_t> desk(SHEETDESK_WORDS(2, 2, 2, 1)), answer(SHEETDESK_ANSWER_WORDS);

@@ -1,6 +1,7 @@
 # Sourced by sheetdesk and tools/install.sh: proves and builds what isn't that of the sources. What decides is what the
 # sources hold, not when they were written. Wants $top, the repository, $program and a function `fail`.
 built=$top/target/sheetdesk.built
+library=$top/target/staticlib/libsheetdesk_c.a
 log=$top/target/sheetdesk.log
 
 # A sum over the names and the content of all sources; edits that must be refused are none.
@@ -104,4 +105,21 @@ build_program() {
     { state "$now" && echo "toolchain $(rt version)"; } >"$built.new" && mv "$built.new" "$built" || fail "can't write $built"
   fi
   exec 9>&-
+}
+
+library_is_current() {
+  [ -e "$library" ] && [ "$(cat "$top/target/staticlib/sources" 2>/dev/null)" = "$(sources)" ]
+}
+
+# The static library, of the sources as they are now.
+build_library() {
+  local now
+  ! library_is_current || return 0
+  command -v rt >/dev/null || fail "the Rattle toolchain's command rt is not on the PATH: it builds the library"
+  now=$(sources)
+  echo "sheetdesk: proving and building the library, $(crates sheetdesk_c) crates" >&2
+  rm -f "$top/target/staticlib/sources"
+  prove "$(crates sheetdesk_c)" staticlib sheetdesk_c && [ -e "$library" ] ||
+    fail "the build failed: $(fault); target/sheetdesk.log has all that rt said"
+  echo "$now" >"$top/target/staticlib/sources"
 }

@@ -7,7 +7,7 @@
 #   PREFIX/lib/sheetdesk/                   the command with its program, its page and its tools
 #   PREFIX/lib/libsheetdesk_c.a, .so        the libraries; the shared one has the version of the calls in its name
 #   PREFIX/lib/pkgconfig/sheetdesk.pc       for pkg-config
-#   PREFIX/include/sheetdesk.h              the header for C and C++
+#   PREFIX/include/sheetdesk.h              the header for C and C++; sheetdesk_record.h, to record calls
 #   PREFIX/share/sheetdesk/                 the wrappers for Rust and Python, the examples, their page
 set -u
 unset CDPATH
@@ -26,26 +26,18 @@ defined() {
   sed -n "s/^#define SHEETDESK_$1 //p" embed/sheetdesk.h
 }
 
-# The libraries, of the sources as they are now.
-build_libraries() {
-  local now
-  now=$(sources)
-  if [ ! -e "$library" ] || [ "$(cat target/staticlib/sources 2>/dev/null)" != "$now" ]; then
-    command -v rt >/dev/null || fail "the Rattle toolchain's command rt is not on the PATH: it builds the library"
-    echo "install: proving and building the library" >&2
-    rm -f target/staticlib/sources
-    prove "$(crates sheetdesk_c)" staticlib sheetdesk_c && [ -e "$library" ] ||
-      fail "the build failed: $(fault); target/sheetdesk.log has all that rt said"
-    echo "$now" >target/staticlib/sources
-  fi
-  sh tools/shared.sh || fail "the shared library can't be made"
-}
-
 build() {
-  . tools/build.sh || exit 2
+  . tools/build.sh && . tools/history.sh || exit 2
   is_current || build_program
   lock || fail "target/ can't be written"
-  build_libraries
+  build_library
+  sh tools/shared.sh || fail "the shared library can't be made"
+  if ! command -v rustc >/dev/null; then
+    echo "install: there is no rustc: the command goes without --replay, --shrink and --page" >&2
+    rm -f "$history_tool"
+  elif ! history_is_current; then
+    compile_history || fail "the build of tools/history.rs failed"
+  fi
   exec 9>&-
 }
 
@@ -69,13 +61,14 @@ place() {
   local at=$dest$prefix
   [ -x "$program" ] && [ -e "$library" ] && [ -e "target/shared/$shared" ] || fail "something isn't built yet: run make first"
   mkdir -p "$at/bin" "$at/lib/pkgconfig" "$at/include" "$at/share/sheetdesk" || exit 2
-  mkdir -p "$at/lib/sheetdesk/"{target/bin,tools,docs,embed} || exit 2
+  mkdir -p "$at/lib/sheetdesk/"{target/bin,target/tools,tools,docs,embed} || exit 2
   install -m 755 sheetdesk "$at/lib/sheetdesk/" && install -m 755 "$program" "$at/lib/sheetdesk/target/bin/" &&
-    install -m 644 tools/run.sh tools/words.sh "$at/lib/sheetdesk/tools/" &&
-    install -m 644 docs/USER.md "$at/lib/sheetdesk/docs/" &&
-    install -m 644 embed/sheetdesk.h "$at/include/" &&
+    install -m 644 tools/run.sh tools/words.sh tools/history.sh "$at/lib/sheetdesk/tools/" &&
+    install -m 644 docs/USER.md docs/page.png "$at/lib/sheetdesk/docs/" &&
+    install -m 644 embed/sheetdesk.h embed/sheetdesk_record.h "$at/include/" &&
     install -m 644 "$library" "$at/lib/" && install -m 755 "target/shared/$shared" "$at/lib/" &&
     install -m 644 embed/{README.md,sheetdesk.rs,sheetdesk.py,example.c,example.rs,example.py} "$at/share/sheetdesk/" || exit 2
+  [ ! -x target/tools/history ] || install -m 755 target/tools/history "$at/lib/sheetdesk/target/tools/" || exit 2
   [ ! -r target/sheetdesk.built ] || install -m 644 target/sheetdesk.built "$at/lib/sheetdesk/target/" || exit 2
   ln -sfn ../lib/sheetdesk/sheetdesk "$at/bin/sheetdesk" && ln -sfn "$shared" "$at/lib/libsheetdesk_c.so" &&
     ln -sfn ../../../include/sheetdesk.h "$at/lib/sheetdesk/embed/sheetdesk.h" || exit 2
@@ -86,7 +79,7 @@ place() {
 remove() {
   local at=$dest$prefix
   rm -rf "$at/lib/sheetdesk" "$at/share/sheetdesk" "$at/bin/sheetdesk" "$at/lib/libsheetdesk_c.a" "$at/lib/libsheetdesk_c.so" \
-    "$at/lib/$shared" "$at/lib/pkgconfig/sheetdesk.pc" "$at/include/sheetdesk.h"
+    "$at/lib/$shared" "$at/lib/pkgconfig/sheetdesk.pc" "$at/include/sheetdesk.h" "$at/include/sheetdesk_record.h"
 }
 
 prefix=${2:-/usr/local}

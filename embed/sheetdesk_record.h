@@ -1,0 +1,217 @@
+/* Recording for C: the calls of sheetdesk.h with one argument more in front, which takes each call
+ * with its answer as the program's own two lines of text. A product that writes them to a file has
+ * a log that replays: ./sheetdesk --replay LOG; --shrink and --page take it too.
+ *
+ *     static void take(void *file, const char *text, size_t length)
+ *     {
+ *         fwrite(text, 1, length, file);
+ *     }
+ *     ..
+ *     struct sheetdesk_record record = {take, file};
+ *     sheetdesk_fetch_recorded(&record, desk, desk_len, 0, 1, answer, answer_len);
+ *
+ * hands over "fetch 0 1\nok 3\n". With a null pointer for the record, or for its `take`, nothing is
+ * recorded, and the call is the plain one; so a product can have it off until somebody asks.
+ *
+ * Nothing is allocated and nothing of the C library is used: the text stands on the stack, in
+ * SHEETDESK_RECORD_BYTES, and is the caller's until `take` returns; it ends with a line end and has
+ * no zero behind it. `take` is called once for each call, after it, and not for one that got too
+ * short a slice for its answer (nothing happened). One log is for one desk, from its new on. An
+ * open with more than SHEETDESK_RECORD_JOBS numbers is recorded with so many of them: over 8 jobs,
+ * it is refused whatever the others are, for the same cause.
+ */
+#ifndef SHEETDESK_RECORD_H
+#define SHEETDESK_RECORD_H
+
+#include "sheetdesk.h"
+
+/* The length of a text that holds any call with its answer. */
+#define SHEETDESK_RECORD_BYTES 1024
+/* The numbers of an open's list that are recorded, at most: 9 jobs. */
+#define SHEETDESK_RECORD_JOBS 27
+
+/* Who takes the text, and what is handed to it with each. */
+struct sheetdesk_record {
+    void (*take)(void *context, const char *text, size_t length);
+    void *context;
+};
+
+/* A text in the making. */
+struct sheetdesk_text {
+    char bytes[SHEETDESK_RECORD_BYTES];
+    size_t length;
+};
+
+static inline void sheetdesk_put(struct sheetdesk_text *text, const char *word)
+{
+    while (*word != 0 && text->length < SHEETDESK_RECORD_BYTES)
+        text->bytes[text->length++] = *word++;
+}
+
+/* Each number behind a space. */
+static inline void sheetdesk_put_numbers(struct sheetdesk_text *text, const uint32_t *numbers,
+                                         size_t count)
+{
+    char digits[12];
+    uint32_t rest;
+    size_t place, at;
+
+    for (place = 0; place < count; place++) {
+        at = sizeof digits - 1;
+        digits[at] = 0;
+        rest = numbers[place];
+        do {
+            digits[--at] = (char)('0' + rest % 10);
+            rest /= 10;
+        } while (rest != 0);
+        digits[--at] = ' ';
+        sheetdesk_put(text, digits + at);
+    }
+}
+
+/* Hands over a call, its numbers and those of a list, and its answer of so many words; gives back
+ * their number. */
+static inline uint32_t sheetdesk_hand(const struct sheetdesk_record *record, const char *name,
+                                      const uint32_t *numbers, size_t count, const uint32_t *list,
+                                      size_t list_len, const uint32_t *answer, uint32_t words)
+{
+    static const char *const first[] = {"ok", "broken", "refused", "clear", "path"};
+    struct sheetdesk_text text;
+
+    if (record == NULL || record->take == NULL || words == 0)
+        return words;
+    text.length = 0;
+    sheetdesk_put(&text, name);
+    sheetdesk_put_numbers(&text, numbers, count);
+    if (list_len > SHEETDESK_RECORD_JOBS)
+        list_len = SHEETDESK_RECORD_JOBS;
+    sheetdesk_put_numbers(&text, list, list_len);
+    sheetdesk_put(&text, "\n");
+    sheetdesk_put(&text, answer[0] < sizeof first / sizeof first[0] ? first[answer[0]] : "?");
+    sheetdesk_put_numbers(&text, answer + 1, words - 1);
+    sheetdesk_put(&text, "\n");
+    record->take(record->context, text.bytes, text.length);
+    return words;
+}
+
+static inline uint32_t sheetdesk_new_recorded(const struct sheetdesk_record *record,
+                                              uint32_t *desk, size_t desk_len, uint32_t k,
+                                              uint32_t w, uint32_t n, uint32_t p,
+                                              uint32_t *answer, size_t answer_len)
+{
+    uint32_t numbers[4];
+
+    numbers[0] = k;
+    numbers[1] = w;
+    numbers[2] = n;
+    numbers[3] = p;
+    return sheetdesk_hand(record, "new", numbers, 4, numbers, 0, answer,
+                          sheetdesk_new(desk, desk_len, k, w, n, p, answer, answer_len));
+}
+
+static inline uint32_t sheetdesk_open_recorded(const struct sheetdesk_record *record,
+                                               uint32_t *desk, size_t desk_len, uint32_t run,
+                                               const uint32_t *jobs, size_t jobs_len,
+                                               uint32_t *answer, size_t answer_len)
+{
+    return sheetdesk_hand(record, "open", &run, 1, jobs, jobs_len, answer,
+                          sheetdesk_open(desk, desk_len, run, jobs, jobs_len, answer,
+                                         answer_len));
+}
+
+/* A call of up to three numbers; `made` is what it returned. */
+static inline uint32_t sheetdesk_hand_three(const struct sheetdesk_record *record,
+                                            const char *name, size_t count, uint32_t a, uint32_t b,
+                                            uint32_t c, const uint32_t *answer, uint32_t made)
+{
+    uint32_t numbers[3];
+
+    numbers[0] = a;
+    numbers[1] = b;
+    numbers[2] = c;
+    return sheetdesk_hand(record, name, numbers, count, numbers, 0, answer, made);
+}
+
+static inline uint32_t sheetdesk_fetch_recorded(const struct sheetdesk_record *record,
+                                                uint32_t *desk, size_t desk_len, uint32_t office,
+                                                uint32_t sheet, uint32_t *answer,
+                                                size_t answer_len)
+{
+    return sheetdesk_hand_three(record, "fetch", 2, office, sheet, 0, answer,
+                                sheetdesk_fetch(desk, desk_len, office, sheet, answer,
+                                                answer_len));
+}
+
+static inline uint32_t sheetdesk_evict_recorded(const struct sheetdesk_record *record,
+                                                uint32_t *desk, size_t desk_len, uint32_t office,
+                                                uint32_t sheet, uint32_t *answer,
+                                                size_t answer_len)
+{
+    return sheetdesk_hand_three(record, "evict", 2, office, sheet, 0, answer,
+                                sheetdesk_evict(desk, desk_len, office, sheet, answer,
+                                                answer_len));
+}
+
+static inline uint32_t sheetdesk_prepare_recorded(const struct sheetdesk_record *record,
+                                                  uint32_t *desk, size_t desk_len, uint32_t run,
+                                                  uint32_t *answer, size_t answer_len)
+{
+    return sheetdesk_hand_three(record, "prepare", 1, run, 0, 0, answer,
+                                sheetdesk_prepare(desk, desk_len, run, answer, answer_len));
+}
+
+static inline uint32_t sheetdesk_step_recorded(const struct sheetdesk_record *record,
+                                               uint32_t *desk, size_t desk_len, uint32_t run,
+                                               uint32_t job, uint32_t *answer, size_t answer_len)
+{
+    return sheetdesk_hand_three(record, "step", 2, run, job, 0, answer,
+                                sheetdesk_step(desk, desk_len, run, job, answer, answer_len));
+}
+
+static inline uint32_t sheetdesk_explain_recorded(const struct sheetdesk_record *record,
+                                                  const uint32_t *desk, size_t desk_len,
+                                                  uint32_t run, uint32_t job, uint32_t *answer,
+                                                  size_t answer_len)
+{
+    return sheetdesk_hand_three(record, "explain", 2, run, job, 0, answer,
+                                sheetdesk_explain(desk, desk_len, run, job, answer, answer_len));
+}
+
+static inline uint32_t sheetdesk_issue_recorded(const struct sheetdesk_record *record,
+                                                uint32_t *desk, size_t desk_len, uint32_t run,
+                                                uint32_t writer, uint32_t mask, uint32_t *answer,
+                                                size_t answer_len)
+{
+    return sheetdesk_hand_three(record, "issue", 3, run, writer, mask, answer,
+                                sheetdesk_issue(desk, desk_len, run, writer, mask, answer,
+                                                answer_len));
+}
+
+static inline uint32_t sheetdesk_drop_recorded(const struct sheetdesk_record *record,
+                                               uint32_t *desk, size_t desk_len, uint32_t run,
+                                               uint32_t *answer, size_t answer_len)
+{
+    return sheetdesk_hand_three(record, "drop", 1, run, 0, 0, answer,
+                                sheetdesk_drop(desk, desk_len, run, answer, answer_len));
+}
+
+static inline uint32_t sheetdesk_look_recorded(const struct sheetdesk_record *record,
+                                               const uint32_t *desk, size_t desk_len,
+                                               uint32_t place, uint32_t number, uint32_t sheet,
+                                               uint32_t *answer, size_t answer_len)
+{
+    return sheetdesk_hand_three(record, "look", 3, place, number, sheet, answer,
+                                sheetdesk_look(desk, desk_len, place, number, sheet, answer,
+                                               answer_len));
+}
+
+static inline uint32_t sheetdesk_stale_recorded(const struct sheetdesk_record *record,
+                                                const uint32_t *desk, size_t desk_len,
+                                                uint32_t office, uint32_t *answer,
+                                                size_t answer_len)
+{
+    return sheetdesk_hand_three(record, "stale", 1, office, 0, 0, answer,
+                                sheetdesk_stale(desk, desk_len, office, answer, answer_len));
+}
+
+#endif

@@ -1,0 +1,225 @@
+#!/usr/bin/env bash
+# The history of calls had again: what --shrink leaves, what bad input gets, and the command that runs it (tests/pages.sh has
+# the pages). Usage, after `rt check` and `rt staticlib sheetdesk_c`: tests/history.sh [TRIAL..], all trials without one.
+set -u
+cd "$(dirname "$0")/.." || exit 2
+top=$PWD
+work=$(mktemp -d) || exit 2
+trap 'rm -rf "$work"' EXIT
+export PYTHONDONTWRITEBYTECODE=1
+program=target/bin/sheetdesk
+library=(-L native=target/staticlib -l static=sheetdesk_c)
+tool=target/tools/history
+
+bad() {
+  echo "history: $1"
+  [ ! -s "$work/err" ] || head -n 5 "$work/err"
+  exit 1
+}
+
+fail() {
+  bad "$1"
+}
+
+# want STATUS WHAT COMMAND..: the exit status of a command; its output is in $work/out and $work/err.
+want() {
+  local due=$1 what=$2
+  shift 2
+  "$@" >"$work/out" 2>"$work/err"
+  local got=$?
+  [ "$got" -eq "$due" ] || bad "$what: exit $got, due $due"
+}
+
+# said TEXT: standard error has it.
+said() {
+  grep -q -e "$1" "$work/err" || bad "standard error doesn't say '$1'"
+}
+
+# have MODE FILE [LINE]: the tool on a file.
+have() {
+  "$tool" "$1" "${2##*/}" ${3:+"$3"} <"$2"
+}
+
+# A script with its answers behind its lines is a log.
+log_of() {
+  paste -d '\n' "$1" <("$program" <"$1")
+}
+
+build() {
+  . tools/history.sh || exit 2
+  history_is_built || compile_history -D warnings || bad "tools/history.rs"
+  rustc --edition 2021 -O -D warnings -o target/tools/shrink tests/shrink.rs "${library[@]}" || bad "tests/shrink.rs"
+  # tests/program.sh has built it, unless this runs alone.
+  [ -n "$(find reference -newer target/reference/generate 2>&1)" ] || return 0
+  mkdir -p target/reference
+  rustc --edition 2021 -C opt-level=3 -o target/reference/generate reference/generate.rs || bad "reference/generate.rs"
+}
+
+trial_shrink() {
+  mkdir "$work/generated" || exit 2
+  for seed in {1..30}; do target/reference/generate "$seed" 250 >"$work/generated/$seed"; done
+  target/tools/shrink "$work/generated"/* || bad "tests/shrink.rs"
+  # The program answers what is left as the whole script, and a log comes back as a log.
+  local line answer
+  IFS=: read -r line answer < <(grep -n '^broken' scripts/break-several.out)
+  want 0 "a script" have shrink scripts/break-several.txt "$line"
+  said "It is a history that suffices, not necessarily the one meant"
+  [ "$("$program" <"$work/out" | tail -n 1)" = "$answer" ] || bad "the program answers the shrunk script otherwise"
+  log_of scripts/break-several.txt >"$work/log"
+  want 0 "a log" have shrink "$work/log"
+  cp "$work/out" "$work/less"
+  want 0 "what is left of a log" have replay "$work/less"
+}
+
+# 20,000 calls on one desk: runs 1 to 3 read and save sheets 0 to 4, shelves fetch and evict them; run 0 reads sheet 0 at some
+# time, and breaks at the end over sheet 5, which is saved then for the first time.
+many_calls() {
+  awk 'function below(n) { seed = seed * 16807 % 2147483647; return int(seed / 64) % n }
+    function say(line) { print line; lines++ }
+    BEGIN { seed = 7; say("new 6 4 3 4")
+      for (k = 0; k < 5; k++) { say("open 1 0 0 0"); say("step 1 0"); say("issue 1 " k % 4 " " 2 ^ k) }
+      while (lines < 19992) {
+        r = 1 + below(3); o = below(3); k = below(5); d = below(5)
+        if (lines == 15000) { say("open 0 0 1 0 1 32 0"); say("step 0 0") }
+        else if (below(10) < 2) say((below(3) ? "fetch " : "evict ") o " " k)
+        else if (below(20) == 0) say("look 1 " o " " k)
+        else if (state[r] == 1) { say("step " r " 0"); state[r] = 2 }
+        else if (state[r] == 2) { say("issue " r " " below(4) " " 2 ^ k); state[r] = 0 }
+        else { say("open " r " " o " " (k == d ? 2 ^ k : 2 ^ k + 2 ^ d) " 0"); state[r] = 1 }
+      }
+      print "drop 3\nopen 3 2 0 0\nstep 3 0\nissue 3 3 33\nfetch 1 0\nlook 0 0 0\nexplain 0 1\nstep 0 1" }'
+}
+
+# They are shrunk in a few seconds, for the last answer of each kind; the time is that of the processor.
+trial_speed() {
+  local kind line used most=0
+  many_calls >"$work/many"
+  "$program" <"$work/many" | paste -d '|' "$work/many" - >"$work/both"
+  [ "$(wc -l <"$work/many")" -eq 20000 ] || bad "$(wc -l <"$work/many") calls, due 20,000"
+  for kind in '^step.*|broken' '^explain.*|path' '^fetch.*|ok' '^step.*|ok' '^look.*|refused' '^evict.*|refused'; do
+    line=$(grep -n "$kind" "$work/both" | tail -n 1 | cut -d : -f 1)
+    [ -n "$line" ] || bad "20,000 calls without $kind"
+    used=$( { TIMEFORMAT=%U; time have shrink "$work/many" "$line" >"$work/out" 2>"$work/err"; } 2>&1)
+    [ "$(wc -l <"$work/out")" -lt 100 ] || bad "20,000 calls, line $line: $(wc -l <"$work/out") are left"
+    [ "${used%.*}" -lt 5 ] || bad "20,000 calls, line $line: shrunk in $used s"
+    most=$(printf '%s\n' "$most" "$used" | sort -n | tail -n 1)
+  done
+  echo "history: 20,000 calls shrunk in $most s at most"
+}
+
+# Bad input: a message, with the line where it has one, and status 2.
+trial_bad() {
+  : >"$work/empty"
+  printf 'new 2 2 2 1\nfetch 0 x\nfetch 0 0\n' >"$work/unread"
+  printf 'new 2 2 2 1\r\n' >"$work/crlf"
+  printf 'new 2 2 2 1\n' >"$work/fine"
+  want 2 "an empty page" have page "$work/empty"
+  said "empty: the page shows no call"
+  want 2 "an empty list" have shrink "$work/empty"
+  said "empty is empty: there is no call"
+  want 2 "a line that is no call" have page "$work/unread"
+  said "line 2: fetch 0 x -> unread: the line is none of the calls' forms"
+  grep -q 'No call, nothing changed' "$work/out" || bad "a line that is no call isn't on the page"
+  want 2 "a line that is no call, shrunk" have shrink "$work/unread"
+  said "line 2: fetch 0 x -> unread"
+  [ "$(paste -sd ';' "$work/out")" = "new 2 2 2 1;fetch 0 0" ] || bad "a line that is no call: nothing is shrunk"
+  want 2 "a line that is no call, in question" have shrink "$work/unread" 2
+  said "line 2 is no call"
+  want 2 "carriage returns" have page "$work/crlf"
+  said "line 1: new 2 2 2 1.r -> unread: the line ends with a carriage return"
+  want 2 "nothing broken or refused" have shrink "$work/fine"
+  said "no answer in fine is broken or refused: name a line"
+  want 0 "a line that is named" have shrink "$work/fine" 1
+  want 2 "a line that isn't there" have shrink "$work/fine" 7
+  said "fine has 1 lines: there is no line 7"
+  want 2 "a line that is no number" have shrink "$work/fine" x
+  said "LINE is the number of a line"
+  want 2 "a full disk" bash -c "$tool page a <scripts/case-a.txt >/dev/full"
+  said "not all was written"
+}
+
+# A log that isn't this desk's: the page says where.
+trial_differs() {
+  paste -d '\n' scripts/case-a.txt scripts/case-a.out | sed '10s/.*/ok 2/' >"$work/log"
+  want 2 "a log with another answer" have page "$work/log"
+  said "line 9: fetch 0 0 -> ok 3, the log has ok 2"
+  [ "$(grep -o 'The log has <code>[a-z0-9 ]*' "$work/out")" = "The log has <code>ok 2" ] ||
+    bad "the page doesn't have the log's answer, where it differs alone"
+  tail -n +3 "$work/log" >"$work/late"
+  want 2 "a log without its new" have page "$work/late"
+  said "line 1: open 0 0 0 0 -> refused 1, the log has ok 1"
+}
+
+# Above 200 calls the page shows what is left of them.
+trial_long() {
+  { echo 'new 2 2 2 1'; yes 'look 0 0 0' | head -n 199; } >"$work/whole"
+  want 0 "200 calls" have page "$work/whole"
+  [ "$(grep -c 'class="row ' "$work/out")" -eq 200 ] || bad "200 calls aren't all on the page"
+  echo 'fetch 0 0' >>"$work/whole"
+  want 0 "201 calls" have page "$work/whole"
+  [ "$(grep -c 'class="row ' "$work/out")" -eq 2 ] || bad "of 201 calls not just the needed ones are on the page"
+  grep -q 'class="shrunk">2 of 201 calls are left; line 201 is still answered &quot;refused 7&quot;' "$work/out" ||
+    bad "the page doesn't say what is left"
+  yes 'new 2 2 2 1' | head -n 201 >"$work/fine"
+  want 2 "201 calls and none refused" have page "$work/fine"
+  said "name a line"
+  want 0 "201 calls and a line" have page "$work/fine" 5
+}
+
+# without COMMAND: takes the folders that have it off the PATH.
+without() {
+  PATH=$(echo "$PATH" | tr ':' '\n' | while read -r folder; do [ -x "$folder/$1" ] || echo "$folder"; done | paste -sd ':')
+}
+
+# The command, on a copy with an rt that proves nothing (tests/fake/rt).
+trial_command() {
+  export REAL=$top FAKE=$work/fake
+  mkdir -p "$FAKE" "$work/a desk/crates/sheetdesk_c" "$work/a desk/tests" || exit 2
+  cp -R sheetdesk tools docs embed reference scripts "$work/a desk/" || exit 2
+  cp -R tests/differential "$work/a desk/tests/" || exit 2
+  printf 'sheetdesk_c:\nsheetdesk:\n' >"$work/a desk/crates.txt"
+  # A rustc that takes what is built here.
+  mkdir "$work/rust" && cat >"$work/rust/rustc" <<END || exit 2
+#!/bin/sh
+while [ "\$1" != -o ]; do shift; done
+exec cp "$top/$tool" "\$2"
+END
+  chmod +x "$work/rust/rustc"
+  cd "$work/a desk" || exit 2
+  PATH=$top/tests/fake:$work/rust:$PATH
+  want 0 "--page" ./sheetdesk --page scripts/explain-path.txt
+  said "building what --replay"
+  grep -q '<title>Sheet desk: explain-path.txt</title>' "$work/out" || bad "--page: no page"
+  [ "$(grep -c . "$FAKE/calls")" -eq 1 ] || bad "--page: not one call of rt"
+  want 0 "--shrink" ./sheetdesk --shrink scripts/explain-path.txt 19
+  [ "$(tail -n 1 "$work/out")" = "step 0 1" ] || bad "--shrink: no list"
+  want 0 "--page by standard input" bash -c './sheetdesk --page <scripts/case-a.txt'
+  [ ! -s "$work/err" ] && [ "$(grep -c . "$FAKE/calls")" -eq 1 ] || bad "--page: something is built again"
+  sed -n '/^## WHEN A SET LOOKS WRONG/,/^## LINE ENDS/s/^    //p' docs/USER.md >"$work/page"
+  want 0 "the user page's command" bash "$work/page"
+  grep -q 'class="sentence">Sheet 1 of issue 2 needs sheet 0 of issue 2;' page.html || bad "the user page's command makes no page"
+  want 2 "--replay of a script" ./sheetdesk --replay scripts/case-a.txt
+  want 2 "--page with --strict" ./sheetdesk --strict --page scripts/case-a.txt
+  want 2 "--page and --shrink" ./sheetdesk --shrink --page scripts/case-a.txt
+  want 2 "a file that isn't there" ./sheetdesk --page none
+  said "can't read none"
+  echo '// more' >>tools/history.rs
+  want 0 "other sources" ./sheetdesk --page scripts/case-a.txt
+  said "building what --replay"
+  cp scripts/case-a.txt "$work/-odd name"
+  want 0 "an odd name" ./sheetdesk --page -- "$work/-odd name"
+  rm "$work/rust/rustc"
+  without rustc
+  want 0 "without rustc, built" ./sheetdesk --page scripts/case-a.txt
+  echo '// more' >>tools/history.rs
+  want 2 "without rustc, not built" ./sheetdesk --page scripts/case-a.txt
+  said "rustc is not on the PATH"
+}
+
+trials=("$@")
+[ $# -gt 0 ] || trials=(shrink speed bad differs long command)
+build
+for trial in "${trials[@]}"; do
+  (trial_"$trial") || exit 1
+done
+echo "history: shrunk as the user page says, and bad input told with its line"

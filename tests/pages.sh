@@ -1,0 +1,119 @@
+#!/usr/bin/env bash
+# Pages of scripts and logs: their words, and that a headless browser loads them and finds what must stand there. A browser is
+# installed if there is none. Usage, after `rt check` and `rt staticlib sheetdesk_c`: tests/pages.sh [TRIAL..], all trials
+# without one.
+set -u
+cd "$(dirname "$0")/.." || exit 2
+top=$PWD
+work=$(mktemp -d) || exit 2
+trap 'rm -rf "$work"' EXIT
+export PYTHONDONTWRITEBYTECODE=1
+program=target/bin/sheetdesk
+tool=target/tools/history
+
+bad() {
+  echo "pages: $1"
+  [ ! -s "$work/err" ] || head -n 5 "$work/err"
+  exit 1
+}
+
+fail() {
+  bad "$1"
+}
+
+# want STATUS WHAT COMMAND..: the exit status of a command; its output is in $work/out and $work/err.
+want() {
+  local due=$1 what=$2
+  shift 2
+  "$@" >"$work/out" 2>"$work/err"
+  local got=$?
+  [ "$got" -eq "$due" ] || bad "$what: exit $got, due $due"
+}
+
+# have MODE FILE [LINE]: the tool on a file.
+have() {
+  "$tool" "$1" "${2##*/}" ${3:+"$3"} <"$2"
+}
+
+# A script with its answers behind its lines is a log.
+log_of() {
+  paste -d '\n' "$1" <("$program" <"$1")
+}
+
+build() {
+  . tools/history.sh || exit 2
+  history_is_built || compile_history -D warnings || bad "tools/history.rs"
+  # tests/program.sh has built it, unless this runs alone.
+  [ -n "$(find reference -newer target/reference/generate 2>&1)" ] || return 0
+  mkdir -p target/reference
+  rustc --edition 2021 -C opt-level=3 -o target/reference/generate reference/generate.rs || bad "reference/generate.rs"
+}
+
+# The page's words for what isn't ok are those of --echo.
+trial_words() {
+  local script
+  . tools/words.sh || exit 2
+  for script in scripts/refused-?.txt scripts/unread-forms.txt scripts/line-lengths.txt; do
+    log_of "$script" >"$work/log"
+    have page "$work/log" 2>/dev/null | grep -o 'class="words">.*</a>[^<]*' |
+      sed -n "s/.*>\(Refused\|No call\), nothing changed: \(.*\)\./\2/p" >"$work/given"
+    paste -d '|' - - <"$work/log" | awk -F '|' '{ print NR "|" $0 }' | while IFS='|' read -r number call answer; do
+      report "$number" "$call" "$answer"
+    done | sed -n 's/.* -> \(refused [0-9]*\|unread\): \(.*\)/\2/p' >"$work/due"
+    diff "$work/given" "$work/due" >"$work/err" || bad "$script: other words than --echo's"
+    [ -s "$work/due" ] || bad "$script: no words"
+  done
+}
+
+# The sentence of a break is what the program explains, on generated scripts.
+trial_sentences() {
+  mkdir "$work/generated" || exit 2
+  for seed in {1..40}; do target/reference/generate "$seed" 185 | head -n 200 >"$work/generated/$seed"; done 2>"$work/err"
+  python3 tests/sentences.py "$program" "$tool" "$work/generated"/* || bad "tests/sentences.py"
+}
+
+# browser: names a headless browser, and installs one if there is none.
+browser() {
+  local name
+  for name in chromium chromium-browser google-chrome; do
+    command -v "$name" && return
+  done
+  local install=(apt-get install -y --no-install-recommends chromium)
+  { "${install[@]}" || { apt-get update && "${install[@]}"; }; } >"$work/apt" 2>&1
+  command -v chromium && return
+  tail -n 3 "$work/apt" >&2
+  return 1
+}
+
+# Every golden script makes a page that a browser loads, and so do some generated ones and a recorded log.
+trial_pages() {
+  local script name chromium
+  mkdir "$work/pages" || exit 2
+  for script in scripts/*.txt; do
+    name=${script##*/}
+    have page "$script" >"$work/pages/${name%.txt}.html" 2>"$work/err"
+    case $?:$([ -s "$script" ] && ! grep -q '^unread' "${script%.txt}.out" && echo fine) in
+      0:fine | 2:) ;;
+      *) bad "$script: a status that isn't due" ;;
+    esac
+  done
+  for seed in 1 2 3 4 5 6; do
+    target/reference/generate "$seed" 180 >"$work/script"
+    have page "$work/script" >"$work/pages/generated-$seed.html" 2>"$work/err"
+  done
+  # Signs of HTML in a line are text on the page.
+  printf 'new 1 1 1 1\n<script>throw 1</script>\n"&lt;\n' >"$work/signs"
+  have page "$work/signs" >"$work/pages/signs.html" 2>"$work/err"
+  log_of scripts/explain-next.txt >"$work/log"
+  want 0 "the page of a log" have page "$work/log"
+  cp "$work/out" "$work/pages/log.html"
+  chromium=$(browser) || bad "no browser: chromium is missing, and apt-get can't install it"
+  python3 tests/pages.py "$chromium" "$work/pages" || exit 1
+}
+
+trials=("$@")
+[ $# -gt 0 ] || trials=(words sentences pages)
+build
+for trial in "${trials[@]}"; do
+  (trial_"$trial") || exit 1
+done

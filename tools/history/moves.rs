@@ -1,0 +1,160 @@
+//! What the calls that were done have moved: arrows, versions, plain words.
+
+use super::story::{Arrow, Kind, Lane, Row, State};
+use super::told::Told;
+use super::versions::{held, mask, sheets};
+use super::words::{self, sheet_list, version_list};
+use crate::book::saves::Saves;
+use crate::text::Call;
+
+impl Told {
+    pub fn fetch(&self, row: &mut Row, office: usize, sheet: u32, set: u32) {
+        row.arrows.push(Arrow::fetch(office, set));
+        row.versions = self.versions(&self.book.master, set);
+        row.words = format!(
+            "Office {office} fetches {}.",
+            self.with_others(&self.book.master, sheet, set, "what it needs")
+        );
+    }
+
+    pub fn evict(&self, row: &mut Row, office: usize, sheet: u32, set: u32) {
+        let (from, to) = (Lane::Office(office), Lane::Office(office));
+        row.arrows.push(Arrow { kind: Kind::Evict, from, to, sheets: set });
+        row.versions = self.versions(&self.book.shelves[office], set);
+        row.words = format!(
+            "Office {office} evicts {}.",
+            self.with_others(&self.book.shelves[office], sheet, set, "what needs it")
+        );
+    }
+
+    /// The sheet that was asked for, and the others of the set.
+    fn with_others(&self, copies: &[Saves], sheet: u32, set: u32, others: &str) -> String {
+        let asked = version_list(&self.versions(copies, 1 << sheet));
+        let more = self.versions(copies, set & !(1 << sheet));
+        match more.len() {
+            0 => asked,
+            _ => format!("{asked}, and with it {others}: {}", version_list(&more)),
+        }
+    }
+
+    pub fn prepare(&mut self, row: &mut Row, call: &Call, run: usize) {
+        let before = self.book.shelves.clone();
+        self.book.feed(call, true);
+        let mut fetched = Vec::new();
+        for (office, shelf) in self.book.shelves.iter().enumerate() {
+            let taken = mask(self.book.k, |k| !shelf[k].same(&before[office][k]));
+            if taken != 0 {
+                row.arrows.push(Arrow::fetch(office, taken));
+                let versions = self.versions(shelf, taken);
+                fetched.push(format!("office {office} fetches {}", version_list(&versions)));
+            }
+        }
+        let (jobs, plan) = (&self.book.runs[run].jobs, self.book.runs[run].plan());
+        for (office, shelf) in self.book.shelves.iter().enumerate() {
+            let sheets = held(shelf) & plan;
+            if jobs.iter().any(|job| job.office == office) && sheets != 0 {
+                row.arrows.push(Arrow::read(office, run, sheets));
+            }
+        }
+        let card = &self.book.runs[run].card;
+        row.versions = self.versions(card, held(card));
+        row.words = match row.versions.as_slice() {
+            [] => format!("Run {run} is prepared: its jobs read nothing"),
+            carried => format!("Run {run} is prepared: its card has {}", version_list(carried)),
+        };
+        if !fetched.is_empty() {
+            row.words.push_str(&format!("; for it {}", words::listed(&fetched)));
+        }
+        row.words.push('.');
+    }
+
+    pub fn step(&mut self, row: &mut Row, call: &Call, run: usize, job: usize, from: &[u32]) {
+        let found = self.book.find_step(run, job);
+        let office = self.book.runs[run].jobs[job].office;
+        self.book.feed(call, true);
+        let reads = from.iter().fold(0, |all, sheets| all | sheets);
+        for k in sheets(reads) {
+            if !self.reads[run].iter().any(|read| read.0 == k) {
+                self.reads[run].push((k, row.line));
+            }
+        }
+        if found.fetched != 0 {
+            row.arrows.push(Arrow::fetch(office, found.fetched));
+        }
+        if found.set != 0 {
+            row.arrows.push(Arrow::read(office, run, found.set));
+        }
+        if from[0] != 0 {
+            let (lane, sheets) = (Lane::Run(run), from[0]);
+            row.arrows.push(Arrow { kind: Kind::Card, from: lane, to: lane, sheets });
+        }
+        row.versions = self.versions(&self.book.runs[run].card, reads);
+        row.words = match reads {
+            0 => format!("Job {job} of run {run} reads nothing."),
+            _ => format!("Job {job} of run {run} reads {}.", self.sources(run, office, from)),
+        };
+        let more = self.versions(&self.book.runs[run].card, found.set & !reads);
+        if !more.is_empty() {
+            let more = version_list(&more);
+            row.words.push_str(&format!(" The card also takes {more}, which is needed with it."));
+        }
+    }
+
+    /// Where a job's sheets came from.
+    fn sources(&self, run: usize, office: usize, from: &[u32]) -> String {
+        let places = [
+            String::from("from the card"),
+            format!("from the shelf of office {office}"),
+            format!("from the master, over the shelf of office {office}"),
+        ];
+        let mut clauses = Vec::new();
+        for (sheets, place) in from.iter().zip(places).filter(|(sheets, _)| **sheets != 0) {
+            let versions = version_list(&self.versions(&self.book.runs[run].card, *sheets));
+            clauses.push(format!("{versions} {place}"));
+        }
+        clauses.join("; ")
+    }
+
+    pub fn issue(&mut self, row: &mut Row, call: &Call, run: usize, writer: usize, mask: u32) {
+        let reads = self.versions(&self.book.runs[run].card, self.book.runs[run].read);
+        self.book.feed(call, true);
+        self.set_run(run, State::Free);
+        if mask == 0 {
+            row.words = format!("Run {run} ends; nothing is saved.");
+            return;
+        }
+        self.issues.enter(&self.book.ledger, writer, mask, reads);
+        let number = self.issues.all.len() as u32;
+        let (from, to) = (Lane::Run(run), Lane::Master);
+        row.arrows.push(Arrow { kind: Kind::Issue, from, to, sheets: mask });
+        row.issue = Some(number);
+        row.versions = self.versions(&self.book.master, mask);
+        let saved = sheet_list(mask);
+        row.words = format!("Writer {writer} saves {saved} as issue {number}; run {run} ends.");
+    }
+
+    pub fn look(&self, row: &mut Row, place: u32, number: usize, sheet: u32, numbers: &[u32]) {
+        let (name, copies) = match place {
+            0 => (String::from("The master"), &self.book.master),
+            1 => (format!("The shelf of office {number}"), &self.book.shelves[number]),
+            _ => (format!("The card of run {number}"), &self.book.runs[number].card),
+        };
+        row.versions = self.versions(copies, 1 << sheet);
+        let standing = match (place, numbers.last()) {
+            (0, _) => "",
+            (_, Some(0)) => ", as the master has it",
+            _ => ", older than the master's",
+        };
+        row.words = format!("{name} has {}{standing}.", version_list(&row.versions));
+    }
+}
+
+impl Arrow {
+    fn fetch(office: usize, sheets: u32) -> Arrow {
+        Arrow { kind: Kind::Fetch, from: Lane::Master, to: Lane::Office(office), sheets }
+    }
+
+    fn read(office: usize, run: usize, sheets: u32) -> Arrow {
+        Arrow { kind: Kind::Read, from: Lane::Office(office), to: Lane::Run(run), sheets }
+    }
+}

@@ -1,0 +1,79 @@
+//! Calls made again on the library. The lent words hold a desk of any size.
+
+use super::log::Entry;
+use crate::desk::Answer;
+use crate::embed::{words, ANSWER_WORDS, MOST_WORDS};
+use crate::library;
+use crate::text::{self, Call};
+
+/// Words of the header, the last of which is the desk's total.
+const HEADER: usize = 10;
+const TOTAL: usize = 9;
+
+/// The lent words; all zero before any new.
+pub struct Replay {
+    words: Vec<u32>,
+}
+
+impl Replay {
+    pub fn fresh() -> Replay {
+        Replay { words: vec![0; MOST_WORDS] }
+    }
+
+    /// Makes the entry's call; nothing for a line that is none.
+    pub fn make(&mut self, entry: &Entry) -> Option<Answer> {
+        let call = entry.call.as_ref()?;
+        let lent = match (call, entry.recorded.as_deref()) {
+            // Whoever recorded it had lent too few words.
+            (Call::New([k, w, n, p]), Some("refused 1")) => {
+                words(*k, *w, *n, *p).saturating_sub(1)
+            }
+            _ => MOST_WORDS,
+        };
+        Some(call_on(&mut self.words[..lent], call))
+    }
+
+    /// The answer to a call that only answers: look, explain, stale.
+    pub fn ask(&mut self, call: &Call) -> Answer {
+        call_on(&mut self.words, call)
+    }
+
+    /// How many writers the desk has.
+    pub fn writers(&self) -> usize {
+        self.words[1] as usize
+    }
+
+    /// The desk's words, to go on from later.
+    pub fn kept(&self) -> Vec<u32> {
+        self.words[..HEADER.max(self.words[TOTAL] as usize)].to_vec()
+    }
+
+    pub fn restore(&mut self, kept: &[u32]) {
+        self.words[..kept.len()].copy_from_slice(kept);
+    }
+}
+
+/// One call of the library.
+fn call_on(desk: &mut [u32], call: &Call) -> Answer {
+    let mut words = [0; ANSWER_WORDS];
+    let count = library::call(desk, call, &mut words) as usize;
+    let numbers = words.get(1..count).unwrap_or(&[]).to_vec();
+    match words[0] {
+        0 => Answer::Ok(numbers),
+        1 => Answer::Broken(words[1]),
+        3 => Answer::Clear,
+        4 => Answer::Path(numbers),
+        _ => Answer::Refused(words[1]),
+    }
+}
+
+/// The answer as the program prints it.
+pub fn printed(answer: &Option<Answer>) -> String {
+    answer.as_ref().map_or(String::from("unread"), text::print)
+}
+
+/// Whether the call changed the desk: it was done or broke its run, and doesn't only answer.
+pub fn changed(call: &Call, answer: &Answer) -> bool {
+    matches!(answer, Answer::Ok(_) | Answer::Broken(_))
+        && !matches!(call, Call::Look(..) | Call::Explain(..) | Call::Stale(_))
+}

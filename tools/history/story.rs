@@ -1,0 +1,191 @@
+//! What each call did: the library's answers, and the book's copies before and after it.
+
+use super::log::Entry;
+use super::replay::{printed, Replay};
+use super::told::Told;
+use super::versions::{Issue, Version};
+use super::words;
+use crate::desk::Answer;
+use crate::text::Call;
+
+/// The calls from one accepted new to the next; the first part may have no desk.
+#[derive(Default)]
+pub struct Part {
+    /// Sheets, writers, offices, runs.
+    pub sizes: Option<[usize; 4]>,
+    pub rows: Vec<Row>,
+    pub issues: Vec<Issue>,
+}
+
+/// A call with its answer, what it moved, and how things stand behind it.
+#[derive(Default)]
+pub struct Row {
+    pub line: usize,
+    pub call: String,
+    pub answer: String,
+    /// What a log has, if that is another answer.
+    pub recorded: Option<String>,
+    pub words: String,
+    /// The lane that it is about.
+    pub lane: Option<Lane>,
+    /// Of a look, an explain or a stale.
+    pub only_answers: bool,
+    pub arrows: Vec<Arrow>,
+    /// The issue that it makes.
+    pub issue: Option<u32>,
+    /// The sheets of that issue whose master version now has rival saves.
+    pub rivals: Vec<Version>,
+    /// The versions that it moved or showed.
+    pub versions: Vec<Version>,
+    pub chain: Option<Chain>,
+    pub shelves: Vec<Shelf>,
+    pub runs: Vec<State>,
+}
+
+#[derive(Clone, Copy, PartialEq, Eq, Debug)]
+pub enum Lane {
+    Master,
+    Office(usize),
+    Run(usize),
+}
+
+/// What moves, and how it is drawn.
+#[derive(Clone, Copy, PartialEq, Eq, Debug)]
+pub enum Kind {
+    Fetch,
+    Evict,
+    Read,
+    /// From the card: nothing moves.
+    Card,
+    Issue,
+    Break,
+}
+
+/// Sheets on their way from one lane to another.
+pub struct Arrow {
+    pub kind: Kind,
+    pub from: Lane,
+    pub to: Lane,
+    pub sheets: u32,
+}
+
+/// The path behind a break.
+pub struct Chain {
+    /// Each sheet but the last, as it is on the shelf, and the next one as it needs that.
+    pub links: Vec<(Version, Version)>,
+    /// The last sheet as the run had read it.
+    pub read: Version,
+    /// The line of the step that had read it.
+    pub read_at: usize,
+    pub run: usize,
+    pub sentence: String,
+    /// Of explain: the step isn't made.
+    pub would: bool,
+}
+
+/// The sheets that a shelf holds, and those of them that are stale.
+#[derive(Clone, Copy, PartialEq, Eq, Default)]
+pub struct Shelf {
+    pub held: u32,
+    pub stale: u32,
+}
+
+#[derive(Clone, Copy, PartialEq, Eq, Default, Debug)]
+pub enum State {
+    #[default]
+    Free,
+    Open,
+    Broken,
+}
+
+/// Makes the calls and tells what each did.
+pub fn tell(entries: &[Entry]) -> Vec<Part> {
+    let mut replay = Replay::fresh();
+    let mut parts = vec![Part::default()];
+    let mut told = None;
+    for entry in entries {
+        let path = path_of(&mut replay, entry);
+        let answer = replay.make(entry);
+        if let (Some(Call::New(sizes)), Some(Answer::Ok(_))) = (&entry.call, &answer) {
+            told = Some(Told::new(*sizes));
+            let sizes = Some(sizes.map(|count| count as usize));
+            parts.push(Part { sizes, ..Part::default() });
+        }
+        let mut row = one_row(told.as_mut(), entry, &answer, path);
+        mark_rivals(&mut replay, &mut row);
+        if let Some(part) = parts.last_mut() {
+            mark_stale(&mut replay, &mut row, part.rows.last());
+            part.rows.push(row);
+            part.issues = told.as_ref().map_or(Vec::new(), |told| told.issues.all.clone());
+        }
+    }
+    parts.retain(|part| !part.rows.is_empty());
+    parts
+}
+
+/// The path that explain gives for the job that the entry steps or explains.
+fn path_of(replay: &mut Replay, entry: &Entry) -> Option<Vec<u32>> {
+    let Some(Call::Step(run, job) | Call::Explain(run, job)) = &entry.call else {
+        return None;
+    };
+    match replay.ask(&Call::Explain(*run, *job)) {
+        Answer::Path(sheets) => Some(sheets),
+        _ => None,
+    }
+}
+
+/// The shelves' stale sheets, as the desk has them marked; words for those that weren't before.
+fn mark_stale(replay: &mut Replay, row: &mut Row, before: Option<&Row>) {
+    let mut clauses = Vec::new();
+    for (office, shelf) in row.shelves.iter_mut().enumerate() {
+        if let Answer::Ok(numbers) = replay.ask(&Call::Stale(office as u32)) {
+            shelf.stale = numbers[0];
+        }
+        let was = before.and_then(|row| row.shelves.get(office)).map_or(0, |shelf| shelf.stale);
+        if shelf.stale & !was != 0 {
+            let sheets = words::sheet_list(shelf.stale & !was);
+            clauses.push(format!("{sheets} at office {office}"));
+        }
+    }
+    if !clauses.is_empty() {
+        row.words.push_str(&format!(" Now stale: {}.", words::listed(&clauses)));
+    }
+}
+
+/// The sheets of an issue that several writers lead on the master, as the desk has them.
+fn mark_rivals(replay: &mut Replay, row: &mut Row) {
+    for version in row.versions.iter().filter(|_| row.issue.is_some()) {
+        let look = replay.ask(&Call::Look(0, 0, version.sheet as u32));
+        if matches!(look, Answer::Ok(numbers) if numbers[1].count_ones() > 1) {
+            row.rivals.push(version.clone());
+        }
+    }
+    row.words.push_str(&words::rivals(&row.rivals));
+}
+
+fn one_row(
+    told: Option<&mut Told>,
+    entry: &Entry,
+    answer: &Option<Answer>,
+    path: Option<Vec<u32>>,
+) -> Row {
+    let printed = printed(answer);
+    let mut row = Row {
+        line: entry.line,
+        call: entry.shown(),
+        recorded: entry.recorded.clone().filter(|recorded| *recorded != printed),
+        answer: printed,
+        ..Row::default()
+    };
+    let (Some(call), Some(answer)) = (&entry.call, answer) else {
+        row.words = format!("No call, nothing changed: {}.", words::unread(&entry.text));
+        return row;
+    };
+    if let Answer::Refused(number) = answer {
+        row.words = format!("Refused, nothing changed: {}.", words::refusal(call, *number));
+    }
+    if let Some(told) = told {
+        told.work(&mut row, call, answer, path);
+    }
+    row
+}

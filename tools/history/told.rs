@@ -1,0 +1,143 @@
+//! A desk's history so far, and what each call adds to it.
+
+use super::breaks;
+use super::story::{Arrow, Kind, Lane, Row, Shelf, State};
+use super::versions::{held, sheets, Issues, Version};
+use super::words;
+use crate::book::saves::Saves;
+use crate::book::Book;
+use crate::desk::Answer;
+use crate::text::Call;
+
+pub struct Told {
+    pub book: Book,
+    pub issues: Issues,
+    pub runs: Vec<State>,
+    /// For each run the sheets that it has read, with the line of the step.
+    pub reads: Vec<Vec<(usize, usize)>>,
+}
+
+impl Told {
+    pub fn new(sizes: [u32; 4]) -> Told {
+        let runs = sizes[3] as usize;
+        Told {
+            book: Book::new(sizes),
+            issues: Issues::default(),
+            runs: vec![State::Free; runs],
+            reads: vec![Vec::new(); runs],
+        }
+    }
+
+    /// Feeds the book with the call and fills the row; `path` is what explain gives for its job.
+    pub fn work(&mut self, row: &mut Row, call: &Call, answer: &Answer, path: Option<Vec<u32>>) {
+        row.lane = self.lane_of(call);
+        row.only_answers = matches!(call, Call::Look(..) | Call::Explain(..) | Call::Stale(_));
+        if let (Call::Step(run, job) | Call::Explain(run, job), Some(path)) = (call, path) {
+            let would = matches!(call, Call::Explain(..));
+            row.chain = breaks::chain(self, *run as usize, *job as usize, &path, would);
+        }
+        match (call, answer) {
+            (_, Answer::Ok(numbers)) => self.done(row, call, numbers),
+            (Call::Step(run, job), Answer::Broken(mask)) => {
+                self.broken(row, *run as usize, *job as usize, *mask)
+            }
+            (Call::Explain(run, job), Answer::Clear) => {
+                row.words = format!("Job {job} of run {run} would go through.");
+            }
+            (Call::Explain(run, job), Answer::Path(_)) => {
+                row.words = format!("Job {job} of run {run} would break the run.");
+            }
+            _ => {}
+        }
+        let shelf = |copies: &Vec<Saves>| Shelf { held: held(copies), stale: 0 };
+        row.shelves = self.book.shelves.iter().map(shelf).collect();
+        row.runs = self.runs.clone();
+    }
+
+    /// The lane that a call is about, if there is one.
+    fn lane_of(&self, call: &Call) -> Option<Lane> {
+        let (number, offices) = match call {
+            Call::New(_) => return None,
+            Call::Look(0, ..) => return Some(Lane::Master),
+            Call::Fetch(office, _) | Call::Evict(office, _) | Call::Stale(office) => {
+                (*office, true)
+            }
+            Call::Look(place, number, _) => (*number, *place == 1),
+            Call::Open(run, _) | Call::Prepare(run) | Call::Drop(run) => (*run, false),
+            Call::Step(run, _) | Call::Explain(run, _) | Call::Issue(run, ..) => (*run, false),
+        };
+        let number = number as usize;
+        match offices {
+            true => (number < self.book.shelves.len()).then_some(Lane::Office(number)),
+            false => (number < self.runs.len()).then_some(Lane::Run(number)),
+        }
+    }
+
+    /// A call that was answered ok.
+    fn done(&mut self, row: &mut Row, call: &Call, numbers: &[u32]) {
+        match call {
+            Call::New([k, w, n, p]) => {
+                let counts = [(k, "sheet"), (w, "writer"), (n, "office"), (p, "run")];
+                let counts = counts.map(|(count, noun)| words::counted(*count as usize, noun));
+                row.words = format!("A fresh desk of {}.", words::listed(&counts));
+                return;
+            }
+            Call::Prepare(run) => return self.prepare(row, call, *run as usize),
+            Call::Step(run, job) => {
+                return self.step(row, call, *run as usize, *job as usize, numbers)
+            }
+            Call::Issue(run, writer, mask) => {
+                return self.issue(row, call, *run as usize, *writer as usize, *mask)
+            }
+            Call::Fetch(office, sheet) => self.fetch(row, *office as usize, *sheet, numbers[0]),
+            Call::Evict(office, sheet) => self.evict(row, *office as usize, *sheet, numbers[0]),
+            Call::Look(place, number, sheet) => {
+                self.look(row, *place, *number as usize, *sheet, numbers)
+            }
+            Call::Open(run, list) => {
+                self.set_run(*run as usize, State::Open);
+                row.words = format!("Run {run} opens: {}.", words::jobs(list));
+            }
+            Call::Drop(run) => {
+                self.set_run(*run as usize, State::Free);
+                row.words = format!("Run {run} is dropped: it ends and saves nothing.");
+            }
+            Call::Stale(office) => {
+                row.words = match numbers[0] {
+                    0 => format!("No sheet on the shelf of office {office} is stale."),
+                    stale => {
+                        let stale = words::sheet_list(stale);
+                        format!("Stale on the shelf of office {office}: {stale}.")
+                    }
+                };
+            }
+            Call::Explain(..) => {}
+        }
+        self.book.feed(call, true);
+    }
+
+    pub fn set_run(&mut self, run: usize, state: State) {
+        self.runs[run] = state;
+        self.reads[run].clear();
+    }
+
+    /// The versions that these copies have of the sheets.
+    pub fn versions(&self, copies: &[Saves], mask: u32) -> Vec<Version> {
+        let version = |k: usize| self.issues.version(&self.book, k, &copies[k]);
+        sheets(mask).map(version).collect()
+    }
+
+    fn broken(&mut self, row: &mut Row, run: usize, job: usize, mask: u32) {
+        let office = self.book.runs[run].jobs[job].office;
+        let sheets = self.book.find_step(run, job).off_card;
+        self.runs[run] = State::Broken;
+        let (from, to) = (Lane::Office(office), Lane::Run(run));
+        row.arrows.push(Arrow { kind: Kind::Break, from, to, sheets });
+        row.words = format!(
+            "Job {job} of run {run} can't read {} at office {office}: {} would change, which the \
+             run has read. Run {run} is broken.",
+            words::sheet_list(sheets),
+            words::sheet_list(mask)
+        );
+    }
+}

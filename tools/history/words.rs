@@ -1,0 +1,188 @@
+//! Calls in plain words, for a reader who doesn't know the calls.
+
+use super::versions::{sheets, Version};
+use crate::text::Call;
+
+/// "0", "0 and 2", "0, 1 and 4".
+pub fn listed(items: &[String]) -> String {
+    match items {
+        [] => String::from("none"),
+        [one] => one.clone(),
+        [first @ .., last] => format!("{} and {last}", first.join(", ")),
+    }
+}
+
+/// The numbers of a mask, those that follow each other as one pair: first and last.
+pub fn ranges(mask: u32) -> Vec<(usize, usize)> {
+    let mut ranges = Vec::<(usize, usize)>::new();
+    for k in sheets(mask) {
+        match ranges.last_mut() {
+            Some(range) if range.1 + 1 == k => range.1 = k,
+            _ => ranges.push((k, k)),
+        }
+    }
+    ranges
+}
+
+/// "sheet 0", "sheets 0 and 2", "sheets 0 to 5 and 9".
+pub fn sheet_list(mask: u32) -> String {
+    let mut items = Vec::new();
+    for (from, to) in ranges(mask) {
+        match to - from {
+            0 | 1 => items.extend((from..=to).map(|k| k.to_string())),
+            _ => items.push(format!("{from} to {to}")),
+        }
+    }
+    let noun = if mask.count_ones() == 1 { "sheet" } else { "sheets" };
+    format!("{noun} {}", listed(&items))
+}
+
+/// "1 and 2".
+pub fn numbers(issues: &[u32]) -> String {
+    listed(&issues.iter().map(u32::to_string).collect::<Vec<String>>())
+}
+
+/// "issue 1", "the rival issues 1 and 2".
+pub fn issue_list(issues: &[u32]) -> String {
+    match issues.len() {
+        1 => format!("issue {}", numbers(issues)),
+        _ => format!("the rival issues {}", numbers(issues)),
+    }
+}
+
+/// "sheet 0 of issue 1".
+pub fn version(version: &Version) -> String {
+    version_list(std::slice::from_ref(version))
+}
+
+/// "sheets 0 and 1 of issue 1, sheet 2 of issue 3": sheets of the same issues together.
+pub fn version_list(versions: &[Version]) -> String {
+    let said = |(issues, mask): &(&[u32], u32)| {
+        format!("{} of {}", sheet_list(*mask), issue_list(issues))
+    };
+    grouped(versions).iter().map(said).collect::<Vec<String>>().join(", ")
+}
+
+/// The sheets that have the same issues, as a mask.
+fn grouped(versions: &[Version]) -> Vec<(&[u32], u32)> {
+    let mut groups = Vec::<(&[u32], u32)>::new();
+    for version in versions {
+        match groups.iter_mut().find(|group| group.0 == version.issues) {
+            Some(group) => group.1 |= 1 << version.sheet,
+            None => groups.push((&version.issues, 1 << version.sheet)),
+        }
+    }
+    groups
+}
+
+/// A sentence more for an issue after which sheets have rival saves.
+pub fn rivals(versions: &[Version]) -> String {
+    let said = |(issues, mask): &(&[u32], u32)| {
+        let drawn = match issues.len() {
+            2 => "neither was drawn from the other",
+            _ => "none was drawn from another",
+        };
+        let (have, issues) =
+            (if mask.count_ones() == 1 { "has" } else { "have" }, numbers(issues));
+        let sheets = sentence(&sheet_list(*mask));
+        format!(" {sheets} now {have} rival saves, of issues {issues}: {drawn}.")
+    };
+    grouped(versions).iter().map(said).collect()
+}
+
+/// "1 sheet", "3 sheets".
+pub fn counted(count: usize, noun: &str) -> String {
+    format!("{count} {noun}{}", if count == 1 { "" } else { "s" })
+}
+
+/// The first letter as a capital.
+pub fn sentence(text: &str) -> String {
+    let mut letters = text.chars();
+    let first = letters.next().map_or(String::new(), |letter| letter.to_uppercase().to_string());
+    format!("{first}{}", letters.as_str())
+}
+
+/// The jobs of an open, a clause each.
+pub fn jobs(list: &[u32]) -> String {
+    let clause = |(job, words): (usize, &[u32])| {
+        let reads = match words[1] {
+            0 => String::from("reads nothing"),
+            reads => format!("reads {}", sheet_list(reads)),
+        };
+        let after = sheets(words[2]).map(|job| job.to_string()).collect::<Vec<String>>();
+        let after = match after.len() {
+            0 => String::new(),
+            1 => format!(", after job {}", after[0]),
+            _ => format!(", after jobs {}", listed(&after)),
+        };
+        format!("job {job} at office {} {reads}{after}", words[0])
+    };
+    list.chunks(3).enumerate().map(clause).collect::<Vec<String>>().join("; ")
+}
+
+/// Why a line is no call, in the words of `--echo`.
+pub fn unread(line: &[u8]) -> &'static str {
+    if line.len() > 400 {
+        "the line has over 400 bytes"
+    } else if line.ends_with(b"\r") {
+        "the line ends with a carriage return; see LINE ENDS in --man"
+    } else {
+        "the line is none of the calls' forms"
+    }
+}
+
+/// Why a call is refused, in the words of `--echo`.
+pub fn refusal(call: &Call, number: u32) -> &'static str {
+    match number {
+        1 if matches!(call, Call::New(_)) => "the desk has no room for so many",
+        1 => "there is no desk yet",
+        2 => "a count is out of range (1 to 32 sheets, 16 writers, 8 offices, 8 runs)",
+        3 => out_of_range(call),
+        4 => wrong_state(call),
+        5 => "the list of jobs is not valid",
+        6 => wrong_turn(call),
+        7 => "the master does not hold a sheet to be fetched",
+        8 => not_held(call),
+        9 => "the last issue number is the largest",
+        10 => "the writer's count is the largest",
+        _ => "for a cause that this page has no words for",
+    }
+}
+
+fn out_of_range(call: &Call) -> &'static str {
+    match call {
+        Call::Fetch(..) | Call::Evict(..) => "there is no such office or sheet",
+        Call::Stale(_) => "there is no such office",
+        Call::Step(..) | Call::Explain(..) => "there is no such run or job",
+        Call::Issue(..) => {
+            "there is no such run or writer, or the mask names a sheet that there isn't"
+        }
+        Call::Look(..) => "there is no such place, number or sheet (the master's number is 0)",
+        _ => "there is no such run",
+    }
+}
+
+fn wrong_state(call: &Call) -> &'static str {
+    match call {
+        Call::Open(..) => "the run is not free",
+        Call::Drop(_) => "the run is free: nothing to do",
+        _ => "the run is not open: it is free, or broken",
+    }
+}
+
+fn wrong_turn(call: &Call) -> &'static str {
+    match call {
+        Call::Prepare(_) => "a job of the run is done: prepare comes before the first step",
+        Call::Issue(..) => "a job of the run is not done",
+        _ => "the job is done already, or one that it waits for is not done",
+    }
+}
+
+fn not_held(call: &Call) -> &'static str {
+    match call {
+        Call::Evict(..) => "the shelf does not hold the sheet: nothing to do",
+        Call::Look(1, ..) => "the shelf does not hold the sheet: fetch it",
+        Call::Look(2, ..) => "the card does not hold the sheet: step or prepare brings it",
+        _ => "the master does not hold the sheet: issue it",
+    }
+}
