@@ -94,9 +94,10 @@ impl Lanes {
         let mut svg = self.line(lane, shelf_class(was), 0, Some(FIRST));
         svg.push_str(&self.line(lane, shelf_class(is), FIRST, None));
         if was.stale != is.stale {
-            let said = match is.stale {
-                0 => String::from("not stale"),
-                stale => fitted("stale ", stale, self.gap),
+            let said = match (is.held, is.stale) {
+                (0, _) => String::from("empty"),
+                (_, 0) => String::from("not stale"),
+                (_, stale) => fitted("stale ", stale, self.gap),
             };
             let (x, stale) = (self.at(lane) + 6, is.stale);
             svg.push_str(&format!(
