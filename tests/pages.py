@@ -54,6 +54,9 @@ FACTS = [
      ["Sheet 1 of issue 2 needs sheet 0 of issue 2; run 0 had read the older sheet 0 of issue 1."]),
 ]
 
+# What is wider than its place.
+WIDE = "Array.from(document.querySelectorAll('.no, .say')).filter((box) => box.scrollWidth > box.clientWidth).length"
+
 FOCUS = "document.activeElement.dataset.line"
 CURVES = "document.querySelectorAll('.over .after').length"
 SHOWN = "Array.from(document.querySelectorAll('.shown'), (row) => row.dataset.line)"
@@ -101,8 +104,8 @@ def main():
     with Browser(program) as browser:
         for page in pages:
             wrong += ["%s: %s" % (os.path.basename(page), fault) for fault in browser.load(page)]
-            if not browser.ask("document.title").startswith("Sheet desk: "):
-                wrong.append("%s: no page" % page)
+            if not browser.ask("document.title").startswith("Sheet desk: ") or browser.ask(WIDE) != 0:
+                wrong.append("%s: no page, or words wider than their place" % page)
         at = None
         for name, question, due in FACTS:
             if name != at:

@@ -104,6 +104,8 @@ trial_pages() {
   # Signs of HTML in a line are text on the page.
   printf 'new 1 1 1 1\n<script>throw 1</script>\n"&lt;\n' >"$work/signs"
   have page "$work/signs" >"$work/pages/signs.html" 2>"$work/err"
+  { echo 'new 1 1 1 1'; yes 'look 0 0 0' | head -n 123456; echo 'fetch 0 0'; } >"$work/far"
+  have page "$work/far" >"$work/pages/far.html" 2>"$work/err"
   log_of scripts/explain-next.txt >"$work/log"
   want 0 "the page of a log" have page "$work/log"
   cp "$work/out" "$work/pages/log.html"
