@@ -1,8 +1,8 @@
 """One headless Chromium for many pages, over its own pipe (no network, no package): loads a page, says what went wrong in
 it, and lets its document be asked.
 
-    with Browser("/usr/bin/chromium") as browser:
-        faults = browser.load("/tmp/page.html")      # errors, warnings, requests for anything else
+    with Browser("chromium") as browser:
+        faults = browser.load("page.html")      # errors, warnings, requests for anything else
         count = browser.ask("document.querySelectorAll('.row').length")
 """
 import base64

@@ -6,38 +6,8 @@ cd "$(dirname "$0")/.." || exit 2
 top=$PWD
 work=$(mktemp -d) || exit 2
 trap 'rm -rf "$work"' EXIT
-export PYTHONDONTWRITEBYTECODE=1
-program=target/bin/sheetdesk
-tool=target/tools/history
-
-bad() {
-  echo "record: $1"
-  [ ! -s "$work/err" ] || head -n 5 "$work/err"
-  exit 1
-}
-
-fail() {
-  bad "$1"
-}
-
-# want STATUS WHAT COMMAND..: the exit status of a command; its output is in $work/out and $work/err.
-want() {
-  local due=$1 what=$2
-  shift 2
-  "$@" >"$work/out" 2>"$work/err"
-  local got=$?
-  [ "$got" -eq "$due" ] || bad "$what: exit $got, due $due"
-}
-
-# said TEXT: standard error has it.
-said() {
-  grep -q -e "$1" "$work/err" || bad "standard error doesn't say '$1'"
-}
-
-# have MODE FILE [LINE]: the tool on a file.
-have() {
-  "$tool" "$1" "${2##*/}" ${3:+"$3"} <"$2"
-}
+self=record
+. tests/trials.sh || exit 2
 
 build() {
   . tools/history.sh || exit 2
