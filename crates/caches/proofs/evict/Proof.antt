@@ -21,12 +21,6 @@ use Rattle.caches.proofs.evict.Tie as tie
 counts-requires : tie.Need-counts-requires
 counts-requires c κs = form-long _ (c .before .before .pre)
 
-out-of-range-requires : tie.Need-out-of-range-requires
-out-of-range-requires c κs = search needs
-
-same-length : tie.Need-same-length
-same-length c = search needs
-
 -- A buffer in form, and the counts read from it.
 holds : (c : tie.After-out-of-range) → let n = c .before in
     FormWith (n .before .before .before .args .words .now) (n .counts .result)
@@ -70,9 +64,6 @@ cache c =
 held-requires : tie.Need-held-requires
 held-requires c κs = (cache (c .before), ready (c .before .before) .1)
 
-same-length-2 : tie.Need-same-length-2
-same-length-2 c = search needs
-
 returns-2 : tie.Need-returns-2
 unfolding answeredWords
 returns-2 c =
@@ -103,9 +94,6 @@ evict-keys-requires c κs =
       one-low _ _ _ (ready e .1) (c .before .with-item .ensures),
     )
 
-same-length-3 : tie.Need-same-length-3
-same-length-3 c = search needs
-
 returns-3 : tie.Need-returns-3
 unfolding answeredWords
 returns-3 c =
@@ -125,15 +113,15 @@ evict-spec =
     tie.close
     (tie.spec
     counts-requires
-    out-of-range-requires
-    same-length
+    (λ c κs. search needs)
+    (λ c. search needs)
     returns
     site-at-requires
     held-requires
-    same-length-2
+    (λ c. search needs)
     returns-2
     areas-requires
     with-item-requires
     evict-keys-requires
-    same-length-3
+    (λ c. search needs)
     returns-3)

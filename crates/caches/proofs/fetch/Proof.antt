@@ -20,12 +20,6 @@ use Rattle.caches.proofs.fetch.Tie as tie
 counts-requires : tie.Need-counts-requires
 counts-requires c κs = form-long _ (c .before .before .pre)
 
-out-of-range-requires : tie.Need-out-of-range-requires
-out-of-range-requires c κs = search needs
-
-same-length : tie.Need-same-length
-same-length c = search needs
-
 -- A buffer in form, and the counts read from it.
 holds : (c : tie.After-out-of-range) → let n = c .before in
     FormWith (n .before .before .before .args .words .now) (n .counts .result)
@@ -65,9 +59,6 @@ held-requires c κs =
       ready e .1,
     )
 
-same-length-2 : tie.Need-same-length-2
-same-length-2 c = search needs
-
 returns-2 : tie.Need-returns-2
 unfolding answeredWords
 returns-2 c =
@@ -101,9 +92,6 @@ fetch-keys-requires c κs =
       ),
     )
 
-same-length-3 : tie.Need-same-length-3
-same-length-3 c = search needs
-
 returns-3 : tie.Need-returns-3
 unfolding answeredWords
 returns-3 c =
@@ -123,15 +111,15 @@ fetch-spec =
     tie.close
     (tie.spec
     counts-requires
-    out-of-range-requires
-    same-length
+    (λ c κs. search needs)
+    (λ c. search needs)
     returns
     areas-requires
     held-requires
-    same-length-2
+    (λ c. search needs)
     returns-2
     site-at-requires
     with-item-requires
     fetch-keys-requires
-    same-length-3
+    (λ c. search needs)
     returns-3)

@@ -32,9 +32,6 @@ mul-open c =
     let s = c .before .before .before .before .before .before .before in
     omega (arith, inside c, s .good .1 .1 .1 .0 .0)
 
-part-open-end : tie.Need-part-open-end
-part-open-end c = omega (arith, inside c)
-
 returns : tie.Need-returns
 unfolding Made
 returns c = rw (c .enum-told .given .1) (refl, refl, refl)
@@ -143,7 +140,7 @@ make-spec =
     mul-open
     (λ c. search needs)
     (λ c. search needs)
-    part-open-end
+    (λ c. omega (arith, inside c))
     (λ c κs. search needs)
     (λ c. search needs)
     (λ c κs. search needs)

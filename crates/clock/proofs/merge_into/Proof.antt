@@ -21,42 +21,6 @@ loop-holds : tie.Need-loop-holds Inv-loop μ-loop
 unfolding put
 loop-holds c = (omega arith, refl, refl)
 
-add-larger : tie.Need-add-larger Inv-loop μ-loop
-add-larger c = omega arith
-
-mul-larger : tie.Need-mul-larger Inv-loop μ-loop
-mul-larger c = omega arith
-
-slice-read-larger : tie.Need-slice-read-larger Inv-loop μ-loop
-slice-read-larger c = omega arith
-
-add-larger-2 : tie.Need-add-larger-2 Inv-loop μ-loop
-add-larger-2 c = omega arith
-
-mul-larger-2 : tie.Need-mul-larger-2 Inv-loop μ-loop
-mul-larger-2 c = omega arith
-
-slice-read-larger-2 : tie.Need-slice-read-larger-2 Inv-loop μ-loop
-slice-read-larger-2 c = omega arith
-
-larger-requires : tie.Need-larger-requires Inv-loop μ-loop
-larger-requires c κs = search needs
-
-add-words : tie.Need-add-words Inv-loop μ-loop
-add-words c = omega arith
-
-mul-words : tie.Need-mul-words Inv-loop μ-loop
-mul-words c = omega arith
-
-slice-write-words : tie.Need-slice-write-words Inv-loop μ-loop
-slice-write-words c = omega arith
-
-add-i : tie.Need-add-i Inv-loop μ-loop
-add-i c = omega arith
-
-loop-less : tie.Need-loop-less Inv-loop μ-loop
-loop-less c = omega arith
-
 loop-again : tie.Need-loop-again Inv-loop μ-loop
 loop-again c =
     let l = c .before .before .before .before in
@@ -71,9 +35,6 @@ loop-again c =
           x (c .larger .ensures),
     )
 
-same-length : tie.Need-same-length Inv-loop μ-loop
-same-length c = c .before .loop .inv .1
-
 returns : tie.Need-returns Inv-loop μ-loop
 returns c =
     let l = c .before in
@@ -87,18 +48,18 @@ merge-into-spec =
     Inv-loop
     μ-loop
     loop-holds
-    add-larger
-    mul-larger
-    slice-read-larger
-    add-larger-2
-    mul-larger-2
-    slice-read-larger-2
-    larger-requires
-    add-words
-    mul-words
-    slice-write-words
-    add-i
-    loop-less
+    (λ c. omega arith)
+    (λ c. omega arith)
+    (λ c. omega arith)
+    (λ c. omega arith)
+    (λ c. omega arith)
+    (λ c. omega arith)
+    (λ c κs. search needs)
+    (λ c. omega arith)
+    (λ c. omega arith)
+    (λ c. omega arith)
+    (λ c. omega arith)
+    (λ c. omega arith)
     loop-again
-    same-length
+    (λ c. c .before .loop .inv .1)
     returns)

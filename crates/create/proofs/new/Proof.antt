@@ -6,27 +6,12 @@ use Rattle.create.proofs.Outcomes.{new-no, new-done}
 use Rattle.create.proofs.new.Statement.{statement}
 use Rattle.create.proofs.new.Tie as tie
 
-counts-of-requires : tie.Need-counts-of-requires
-counts-of-requires c κs = search needs
-
-cause-requires : tie.Need-cause-requires
-cause-requires c κs = search needs
-
-same-length : tie.Need-same-length
-same-length c = search needs
-
 returns : tie.Need-returns
 unfolding answeredWords
 returns c =
     let b = c .before in
     new-no _ _ _ _ _ _ _ (b .before .before .counts-of .ensures) (b .cause .ensures)
     (c .if1 .taken)
-
-store-fresh-requires : tie.Need-store-fresh-requires
-store-fresh-requires c κs = search needs
-
-same-length-2 : tie.Need-same-length-2
-same-length-2 c = search needs
 
 returns-2 : tie.Need-returns-2
 unfolding answeredWords
@@ -41,10 +26,10 @@ pub new-spec : {M : Type 1} → statement M
 new-spec =
     tie.close
     (tie.spec
-    counts-of-requires
-    cause-requires
-    same-length
+    (λ c κs. search needs)
+    (λ c κs. search needs)
+    (λ c. search needs)
     returns
-    store-fresh-requires
-    same-length-2
+    (λ c κs. search needs)
+    (λ c. search needs)
     returns-2)

@@ -33,9 +33,6 @@ narrow-requires c κs =
     let R = has-room (c .before .before .before .before .before .before .before .before) in
     omega (arith, R)
 
-same-length : tie.Need-same-length
-same-length c = search needs
-
 returns : tie.Need-returns
 returns c =
     let h = c .before .before .before in
@@ -54,5 +51,5 @@ store-fresh-spec =
     zero-requires
     store-header-requires
     narrow-requires
-    same-length
+    (λ c. search needs)
     returns)

@@ -14,26 +14,11 @@ use Rattle.layout.specs.Words.{headerWords}
 use Rattle.create.proofs.store_header.Statement.{statement}
 use Rattle.create.proofs.store_header.Tie as tie
 
-narrow-requires : tie.Need-narrow-requires
-narrow-requires c κs = search needs
-
-slice-write-words : tie.Need-slice-write-words
-slice-write-words c = search needs
-
-narrow-requires-2 : tie.Need-narrow-requires-2
-narrow-requires-2 c κs = search needs
-
 slice-write-words-2 : tie.Need-slice-write-words-2
 slice-write-words-2 c = simp length-set (omega arith)
 
-narrow-requires-3 : tie.Need-narrow-requires-3
-narrow-requires-3 c κs = search needs
-
 slice-write-words-3 : tie.Need-slice-write-words-3
 slice-write-words-3 c = simp length-set (omega arith)
-
-narrow-requires-4 : tie.Need-narrow-requires-4
-narrow-requires-4 c κs = search needs
 
 slice-write-words-4 : tie.Need-slice-write-words-4
 slice-write-words-4 c = simp length-set (omega arith)
@@ -41,38 +26,20 @@ slice-write-words-4 c = simp length-set (omega arith)
 slice-write-words-5 : tie.Need-slice-write-words-5
 slice-write-words-5 c = simp length-set (omega arith)
 
-narrow-requires-5 : tie.Need-narrow-requires-5
-narrow-requires-5 c κs = search needs
-
 slice-write-words-6 : tie.Need-slice-write-words-6
 slice-write-words-6 c = simp length-set (omega arith)
-
-narrow-requires-6 : tie.Need-narrow-requires-6
-narrow-requires-6 c κs = search needs
 
 slice-write-words-7 : tie.Need-slice-write-words-7
 slice-write-words-7 c = simp length-set (omega arith)
 
-narrow-requires-7 : tie.Need-narrow-requires-7
-narrow-requires-7 c κs = search needs
-
 slice-write-words-8 : tie.Need-slice-write-words-8
 slice-write-words-8 c = simp length-set (omega arith)
-
-narrow-requires-8 : tie.Need-narrow-requires-8
-narrow-requires-8 c κs = search needs
 
 slice-write-words-9 : tie.Need-slice-write-words-9
 slice-write-words-9 c = simp length-set (omega arith)
 
-narrow-requires-9 : tie.Need-narrow-requires-9
-narrow-requires-9 c κs = search needs
-
 slice-write-words-10 : tie.Need-slice-write-words-10
 slice-write-words-10 c = simp length-set (omega arith)
-
-same-length : tie.Need-same-length
-same-length c = search needs
 
 -- Ten words that are the counts and the sizes are the header.
 header-is : (z : Counts) (at : Sizes) (a b c d e f g h i : ℕ) → at ≡ sizesOf z
@@ -102,24 +69,24 @@ pub store-header-spec : {M : Type 1} → statement M
 store-header-spec =
     tie.close
     (tie.spec
-    narrow-requires
-    slice-write-words
-    narrow-requires-2
+    (λ c κs. search needs)
+    (λ c. search needs)
+    (λ c κs. search needs)
     slice-write-words-2
-    narrow-requires-3
+    (λ c κs. search needs)
     slice-write-words-3
-    narrow-requires-4
+    (λ c κs. search needs)
     slice-write-words-4
     slice-write-words-5
-    narrow-requires-5
+    (λ c κs. search needs)
     slice-write-words-6
-    narrow-requires-6
+    (λ c κs. search needs)
     slice-write-words-7
-    narrow-requires-7
+    (λ c κs. search needs)
     slice-write-words-8
-    narrow-requires-8
+    (λ c κs. search needs)
     slice-write-words-9
-    narrow-requires-9
+    (λ c κs. search needs)
     slice-write-words-10
-    same-length
+    (λ c. search needs)
     returns)

@@ -13,18 +13,6 @@ use Rattle.explain.proofs.explain.Tie as tie
 counts-requires : tie.Need-counts-requires
 counts-requires c κs = form-long _ (c .before .pre)
 
-try-job-requires : tie.Need-try-job-requires
-try-job-requires c κs = search needs
-
-enum-known-tried : tie.Need-enum-known-tried
-enum-known-tried c = search needs
-
-alone-requires : tie.Need-alone-requires
-alone-requires c κs = search needs
-
-enum-known-tried-2 : tie.Need-enum-known-tried-2
-enum-known-tried-2 c = search needs
-
 -- What the trial found.
 found : (c : tie.After-tried2) → let n = c .before .before .before in
     let a = n .before .before .args in
@@ -70,10 +58,10 @@ explain-spec =
     tie.close
     (tie.spec
     counts-requires
-    try-job-requires
-    enum-known-tried
-    alone-requires
-    enum-known-tried-2
+    (λ c κs. search needs)
+    (λ c. search needs)
+    (λ c κs. search needs)
+    (λ c. search needs)
     judge-requires
     returns
     returns-2)

@@ -14,9 +14,6 @@ use Rattle.form.proofs.Stores.{shaped-area, shaped-long, store-test}
 use Rattle.form.proofs.in_form.Statement.{statement}
 use Rattle.form.proofs.in_form.Tie as tie
 
-shaped-requires : tie.Need-shaped-requires
-shaped-requires c κs = search needs
-
 returns : tie.Need-returns
 unfolding inForm
 returns c = rw (sym (c .before .shaped .ensures) ∙ not-true _ (c .if1 .taken))
@@ -69,7 +66,7 @@ pub in-form-spec : {M : Type 1} → statement M
 in-form-spec =
     tie.close
     (tie.spec
-    shaped-requires
+    (λ c κs. search needs)
     returns
     counts-requires
     areas-requires

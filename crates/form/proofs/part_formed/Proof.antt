@@ -9,9 +9,6 @@ use Rattle.form.proofs.Stores.{run-area}
 use Rattle.form.proofs.part_formed.Statement.{statement}
 use Rattle.form.proofs.part_formed.Tie as tie
 
-enum-told : tie.Need-enum-told
-enum-told c = search needs
-
 site-at-requires : tie.Need-site-at-requires
 unfolding partCount
 site-at-requires c κs =
@@ -28,9 +25,6 @@ site-formed-requires c κs =
       master-area _ _ (A .ranged) (A .fits),
       site-whole _ _ (A .ranged) (A .fits) _ (rw (t .enum-told .given .1) at (s .pre .1)),
     )
-
-enum-told-2 : tie.Need-enum-told-2
-enum-told-2 c = search needs
 
 run-at-requires : tie.Need-run-at-requires
 unfolding partCount
@@ -62,10 +56,10 @@ pub part-formed-spec : {M : Type 1} → statement M
 part-formed-spec =
     tie.close
     (tie.spec
-    enum-told
+    (λ c. search needs)
     site-at-requires
     site-formed-requires
-    enum-told-2
+    (λ c. search needs)
     run-at-requires
     run-formed-requires
     returns

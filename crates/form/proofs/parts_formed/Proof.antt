@@ -35,12 +35,6 @@ returns c =
     loop-fails _ (tests l) (l .loop .i) _ (omega arith) (c .before .part-formed .ensures)
     (c .if1 .taken)
 
-add-i : tie.Need-add-i Inv-loop μ-loop
-add-i c = omega arith
-
-loop-less : tie.Need-loop-less Inv-loop μ-loop
-loop-less c = omega arith
-
 loop-again : tie.Need-loop-again Inv-loop μ-loop
 loop-again c =
     let l = c .before .before .before in
@@ -60,7 +54,7 @@ parts-formed-spec =
     loop-holds
     part-formed-requires
     returns
-    add-i
-    loop-less
+    (λ c. omega arith)
+    (λ c. omega arith)
     loop-again
     returns-2)

@@ -21,12 +21,6 @@ use Rattle.issue.proofs.issue.Tie as tie
 counts-requires : tie.Need-counts-requires
 counts-requires c κs = form-long _ (c .before .before .pre)
 
-issue-cause-requires : tie.Need-issue-cause-requires
-issue-cause-requires c κs = search needs
-
-same-length : tie.Need-same-length
-same-length c = search needs
-
 returns : tie.Need-returns
 unfolding answeredWords
 returns c =
@@ -74,12 +68,6 @@ clear-run-requires c κs =
     let v = n .before .before .before in
     rw (v .save .kept .0, n .run-at .ensures) (known (v .before .before) .area)
 
-same-length-2 : tie.Need-same-length-2
-same-length-2 c = search needs
-
-word-requires : tie.Need-word-requires
-word-requires c κs = search needs
-
 returns-2 : tie.Need-returns-2
 unfolding answeredWords
 returns-2 c =
@@ -101,12 +89,12 @@ issue-spec =
     tie.close
     (tie.spec
     counts-requires
-    issue-cause-requires
-    same-length
+    (λ c κs. search needs)
+    (λ c. search needs)
     returns
     save-requires
     run-at-requires
     clear-run-requires
-    word-requires
-    same-length-2
+    (λ c κs. search needs)
+    (λ c. search needs)
     returns-2)

@@ -33,9 +33,6 @@ range : (c : tie.Else1) → let a = c .before .before .before .args in
     beyond (a .z) (a .r) (a .w) (a .mask) ≡ false
 range c = sym (c .before .out-of-range .ensures) ∙ c .if1 .left
 
-run-cause-requires : tie.Need-run-cause-requires
-run-cause-requires c κs = search needs
-
 returns-2 : tie.Need-returns-2
 returns-2 c =
     let e = c .before .before in
@@ -109,7 +106,7 @@ issue-cause-spec =
     (tie.spec
     out-of-range-requires
     returns
-    run-cause-requires
+    (λ c κs. search needs)
     returns-2
     jobs-done-requires
     returns-3

@@ -20,24 +20,6 @@ here c =
     let a = s .args in
     rw (c .run-at .ensures) (run-words (a .words .now) (a .z) (s .pre .0) (a .r) (s .pre .1))
 
-add-has-all : tie.Need-add-has-all
-add-has-all c = omega (arith, here c)
-
-mul-has-all : tie.Need-mul-has-all
-mul-has-all c = omega (arith, here c)
-
-shared-slice-read-has-all : tie.Need-shared-slice-read-has-all
-shared-slice-read-has-all c = omega (arith, here (c .before))
-
-add-has-all-2 : tie.Need-add-has-all-2
-add-has-all-2 c = omega (arith, here (c .before))
-
-mul-has-all-2 : tie.Need-mul-has-all-2
-mul-has-all-2 c = omega (arith, here (c .before))
-
-shared-slice-read-has-all-2 : tie.Need-shared-slice-read-has-all-2
-shared-slice-read-has-all-2 c = omega (arith, here (c .before .before))
-
 has-all-requires : tie.Need-has-all-requires
 has-all-requires c κs =
     let n = c .before .before in
@@ -65,11 +47,11 @@ jobs-done-spec =
     tie.close
     (tie.spec
     run-at-requires
-    add-has-all
-    mul-has-all
-    shared-slice-read-has-all
-    add-has-all-2
-    mul-has-all-2
-    shared-slice-read-has-all-2
+    (λ c. omega (arith, here c))
+    (λ c. omega (arith, here c))
+    (λ c. omega (arith, here (c .before)))
+    (λ c. omega (arith, here (c .before)))
+    (λ c. omega (arith, here (c .before)))
+    (λ c. omega (arith, here (c .before .before)))
     has-all-requires
     returns)

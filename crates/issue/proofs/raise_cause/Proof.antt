@@ -8,20 +8,11 @@ use Rattle.layout.specs.Reading.{storeOf}
 use Rattle.issue.proofs.raise_cause.Statement.{statement}
 use Rattle.issue.proofs.raise_cause.Tie as tie
 
-numbers-of-requires : tie.Need-numbers-of-requires
-numbers-of-requires c κs = search needs
-
-is-last-requires : tie.Need-is-last-requires
-is-last-requires c κs = search needs
-
 returns : tie.Need-returns
 unfolding raiseCause refuse
 returns c =
     let n = c .before .before in
     rw (← n .numbers-of .ensures .0, sym (c .before .is-last .ensures) ∙ c .if1 .taken)
-
-is-full-requires : tie.Need-is-full-requires
-is-full-requires c κs = search needs
 
 -- What the test of the count says.
 told : (c : tie.After-is-full)
@@ -50,9 +41,9 @@ pub raise-cause-spec : {M : Type 1} → statement M
 raise-cause-spec =
     tie.close
     (tie.spec
-    numbers-of-requires
-    is-last-requires
+    (λ c κs. search needs)
+    (λ c κs. search needs)
     returns
-    is-full-requires
+    (λ c κs. search needs)
     returns-2
     returns-3)

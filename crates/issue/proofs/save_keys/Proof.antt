@@ -155,9 +155,6 @@ mark-sites-requires c κs =
     rw (m .merge-saved .kept .0 ∙ v .save-writer .kept .0 ∙ o .set-last-issue .kept .0)
     (rw (master-found (a .z) (e .areas .result) (e .areas .ensures)) M, A)
 
-same-length : tie.Need-same-length
-same-length c = search needs
-
 returns : tie.Need-returns
 returns c =
     let k = c .before .before .before in
@@ -189,5 +186,5 @@ save-keys-spec =
     save-writer-requires
     merge-saved-requires
     mark-sites-requires
-    same-length
+    (λ c. search needs)
     returns)

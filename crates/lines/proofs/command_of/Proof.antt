@@ -8,18 +8,6 @@ use Rattle.lines.proofs.Tables.{next, some-number, rest-first}
 use Rattle.lines.proofs.command_of.Statement.{statement}
 use Rattle.lines.proofs.command_of.Tie as tie
 
-number-at-requires : tie.Need-number-at-requires
-number-at-requires c κs = search needs
-
-number-at-requires-2 : tie.Need-number-at-requires-2
-number-at-requires-2 c κs = search needs
-
-number-at-requires-3 : tie.Need-number-at-requires-3
-number-at-requires-3 c κs = search needs
-
-number-at-requires-4 : tie.Need-number-at-requires-4
-number-at-requires-4 c κs = search needs
-
 sub-t9 : tie.Need-sub-t9
 sub-t9 c =
     let s = c .before .before .before .before .before .before in
@@ -108,17 +96,14 @@ later-command-requires c κs =
     (r1 .1)) (r2 .1)) (r3 .1)) (r4 .1)) (r5 .1)) (r6 .1)) (r7 .1)) (r8 .1) in
     (past, s .pre)
 
-returns-10 : tie.Need-returns-10
-returns-10 c = c .later-command .ensures
-
 pub command-of-spec : {M : Type 1} → statement M
 command-of-spec =
     tie.close
     (tie.spec
-    number-at-requires
-    number-at-requires-2
-    number-at-requires-3
-    number-at-requires-4
+    (λ c κs. search needs)
+    (λ c κs. search needs)
+    (λ c κs. search needs)
+    (λ c κs. search needs)
     sub-t9
     later-command-requires
     returns
@@ -130,4 +115,4 @@ command-of-spec =
     returns-7
     returns-8
     returns-9
-    returns-10)
+    (λ c. c .later-command .ensures))

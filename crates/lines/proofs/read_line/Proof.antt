@@ -13,27 +13,6 @@ returns c =
     let a = c .before .before .before .args in
     (sym (line-long (a .line .now) (c .if1 .taken)), omega arith)
 
-first-field-requires : tie.Need-first-field-requires
-first-field-requires c κs = search needs
-
-sub-command-number : tie.Need-sub-command-number
-sub-command-number c = search needs
-
-part-command-number-start : tie.Need-part-command-number-start
-part-command-number-start c = search needs
-
-part-command-number-end : tie.Need-part-command-number-end
-part-command-number-end c = search needs
-
-command-number-requires : tie.Need-command-number-requires
-command-number-requires c κs = search needs
-
-command-with-requires : tie.Need-command-with-requires
-command-with-requires c κs = search needs
-
-same-length : tie.Need-same-length
-same-length c = search needs
-
 returns-2 : tie.Need-returns-2
 returns-2 c =
     let m = c .before .before .before in
@@ -45,21 +24,6 @@ returns-2 c =
     let t = c .before .before .if2 .taken in
     let e = line-bare l (f .result) (omega arith) (f .ensures .1) t in
     (w .0 ∙ rw (n, z) e, w .1)
-
-add-numbers : tie.Need-add-numbers
-add-numbers c = search needs
-
-numbers-requires : tie.Need-numbers-requires
-numbers-requires c κs = search needs
-
-enum-known-count : tie.Need-enum-known-count
-enum-known-count c = search needs
-
-enum-told : tie.Need-enum-told
-enum-told c = search needs
-
-same-length-2 : tie.Need-same-length-2
-same-length-2 c = search needs
 
 returns-3 : tie.Need-returns-3
 returns-3 c =
@@ -78,9 +42,6 @@ command-with-requires-2 c κs =
     let k = c .before .before .count .given in
     let n = c .before .before .before .before .before .before .numbers in
     count-le (n .result) (k .0 .0) _ (k .1) (n .ensures .1)
-
-same-length-3 : tie.Need-same-length-3
-same-length-3 c = search needs
 
 returns-4 : tie.Need-returns-4
 returns-4 c =
@@ -102,20 +63,20 @@ read-line-spec =
     tie.close
     (tie.spec
     returns
-    first-field-requires
-    sub-command-number
-    part-command-number-start
-    part-command-number-end
-    command-number-requires
-    command-with-requires
-    same-length
+    (λ c κs. search needs)
+    (λ c. search needs)
+    (λ c. search needs)
+    (λ c. search needs)
+    (λ c κs. search needs)
+    (λ c κs. search needs)
+    (λ c. search needs)
     returns-2
-    add-numbers
-    numbers-requires
-    enum-known-count
-    enum-told
-    same-length-2
+    (λ c. search needs)
+    (λ c κs. search needs)
+    (λ c. search needs)
+    (λ c. search needs)
+    (λ c. search needs)
     returns-3
     command-with-requires-2
-    same-length-3
+    (λ c. search needs)
     returns-4)

@@ -27,9 +27,6 @@ returns c =
       le-leb 3 (a .place) (omega arith),
     )
 
-limit-requires : tie.Need-limit-requires
-limit-requires c κs = search needs
-
 -- There is such a kind of place.
 kind : (c : tie.Else1) → c .before .before .args .place < 3
 kind c = omega arith
@@ -118,7 +115,7 @@ cause-spec =
     tie.close
     (tie.spec
     returns
-    limit-requires
+    (λ c κs. search needs)
     returns-2
     returns-3
     place-at-requires

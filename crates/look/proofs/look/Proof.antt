@@ -18,15 +18,6 @@ use Rattle.look.proofs.look.Tie as tie
 counts-requires : tie.Need-counts-requires
 counts-requires c κs = form-long _ (c .before .pre)
 
-wide-requires : tie.Need-wide-requires
-wide-requires c κs = search needs
-
-wide-requires-2 : tie.Need-wide-requires-2
-wide-requires-2 c κs = search needs
-
-cause-requires : tie.Need-cause-requires
-cause-requires c κs = search needs
-
 returns : tie.Need-returns
 returns c =
     let k = c .before .before in
@@ -162,9 +153,9 @@ look-spec =
     tie.close
     (tie.spec
     counts-requires
-    wide-requires
-    wide-requires-2
-    cause-requires
+    (λ c κs. search needs)
+    (λ c κs. search needs)
+    (λ c κs. search needs)
     returns
     place-at-requires
     key-at-requires

@@ -18,12 +18,6 @@ use Rattle.prepare.proofs.prepare.Tie as tie
 counts-requires : tie.Need-counts-requires
 counts-requires c κs = form-long _ (c .before .before .pre)
 
-prepare-cause-requires : tie.Need-prepare-cause-requires
-prepare-cause-requires c κs = search needs
-
-same-length : tie.Need-same-length
-same-length c = search needs
-
 returns : tie.Need-returns
 unfolding answeredWords
 returns c =
@@ -69,9 +63,6 @@ held-mask-requires c κs =
     rw (t .snapshot-at .ensures, m .merge-run .kept .0, k .fetch-jobs .kept .0)
     (snapshot-in-place _ _ _ (used e))
 
-same-length-2 : tie.Need-same-length-2
-same-length-2 c = search needs
-
 returns-2 : tie.Need-returns-2
 unfolding answeredWords
 returns-2 c =
@@ -87,12 +78,12 @@ prepare-spec =
     tie.close
     (tie.spec
     counts-requires
-    prepare-cause-requires
-    same-length
+    (λ c κs. search needs)
+    (λ c. search needs)
     returns
     fetch-jobs-requires
     merge-run-requires
     snapshot-at-requires
     held-mask-requires
-    same-length-2
+    (λ c. search needs)
     returns-2)

@@ -16,9 +16,6 @@ use Rattle.prepare.proofs.Causes.{cause-run, cause-done, cause-lacks, u
 use Rattle.prepare.proofs.prepare_cause.Statement.{statement}
 use Rattle.prepare.proofs.prepare_cause.Tie as tie
 
-run-cause-requires : tie.Need-run-cause-requires
-run-cause-requires c κs = search needs
-
 returns : tie.Need-returns
 returns c =
     let a = c .before .before .before .args in
@@ -43,15 +40,6 @@ here : (c : tie.After-run-at)
     → c .run-at .result + snapshotOffset
     ≤ length (c .before .before .before .before .args .words .now)
 here c = run-index _ _ _ (used (c .before)) _ (c .run-at .ensures)
-
-add-if2 : tie.Need-add-if2
-add-if2 c = omega (arith, here c)
-
-mul-if2 : tie.Need-mul-if2
-mul-if2 c = omega (arith, here c)
-
-shared-slice-read-if2 : tie.Need-shared-slice-read-if2
-shared-slice-read-if2 c = omega (arith, here (c .before))
 
 -- The word that is read is the done mask.
 read : (c : tie.After-run-at) → let a = c .before .before .before .before .args in
@@ -92,12 +80,12 @@ pub prepare-cause-spec : {M : Type 1} → statement M
 prepare-cause-spec =
     tie.close
     (tie.spec
-    run-cause-requires
+    (λ c κs. search needs)
     returns
     run-at-requires
-    add-if2
-    mul-if2
-    shared-slice-read-if2
+    (λ c. omega (arith, here c))
+    (λ c. omega (arith, here c))
+    (λ c. omega (arith, here (c .before)))
     returns-2
     is-unpreparable-requires
     returns-3

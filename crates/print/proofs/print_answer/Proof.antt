@@ -7,21 +7,6 @@ use Rattle.print.proofs.Words.{answer-parts}
 use Rattle.print.proofs.print_answer.Statement.{statement}
 use Rattle.print.proofs.print_answer.Tie as tie
 
-shared-slice-read-put-word : tie.Need-shared-slice-read-put-word
-shared-slice-read-put-word c = search needs
-
-put-word-requires : tie.Need-put-word-requires
-put-word-requires c κs = search needs
-
-put-numbers-requires : tie.Need-put-numbers-requires
-put-numbers-requires c κs = search needs
-
-put-byte-requires : tie.Need-put-byte-requires
-put-byte-requires c κs = search needs
-
-same-length : tie.Need-same-length
-same-length c = search needs
-
 returns : tie.Need-returns
 returns c =
     let b = c .before .before .put-byte .ensures in
@@ -37,9 +22,9 @@ pub print-answer-spec : {M : Type 1} → statement M
 print-answer-spec =
     tie.close
     (tie.spec
-    shared-slice-read-put-word
-    put-word-requires
-    put-numbers-requires
-    put-byte-requires
-    same-length
+    (λ c. search needs)
+    (λ c κs. search needs)
+    (λ c κs. search needs)
+    (λ c κs. search needs)
+    (λ c. search needs)
     returns)

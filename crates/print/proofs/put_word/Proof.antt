@@ -5,25 +5,10 @@ use Rattle.print.proofs.Words.{table-word, no-word}
 use Rattle.print.proofs.put_word.Statement.{statement}
 use Rattle.print.proofs.put_word.Tie as tie
 
-wide-requires : tie.Need-wide-requires
-wide-requires c κs = search needs
-
 returns : tie.Need-returns
 returns c =
     let a = c .before .before .before .args in
     (omega arith, no-word _ (a .kind) (omega (arith, c .before .wide .ensures)))
-
-mul-word : tie.Need-mul-word
-mul-word c = search needs
-
-array-copy-out-word : tie.Need-array-copy-out-word
-array-copy-out-word c = search needs
-
-put-first-requires : tie.Need-put-first-requires
-put-first-requires c κs = search needs
-
-same-length : tie.Need-same-length
-same-length c = search needs
 
 returns-2 : tie.Need-returns-2
 returns-2 c =
@@ -35,10 +20,10 @@ pub put-word-spec : {M : Type 1} → statement M
 put-word-spec =
     tie.close
     (tie.spec
-    wide-requires
+    (λ c κs. search needs)
     returns
-    mul-word
-    array-copy-out-word
-    put-first-requires
-    same-length
+    (λ c. search needs)
+    (λ c. search needs)
+    (λ c κs. search needs)
+    (λ c. search needs)
     returns-2)

@@ -17,18 +17,9 @@ use Rattle.runs.proofs.Drops.{drop-refused, drop-done}
 use Rattle.runs.proofs.drop.Statement.{statement}
 use Rattle.runs.proofs.drop.Tie as tie
 
-wide-requires : tie.Need-wide-requires
-wide-requires c κs = search needs
-
 counts-requires : tie.Need-counts-requires
 counts-requires c κs =
     let s = c .before .before .before in form-long (s .args .words .now) (s .pre)
-
-run-cause-requires : tie.Need-run-cause-requires
-run-cause-requires c κs = search needs
-
-same-length : tie.Need-same-length
-same-length c = search needs
 
 returns : tie.Need-returns
 unfolding answeredWords
@@ -69,9 +60,6 @@ run-at-requires c κs = (known c .area .ranged, below c)
 clear-run-requires : tie.Need-clear-run-requires
 clear-run-requires c κs = rw (c .before .run-at .ensures) (known (c .before .before) .area)
 
-same-length-2 : tie.Need-same-length-2
-same-length-2 c = search needs
-
 returns-2 : tie.Need-returns-2
 unfolding answeredWords
 returns-2 c =
@@ -86,12 +74,12 @@ pub drop-spec : {M : Type 1} → statement M
 drop-spec =
     tie.close
     (tie.spec
-    wide-requires
+    (λ c κs. search needs)
     counts-requires
-    run-cause-requires
-    same-length
+    (λ c κs. search needs)
+    (λ c. search needs)
     returns
     run-at-requires
     clear-run-requires
-    same-length-2
+    (λ c. search needs)
     returns-2)

@@ -16,18 +16,9 @@ use Rattle.runs.proofs.Opens.{OpenReady, open-ready, open-refused, open
 use Rattle.runs.proofs.open.Statement.{statement}
 use Rattle.runs.proofs.open.Tie as tie
 
-wide-requires : tie.Need-wide-requires
-wide-requires c κs = search needs
-
 counts-requires : tie.Need-counts-requires
 counts-requires c κs =
     let s = c .before .before .before .before in form-long (s .args .words .now) (s .pre)
-
-open-cause-requires : tie.Need-open-cause-requires
-open-cause-requires c κs = search needs
-
-same-length : tie.Need-same-length
-same-length c = search needs
 
 returns : tie.Need-returns
 unfolding answeredWords
@@ -75,9 +66,6 @@ put-jobs-requires c κs =
       omega (arith, L .whole, L .high),
     )
 
-same-length-2 : tie.Need-same-length-2
-same-length-2 c = search needs
-
 returns-2 : tie.Need-returns-2
 unfolding answeredWords
 returns-2 c =
@@ -95,12 +83,12 @@ pub open-spec : {M : Type 1} → statement M
 open-spec =
     tie.close
     (tie.spec
-    wide-requires
+    (λ c κs. search needs)
     counts-requires
-    open-cause-requires
-    same-length
+    (λ c κs. search needs)
+    (λ c. search needs)
     returns
     run-at-requires
     put-jobs-requires
-    same-length-2
+    (λ c. search needs)
     returns-2)

@@ -9,9 +9,6 @@ use Rattle.sets.proofs.Views.{view-key, view-area}
 use Rattle.sets.proofs.draws.Statement.{statement}
 use Rattle.sets.proofs.draws.Tie as tie
 
-place-requires : tie.Need-place-requires
-place-requires c κs = search needs
-
 -- The place from which t is read.
 from : (c : tie.After-place) → Area (length (c .before .before .args .words .now))
     (c .before .before .args .z) (c .place .result)
@@ -36,9 +33,6 @@ returns c =
       ← n .needs .ensures,
     )
     (first-fails (n .needs .result) _ (c .if1 .taken))
-
-place-requires-2 : tie.Need-place-requires-2
-place-requires-2 c κs = search needs
 
 -- The place from which d is read.
 other : (c : tie.After-place2) → let s = c .before .before .before .before .before in
@@ -84,10 +78,10 @@ pub draws-spec : {M : Type 1} → statement M
 draws-spec =
     tie.close
     (tie.spec
-    place-requires
+    (λ c κs. search needs)
     needs-requires
     returns
-    place-requires-2
+    (λ c κs. search needs)
     meets-requires
     held-requires
     returns-2)

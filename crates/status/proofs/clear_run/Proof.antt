@@ -13,12 +13,6 @@ use Rattle.status.proofs.Statuses.{freed-words, put-on}
 use Rattle.status.proofs.clear_run.Statement.{statement}
 use Rattle.status.proofs.clear_run.Tie as tie
 
-run-size-requires : tie.Need-run-size-requires
-run-size-requires c κs = c .before .pre .ranged
-
-free-status-requires : tie.Need-free-status-requires
-free-status-requires c κs = omega (arith, c .before .before .before .pre .fits)
-
 add-zero : tie.Need-add-zero
 add-zero c =
     omega (arith, c .before .before .before .before .before .before .before .pre .low)
@@ -34,9 +28,6 @@ zero-requires c κs =
     let s = n .before .before in
     rw (f .free-status .kept .0)
     (omega (arith, n .run-size .ensures, area-ends _ (s .args .z) (s .args .at) (s .pre)))
-
-same-length : tie.Need-same-length
-same-length c = search needs
 
 returns : tie.Need-returns
 unfolding runSize
@@ -59,10 +50,10 @@ pub clear-run-spec : {M : Type 1} → statement M
 clear-run-spec =
     tie.close
     (tie.spec
-    run-size-requires
-    free-status-requires
+    (λ c κs. c .before .pre .ranged)
+    (λ c κs. omega (arith, c .before .before .before .pre .fits))
     add-zero
     sub-zero
     zero-requires
-    same-length
+    (λ c. search needs)
     returns)

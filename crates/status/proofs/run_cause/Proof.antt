@@ -31,12 +31,6 @@ here : (c : tie.After-run-at)
     → c .run-at .result + snapshotOffset ≤ length (c .before .before .before .args .words .now)
 here c = rw (c .run-at .ensures) (omega (arith, known (c .before) .area .fits))
 
-mul-is-allowed : tie.Need-mul-is-allowed
-mul-is-allowed c = omega (arith, here c)
-
-shared-slice-read-is-allowed : tie.Need-shared-slice-read-is-allowed
-shared-slice-read-is-allowed c = omega (arith, here (c .before))
-
 is-allowed-requires : tie.Need-is-allowed-requires
 is-allowed-requires c κs =
     let n = c .before in
@@ -68,8 +62,8 @@ run-cause-spec =
     (tie.spec
     returns
     run-at-requires
-    mul-is-allowed
-    shared-slice-read-is-allowed
+    (λ c. omega (arith, here c))
+    (λ c. omega (arith, here (c .before)))
     is-allowed-requires
     returns-2
     returns-3)

@@ -30,12 +30,6 @@ here c =
 
 -- ---- broken
 
-mark-broken-requires : tie.Need-mark-broken-requires
-mark-broken-requires c κs = omega (arith, here (c .before .before .before .before))
-
-same-length : tie.Need-same-length
-same-length c = search needs
-
 returns : tie.Need-returns
 unfolding steppedWords
 returns c =
@@ -51,15 +45,6 @@ returns c =
     ∙ ap (λ (at : ℕ). set l at brokenState) (n .run-at .ensures))
 
 -- ---- done
-
-finish-requires : tie.Need-finish-requires
-finish-requires c κs = search needs
-
-divided-requires : tie.Need-divided-requires
-divided-requires c κs = search needs
-
-same-length-2 : tie.Need-same-length-2
-same-length-2 c = search needs
 
 returns-2 : tie.Need-returns-2
 unfolding steppedWords
@@ -77,10 +62,10 @@ act-spec =
     tie.close
     (tie.spec
     run-at-requires
-    mark-broken-requires
-    same-length
+    (λ c κs. omega (arith, here (c .before .before .before .before)))
+    (λ c. search needs)
     returns
-    finish-requires
-    divided-requires
-    same-length-2
+    (λ c κs. search needs)
+    (λ c κs. search needs)
+    (λ c. search needs)
     returns-2)

@@ -33,15 +33,6 @@ here c =
     let s = c .before .before in
     run-index _ _ _ (found-run _ _ _ _ _ _ (s .pre) .0) _ (c .run-at .ensures)
 
-add-with-item : tie.Need-add-with-item
-add-with-item c = omega (arith, here c)
-
-mul-with-item : tie.Need-mul-with-item
-mul-with-item c = omega (arith, here c)
-
-slice-read-with-item : tie.Need-slice-read-with-item
-slice-read-with-item c = omega (arith, here (c .before))
-
 with-item-requires : tie.Need-with-item-requires
 with-item-requires c κs =
     let s = c .before .before .before in
@@ -94,9 +85,6 @@ mark-done-requires c κs =
     rw (m .merge-keys .kept .0 ∙ k .mark-site .kept .0 ∙ n .copy-keys .kept .0)
     (omega (arith, here (n .before .before .before .before)))
 
-same-length : tie.Need-same-length
-same-length c = search needs
-
 returns : tie.Need-returns
 returns c =
     let d = c .before .before in
@@ -128,13 +116,13 @@ finish-spec =
     tie.close
     (tie.spec
     run-at-requires
-    add-with-item
-    mul-with-item
-    slice-read-with-item
+    (λ c. omega (arith, here c))
+    (λ c. omega (arith, here c))
+    (λ c. omega (arith, here (c .before)))
     with-item-requires
     copy-keys-requires
     mark-site-requires
     merge-keys-requires
     mark-done-requires
-    same-length
+    (λ c. search needs)
     returns)

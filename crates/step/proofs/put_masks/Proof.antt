@@ -8,9 +8,6 @@ use Rattle.answers.proofs.Fronts.{over-four}
 use Rattle.step.proofs.put_masks.Statement.{statement}
 use Rattle.step.proofs.put_masks.Tie as tie
 
-slice-write-answer : tie.Need-slice-write-answer
-slice-write-answer c = search needs
-
 slice-write-answer-2 : tie.Need-slice-write-answer-2
 slice-write-answer-2 c = simp length-set (omega (arith, c .pre))
 
@@ -19,9 +16,6 @@ slice-write-answer-3 c = simp length-set (omega (arith, c .pre))
 
 slice-write-answer-4 : tie.Need-slice-write-answer-4
 slice-write-answer-4 c = simp length-set (omega (arith, c .pre))
-
-same-length : tie.Need-same-length
-same-length c = search needs
 
 returns : tie.Need-returns
 returns c =
@@ -34,9 +28,9 @@ pub put-masks-spec : {M : Type 1} → statement M
 put-masks-spec =
     tie.close
     (tie.spec
-    slice-write-answer
+    (λ c. search needs)
     slice-write-answer-2
     slice-write-answer-3
     slice-write-answer-4
-    same-length
+    (λ c. search needs)
     returns)

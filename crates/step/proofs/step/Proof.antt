@@ -12,15 +12,6 @@ use Rattle.step.proofs.step.Tie as tie
 counts-requires : tie.Need-counts-requires
 counts-requires c κs = form-long _ (c .before .before .pre)
 
-try-job-requires : tie.Need-try-job-requires
-try-job-requires c κs = search needs
-
-enum-known-tried : tie.Need-enum-known-tried
-enum-known-tried c = search needs
-
-enum-known-tried-2 : tie.Need-enum-known-tried-2
-enum-known-tried-2 c = search needs
-
 act-requires : tie.Need-act-requires
 act-requires c κs =
     let k = c .before .before in
@@ -36,9 +27,6 @@ act-requires c κs =
       trial = f .2;
     }
 
-same-length : tie.Need-same-length
-same-length c = search needs
-
 returns : tie.Need-returns
 unfolding steppedWords
 returns c =
@@ -50,22 +38,16 @@ returns c =
     let f = refused-as _ (a .run) (a .job) _ _ (sym (k .tried .given .1) ∙ t .try-job .ensures) in
     step-refused (a .words .now) (a .run) (a .job) _ (s .pre) (f .0) (f .1)
 
-same-length-2 : tie.Need-same-length-2
-same-length-2 c = search needs
-
-returns-2 : tie.Need-returns-2
-returns-2 c = c .before .before .act .ensures
-
 pub step-spec : {M : Type 1} → statement M
 step-spec =
     tie.close
     (tie.spec
     counts-requires
-    try-job-requires
-    enum-known-tried
-    enum-known-tried-2
+    (λ c κs. search needs)
+    (λ c. search needs)
+    (λ c. search needs)
     act-requires
-    same-length
+    (λ c. search needs)
     returns
-    same-length-2
-    returns-2)
+    (λ c. search needs)
+    (λ c. c .before .before .act .ensures))

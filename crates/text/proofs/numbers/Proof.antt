@@ -25,12 +25,6 @@ loop-holds c =
     let a = c .before .before .args in
     (omega arith, omega arith, omega arith, refl, told-start (a .line .now) (a .at))
 
-shared-slice-read-b : tie.Need-shared-slice-read-b Inv-loop μ-loop
-shared-slice-read-b c = omega arith
-
-same-length : tie.Need-same-length Inv-loop μ-loop
-same-length c = search needs
-
 returns : tie.Need-returns Inv-loop μ-loop
 unfolding numbersIn howMany
 returns c =
@@ -40,24 +34,6 @@ returns c =
           ∙ l .before .loop .inv .4,
       omega arith,
     )
-
-cast-out : tie.Need-cast-out Inv-loop μ-loop
-cast-out c = omega arith
-
-mul-out : tie.Need-mul-out Inv-loop μ-loop
-mul-out c = omega arith
-
-slice-write-out : tie.Need-slice-write-out Inv-loop μ-loop
-slice-write-out c = omega arith
-
-add-k : tie.Need-add-k Inv-loop μ-loop
-add-k c = omega arith
-
-add-i : tie.Need-add-i Inv-loop μ-loop
-add-i c = omega arith
-
-loop-less : tie.Need-loop-less Inv-loop μ-loop
-loop-less c = omega arith
 
 loop-again : tie.Need-loop-again Inv-loop μ-loop
 loop-again c =
@@ -73,12 +49,6 @@ loop-again c =
           ∙ o .inv .4),
     )
 
-is-digit-requires : tie.Need-is-digit-requires Inv-loop μ-loop
-is-digit-requires c κs = search needs
-
-same-length-2 : tie.Need-same-length-2 Inv-loop μ-loop
-same-length-2 c = search needs
-
 returns-2 : tie.Need-returns-2 Inv-loop μ-loop
 unfolding numbersIn howMany
 returns-2 c =
@@ -89,19 +59,10 @@ returns-2 c =
       omega arith,
     )
 
-mul-next : tie.Need-mul-next Inv-loop μ-loop
-mul-next c = omega arith
-
 digit-value-requires : tie.Need-digit-value-requires Inv-loop μ-loop
 digit-value-requires c κs =
     let e = c .before .is-digit .ensures in
     digit-range _ (sym e ∙ not-false _ (c .if3 .left))
-
-add-next : tie.Need-add-next Inv-loop μ-loop
-add-next c = omega arith
-
-same-length-3 : tie.Need-same-length-3 Inv-loop μ-loop
-same-length-3 c = search needs
 
 returns-3 : tie.Need-returns-3 Inv-loop μ-loop
 unfolding numbersIn howMany
@@ -114,12 +75,6 @@ returns-3 c =
           ∙ l .before .loop .inv .4,
       omega arith,
     )
-
-add-i-2 : tie.Need-add-i-2 Inv-loop μ-loop
-add-i-2 c = omega arith
-
-loop-less-2 : tie.Need-loop-less-2 Inv-loop μ-loop
-loop-less-2 c = omega arith
 
 loop-again-2 : tie.Need-loop-again-2 Inv-loop μ-loop
 loop-again-2 c =
@@ -137,9 +92,6 @@ loop-again-2 c =
           ∙ o .inv .4),
     )
 
-same-length-4 : tie.Need-same-length-4 Inv-loop μ-loop
-same-length-4 c = search needs
-
 returns-4 : tie.Need-returns-4 Inv-loop μ-loop
 unfolding numbersIn howMany
 returns-4 c =
@@ -148,21 +100,6 @@ returns-4 c =
           ∙ o .inv .4,
       omega arith,
     )
-
-cast-out-2 : tie.Need-cast-out-2 Inv-loop μ-loop
-cast-out-2 c = omega arith
-
-mul-out-2 : tie.Need-mul-out-2 Inv-loop μ-loop
-mul-out-2 c = omega arith
-
-slice-write-out-2 : tie.Need-slice-write-out-2 Inv-loop μ-loop
-slice-write-out-2 c = omega arith
-
-add-t24 : tie.Need-add-t24 Inv-loop μ-loop
-add-t24 c = omega arith
-
-same-length-5 : tie.Need-same-length-5 Inv-loop μ-loop
-same-length-5 c = search needs
 
 returns-5 : tie.Need-returns-5 Inv-loop μ-loop
 unfolding numbersIn howMany
@@ -182,32 +119,32 @@ numbers-spec =
     Inv-loop
     μ-loop
     loop-holds
-    shared-slice-read-b
-    same-length
+    (λ c. omega arith)
+    (λ c. search needs)
     returns
-    cast-out
-    mul-out
-    slice-write-out
-    add-k
-    add-i
-    loop-less
+    (λ c. omega arith)
+    (λ c. omega arith)
+    (λ c. omega arith)
+    (λ c. omega arith)
+    (λ c. omega arith)
+    (λ c. omega arith)
     loop-again
-    is-digit-requires
-    same-length-2
+    (λ c κs. search needs)
+    (λ c. search needs)
     returns-2
-    mul-next
+    (λ c. omega arith)
     digit-value-requires
-    add-next
-    same-length-3
+    (λ c. omega arith)
+    (λ c. search needs)
     returns-3
-    add-i-2
-    loop-less-2
+    (λ c. omega arith)
+    (λ c. omega arith)
     loop-again-2
-    same-length-4
+    (λ c. search needs)
     returns-4
-    cast-out-2
-    mul-out-2
-    slice-write-out-2
-    add-t24
-    same-length-5
+    (λ c. omega arith)
+    (λ c. omega arith)
+    (λ c. omega arith)
+    (λ c. omega arith)
+    (λ c. search needs)
     returns-5)

@@ -20,9 +20,6 @@ use Rattle.trial.proofs.try_at.Tie as tie
 
 -- ---- the causes of the run
 
-job-cause-requires : tie.Need-job-cause-requires
-job-cause-requires c κs = search needs
-
 returns : tie.Need-returns
 returns c =
     let n = c .before in
@@ -142,7 +139,7 @@ pub try-at-spec : {M : Type 1} → statement M
 try-at-spec =
     tie.close
     (tie.spec
-    job-cause-requires
+    (λ c κs. search needs)
     returns
     visit-of-requires
     lacking-requires

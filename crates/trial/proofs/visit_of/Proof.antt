@@ -9,17 +9,8 @@ use Rattle.trial.proofs.Trials.{visit-is}
 use Rattle.trial.proofs.visit_of.Statement.{statement}
 use Rattle.trial.proofs.visit_of.Tie as tie
 
-job-of-requires : tie.Need-job-of-requires
-job-of-requires c κs = c .before .pre .0
-
-plan-keys-requires : tie.Need-plan-keys-requires
-plan-keys-requires c κs = c .before .before .pre .0 .0
-
 areas-requires : tie.Need-areas-requires
 areas-requires c κs = form-area _ _ (c .before .before .before .pre .0 .0 .form) .ranged
-
-wide-requires : tie.Need-wide-requires
-wide-requires c κs = search needs
 
 site-at-requires : tie.Need-site-at-requires
 site-at-requires c κs =
@@ -29,9 +20,6 @@ site-at-requires c κs =
     let J = job-known (a .words .now) (a .z) (a .r) (s .pre .0 .0) (a .j) (s .pre .0 .1) in
     let R = form-area (a .words .now) (a .z) (s .pre .0 .0 .form) in
     (R .ranged, rw (c .wide .ensures, j .job-of .ensures) (J .site))
-
-mul-t11 : tie.Need-mul-t11
-mul-t11 c = search needs
 
 shared-slice-read-t13 : tie.Need-shared-slice-read-t13
 shared-slice-read-t13 c =
@@ -56,11 +44,11 @@ pub visit-of-spec : {M : Type 1} → statement M
 visit-of-spec =
     tie.close
     (tie.spec
-    job-of-requires
-    plan-keys-requires
+    (λ c κs. c .before .pre .0)
+    (λ c κs. c .before .before .pre .0 .0)
     areas-requires
-    wide-requires
+    (λ c κs. search needs)
     site-at-requires
-    mul-t11
+    (λ c. search needs)
     shared-slice-read-t13
     returns)

@@ -7,15 +7,6 @@ use Rattle.version.proofs.Areas.{key-in}
 use Rattle.version.proofs.clear_if.Statement.{statement}
 use Rattle.version.proofs.clear_if.Tie as tie
 
-cast-has : tie.Need-cast-has
-cast-has c = search needs
-
-has-requires : tie.Need-has-requires
-has-requires c κs = search needs
-
-key-at-requires : tie.Need-key-at-requires
-key-at-requires c κs = search needs
-
 clear-version-requires : tie.Need-clear-version-requires
 clear-version-requires c κs =
     let b = c .before in
@@ -26,9 +17,6 @@ clear-version-requires c κs =
       rw (b .key-at .ensures)
           (key-in n (a .z) (a .at) (s .pre .0) (a .k) (s .pre .1)),
     )
-
-same-length : tie.Need-same-length
-same-length c = search needs
 
 returns : tie.Need-returns
 returns c =
@@ -44,10 +32,10 @@ pub clear-if-spec : {M : Type 1} → statement M
 clear-if-spec =
     tie.close
     (tie.spec
-    cast-has
-    has-requires
-    key-at-requires
+    (λ c. search needs)
+    (λ c κs. search needs)
+    (λ c κs. search needs)
     clear-version-requires
-    same-length
+    (λ c. search needs)
     returns
     returns-2)

@@ -8,18 +8,6 @@ use Rattle.version.proofs.Areas.{key-apart}
 use Rattle.version.proofs.copy_if.Statement.{statement}
 use Rattle.version.proofs.copy_if.Tie as tie
 
-cast-has : tie.Need-cast-has
-cast-has c = search needs
-
-has-requires : tie.Need-has-requires
-has-requires c κs = search needs
-
-key-at-requires : tie.Need-key-at-requires
-key-at-requires c κs = search needs
-
-key-at-requires-2 : tie.Need-key-at-requires-2
-key-at-requires-2 c κs = search needs
-
 copy-version-requires : tie.Need-copy-version-requires
 copy-version-requires c κs =
     let b = c .before .before in
@@ -30,9 +18,6 @@ copy-version-requires c κs =
       rw (c .before .key-at2 .ensures, b .key-at .ensures)
           (key-apart n (a .z) (a .dst) (a .src) (s .pre .0) (a .k) (s .pre .1)),
     )
-
-same-length : tie.Need-same-length
-same-length c = search needs
 
 returns : tie.Need-returns
 returns c =
@@ -55,11 +40,11 @@ pub copy-if-spec : {M : Type 1} → statement M
 copy-if-spec =
     tie.close
     (tie.spec
-    cast-has
-    has-requires
-    key-at-requires
-    key-at-requires-2
+    (λ c. search needs)
+    (λ c κs. search needs)
+    (λ c κs. search needs)
+    (λ c κs. search needs)
     copy-version-requires
-    same-length
+    (λ c. search needs)
     returns
     returns-2)

@@ -22,20 +22,11 @@ loop-holds : tie.Need-loop-holds Inv-loop μ-loop
 unfolding maskBelow
 loop-holds c = (omega arith, refl)
 
-held-requires : tie.Need-held-requires Inv-loop μ-loop
-held-requires c κs = search needs
-
 cast-with-if : tie.Need-cast-with-if Inv-loop μ-loop
 cast-with-if c = omega (arith, c .before .before .before .before .pre .ranged)
 
 with-if-requires : tie.Need-with-if-requires Inv-loop μ-loop
 with-if-requires c κs = omega (arith, c .before .before .before .before .pre .ranged)
-
-add-k : tie.Need-add-k Inv-loop μ-loop
-add-k c = omega arith
-
-loop-less : tie.Need-loop-less Inv-loop μ-loop
-loop-less c = omega arith
 
 loop-again : tie.Need-loop-again Inv-loop μ-loop
 loop-again c =
@@ -57,10 +48,10 @@ held-mask-spec =
     Inv-loop
     μ-loop
     loop-holds
-    held-requires
+    (λ c κs. search needs)
     cast-with-if
     with-if-requires
-    add-k
-    loop-less
+    (λ c. omega arith)
+    (λ c. omega arith)
     loop-again
     returns)

@@ -11,18 +11,9 @@ use Rattle.version.proofs.Areas.{row-in, standing-word}
 use Rattle.version.proofs.meets.Statement.{statement}
 use Rattle.version.proofs.meets.Tie as tie
 
-held-requires : tie.Need-held-requires
-held-requires c κs = search needs
-
 returns : tie.Need-returns
 unfolding supersedes
 returns c = rw (sym (c .before .held .ensures) ∙ not-true _ (c .if1 .taken))
-
-row-of-requires : tie.Need-row-of-requires
-row-of-requires c κs = search needs
-
-row-of-requires-2 : tie.Need-row-of-requires-2
-row-of-requires-2 c κs = search needs
 
 compare-requires : tie.Need-compare-requires
 compare-requires c κs =
@@ -33,9 +24,6 @@ compare-requires c κs =
     let own = row-in n (a .z) (a .target) (s .pre .0 .0) (a .d) (a .d) d d in
     let need = row-in n (a .z) (a .source) (s .pre .0 .1) (a .t) (a .d) (s .pre .1 .1) d in
     rw (c .row-of2 .ensures, c .before .row-of .ensures) (omega arith, omega arith)
-
-covering-requires : tie.Need-covering-requires
-covering-requires c κs = search needs
 
 returns-2 : tie.Need-returns-2
 unfolding supersedes dominates
@@ -59,10 +47,10 @@ pub meets-spec : {M : Type 1} → statement M
 meets-spec =
     tie.close
     (tie.spec
-    held-requires
+    (λ c κs. search needs)
     returns
-    row-of-requires
-    row-of-requires-2
+    (λ c κs. search needs)
+    (λ c κs. search needs)
     compare-requires
-    covering-requires
+    (λ c κs. search needs)
     returns-2)

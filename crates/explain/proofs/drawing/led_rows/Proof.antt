@@ -39,21 +39,6 @@ loop-holds : tie.Need-loop-holds Inv-loop μ-loop
 unfolding put noItems
 loop-holds c = (omega arith, refl, refl)
 
-led-if-requires : tie.Need-led-if-requires Inv-loop μ-loop
-led-if-requires c κs = search needs
-
-mul-rows : tie.Need-mul-rows Inv-loop μ-loop
-mul-rows c = omega (arith, ranged (c .before .before .before .before))
-
-array-write-rows : tie.Need-array-write-rows Inv-loop μ-loop
-array-write-rows c = omega (arith, ranged (c .before .before .before .before))
-
-add-t : tie.Need-add-t Inv-loop μ-loop
-add-t c = omega arith
-
-loop-less : tie.Need-loop-less Inv-loop μ-loop
-loop-less c = omega arith
-
 loop-again : tie.Need-loop-again Inv-loop μ-loop
 loop-again c =
     let l = c .before .before in (
@@ -78,10 +63,10 @@ led-rows-spec =
     Inv-loop
     μ-loop
     loop-holds
-    led-if-requires
-    mul-rows
-    array-write-rows
-    add-t
-    loop-less
+    (λ c κs. search needs)
+    (λ c. omega (arith, ranged (c .before .before .before .before)))
+    (λ c. omega (arith, ranged (c .before .before .before .before)))
+    (λ c. omega arith)
+    (λ c. omega arith)
     loop-again
     returns)

@@ -15,12 +15,6 @@ led-rows-requires c κs =
     let A = c .before .pre .area in
     record { target-in = A .target-in; first-in = A .first-in; second-in = A .second-in }
 
-lacking-requires : tie.Need-lacking-requires
-lacking-requires c κs = search needs
-
-slice-aggregate-shortest-path : tie.Need-slice-aggregate-shortest-path
-slice-aggregate-shortest-path c = search needs
-
 shortest-path-requires : tie.Need-shortest-path-requires
 unfolding drawnEdge
 shortest-path-requires c κs =
@@ -48,7 +42,7 @@ path-of-spec =
     tie.close
     (tie.spec
     led-rows-requires
-    lacking-requires
-    slice-aggregate-shortest-path
+    (λ c κs. search needs)
+    (λ c. search needs)
     shortest-path-requires
     returns)

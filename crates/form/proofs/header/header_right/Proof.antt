@@ -6,24 +6,6 @@ use Rattle.layout.specs.Buffer.{headerRight}
 use Rattle.form.proofs.header.header_right.Statement.{statement}
 use Rattle.form.proofs.header.header_right.Tie as tie
 
-areas-requires : tie.Need-areas-requires
-areas-requires c κs = search needs
-
-word-is-requires : tie.Need-word-is-requires
-word-is-requires c κs = search needs
-
-word-is-requires-2 : tie.Need-word-is-requires-2
-word-is-requires-2 c κs = search needs
-
-word-is-requires-3 : tie.Need-word-is-requires-3
-word-is-requires-3 c κs = search needs
-
-word-is-requires-4 : tie.Need-word-is-requires-4
-word-is-requires-4 c κs = search needs
-
-word-is-requires-5 : tie.Need-word-is-requires-5
-word-is-requires-5 c κs = search needs
-
 returns : tie.Need-returns
 unfolding headerRight sizesOf
 returns c =
@@ -44,10 +26,10 @@ pub header-right-spec : {M : Type 1} → statement M
 header-right-spec =
     tie.close
     (tie.spec
-    areas-requires
-    word-is-requires
-    word-is-requires-2
-    word-is-requires-3
-    word-is-requires-4
-    word-is-requires-5
+    (λ c κs. search needs)
+    (λ c κs. search needs)
+    (λ c κs. search needs)
+    (λ c κs. search needs)
+    (λ c κs. search needs)
+    (λ c κs. search needs)
     returns)

@@ -15,12 +15,6 @@ returns : tie.Need-returns
 unfolding shaped
 returns c = rw (lt-leb _ _ (c .if1 .taken))
 
-counts-requires : tie.Need-counts-requires
-counts-requires c κs = search needs
-
-is-ranged-requires : tie.Need-is-ranged-requires
-is-ranged-requires c κs = search needs
-
 returns-2 : tie.Need-returns-2
 unfolding shaped
 returns-2 c =
@@ -59,8 +53,8 @@ shaped-spec =
     tie.close
     (tie.spec
     returns
-    counts-requires
-    is-ranged-requires
+    (λ c κs. search needs)
+    (λ c κs. search needs)
     returns-2
     header-right-requires
     fits-requires

@@ -20,39 +20,6 @@ inside c =
     let a = s .args in
     omega (arith, job-lies (a .at) (a .i) (s .pre .1 .1) .1, c .job-at .ensures, s .pre .1 .0)
 
-job-at-requires : tie.Need-job-at-requires
-job-at-requires c κs = search needs
-
-mul-site : tie.Need-mul-site
-mul-site c = omega (arith, inside c)
-
-shared-slice-read-site : tie.Need-shared-slice-read-site
-shared-slice-read-site c = omega (arith, inside (c .before))
-
-add-reads : tie.Need-add-reads
-add-reads c = omega (arith, inside (c .before))
-
-mul-reads : tie.Need-mul-reads
-mul-reads c = omega (arith, inside (c .before))
-
-shared-slice-read-reads : tie.Need-shared-slice-read-reads
-shared-slice-read-reads c = omega (arith, inside (c .before .before))
-
-add-upstream : tie.Need-add-upstream
-add-upstream c = omega (arith, inside (c .before .before))
-
-mul-upstream : tie.Need-mul-upstream
-mul-upstream c = omega (arith, inside (c .before .before))
-
-shared-slice-read-upstream : tie.Need-shared-slice-read-upstream
-shared-slice-read-upstream c = omega (arith, inside (c .before .before .before))
-
-valid-job-requires : tie.Need-valid-job-requires
-valid-job-requires c κs = search needs
-
-zero-job-requires : tie.Need-zero-job-requires
-zero-job-requires c κs = search needs
-
 returns : tie.Need-returns
 unfolding jobFormed
 returns c =
@@ -77,16 +44,16 @@ pub job-formed-spec : {M : Type 1} → statement M
 job-formed-spec =
     tie.close
     (tie.spec
-    job-at-requires
-    mul-site
-    shared-slice-read-site
-    add-reads
-    mul-reads
-    shared-slice-read-reads
-    add-upstream
-    mul-upstream
-    shared-slice-read-upstream
-    valid-job-requires
-    zero-job-requires
+    (λ c κs. search needs)
+    (λ c. omega (arith, inside c))
+    (λ c. omega (arith, inside (c .before)))
+    (λ c. omega (arith, inside (c .before)))
+    (λ c. omega (arith, inside (c .before)))
+    (λ c. omega (arith, inside (c .before .before)))
+    (λ c. omega (arith, inside (c .before .before)))
+    (λ c. omega (arith, inside (c .before .before)))
+    (λ c. omega (arith, inside (c .before .before .before)))
+    (λ c κs. search needs)
+    (λ c κs. search needs)
     returns
     returns-2)

@@ -26,12 +26,6 @@ loop-holds : tie.Need-loop-holds Inv-loop μ-loop
 unfolding unionBelow readsOf
 loop-holds c = (omega arith, refl)
 
-wide-requires : tie.Need-wide-requires Inv-loop μ-loop
-wide-requires c κs = search needs
-
-job-at-requires : tie.Need-job-at-requires Inv-loop μ-loop
-job-at-requires c κs = search needs
-
 -- The three words of the job lie in the buffer.
 inside : (c : tie.After-job-at Inv-loop μ-loop)
     → let l = c .before .before .before in
@@ -44,27 +38,6 @@ inside c =
     let j = w .wide .result in
     let low : j < maxJobs = omega (arith, s .pre .1, w .wide .ensures) in
     omega (arith, job-lies (a .at) j low .1, c .job-at .ensures, s .pre .0)
-
-has-requires : tie.Need-has-requires Inv-loop μ-loop
-has-requires c κs = omega arith
-
-add-mask-if : tie.Need-add-mask-if Inv-loop μ-loop
-add-mask-if c = omega (arith, inside (c .before))
-
-mul-mask-if : tie.Need-mul-mask-if Inv-loop μ-loop
-mul-mask-if c = omega (arith, inside (c .before))
-
-shared-slice-read-mask-if : tie.Need-shared-slice-read-mask-if Inv-loop μ-loop
-shared-slice-read-mask-if c = omega (arith, inside (c .before .before))
-
-mask-if-requires : tie.Need-mask-if-requires Inv-loop μ-loop
-mask-if-requires c κs = search needs
-
-add-j : tie.Need-add-j Inv-loop μ-loop
-add-j c = omega arith
-
-loop-less : tie.Need-loop-less Inv-loop μ-loop
-loop-less c = omega arith
 
 loop-again : tie.Need-loop-again Inv-loop μ-loop
 loop-again c =
@@ -98,14 +71,14 @@ reads-of-spec =
     Inv-loop
     μ-loop
     loop-holds
-    wide-requires
-    job-at-requires
-    has-requires
-    add-mask-if
-    mul-mask-if
-    shared-slice-read-mask-if
-    mask-if-requires
-    add-j
-    loop-less
+    (λ c κs. search needs)
+    (λ c κs. search needs)
+    (λ c κs. omega arith)
+    (λ c. omega (arith, inside (c .before)))
+    (λ c. omega (arith, inside (c .before)))
+    (λ c. omega (arith, inside (c .before .before)))
+    (λ c κs. search needs)
+    (λ c. omega arith)
+    (λ c. omega arith)
     loop-again
     returns)

@@ -33,9 +33,6 @@ loop-holds : tie.Need-loop-holds Inv-loop μ-loop
 unfolding allBelow
 loop-holds c = (omega arith, refl)
 
-version-formed-requires : tie.Need-version-formed-requires Inv-loop μ-loop
-version-formed-requires c κs = search needs
-
 returns : tie.Need-returns Inv-loop μ-loop
 unfolding placeFormed
 returns c =
@@ -43,12 +40,6 @@ returns c =
     let z = l .before .before .args .z in
     let e = c .before .version-formed .ensures in
     loop-fails (z .keys) (tests l) (l .loop .k) _ (omega arith) e (c .if1 .taken)
-
-add-k : tie.Need-add-k Inv-loop μ-loop
-add-k c = omega arith
-
-loop-less : tie.Need-loop-less Inv-loop μ-loop
-loop-less c = omega arith
 
 loop-again : tie.Need-loop-again Inv-loop μ-loop
 loop-again c =
@@ -70,9 +61,9 @@ place-formed-spec =
     Inv-loop
     μ-loop
     loop-holds
-    version-formed-requires
+    (λ c κs. search needs)
     returns
-    add-k
-    loop-less
+    (λ c. omega arith)
+    (λ c. omega arith)
     loop-again
     returns-2)

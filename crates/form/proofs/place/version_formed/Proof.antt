@@ -9,21 +9,6 @@ use Rattle.model.specs.Form.{zeroVersion, versionFormed}
 use Rattle.form.proofs.place.version_formed.Statement.{statement}
 use Rattle.form.proofs.place.version_formed.Tie as tie
 
-leaders-of-requires : tie.Need-leaders-of-requires
-leaders-of-requires c κs = search needs
-
-held-requires : tie.Need-held-requires
-held-requires c κs = search needs
-
-leaders-formed-requires : tie.Need-leaders-formed-requires
-leaders-formed-requires c κs = search needs
-
-has-row-requires : tie.Need-has-row-requires
-has-row-requires c κs = search needs
-
-zero-rows-requires : tie.Need-zero-rows-requires
-zero-rows-requires c κs = search needs
-
 returns : tie.Need-returns
 unfolding versionFormed
 returns c =
@@ -50,10 +35,10 @@ pub version-formed-spec : {M : Type 1} → statement M
 version-formed-spec =
     tie.close
     (tie.spec
-    leaders-of-requires
-    held-requires
-    leaders-formed-requires
-    has-row-requires
-    zero-rows-requires
+    (λ c κs. search needs)
+    (λ c κs. search needs)
+    (λ c κs. search needs)
+    (λ c κs. search needs)
+    (λ c κs. search needs)
     returns
     returns-2)

@@ -5,36 +5,6 @@ use Rattle.form.proofs.Snapshots.{free-test}
 use Rattle.form.proofs.run.free_formed.Statement.{statement}
 use Rattle.form.proofs.run.free_formed.Tie as tie
 
-add-word-is : tie.Need-add-word-is
-add-word-is c = search needs
-
-word-is-requires : tie.Need-word-is-requires
-word-is-requires c κs = search needs
-
-add-word-is-2 : tie.Need-add-word-is-2
-add-word-is-2 c = search needs
-
-word-is-requires-2 : tie.Need-word-is-requires-2
-word-is-requires-2 c κs = search needs
-
-add-word-is-3 : tie.Need-add-word-is-3
-add-word-is-3 c = search needs
-
-word-is-requires-3 : tie.Need-word-is-requires-3
-word-is-requires-3 c κs = search needs
-
-add-each-job : tie.Need-add-each-job
-add-each-job c = search needs
-
-each-job-requires : tie.Need-each-job-requires
-each-job-requires c κs = search needs
-
-add-is-empty : tie.Need-add-is-empty
-add-is-empty c = search needs
-
-is-empty-requires : tie.Need-is-empty-requires
-is-empty-requires c κs = search needs
-
 returns : tie.Need-returns
 returns c =
     let j = c .before in
@@ -54,14 +24,14 @@ pub free-formed-spec : {M : Type 1} → statement M
 free-formed-spec =
     tie.close
     (tie.spec
-    add-word-is
-    word-is-requires
-    add-word-is-2
-    word-is-requires-2
-    add-word-is-3
-    word-is-requires-3
-    add-each-job
-    each-job-requires
-    add-is-empty
-    is-empty-requires
+    (λ c. search needs)
+    (λ c κs. search needs)
+    (λ c. search needs)
+    (λ c κs. search needs)
+    (λ c. search needs)
+    (λ c κs. search needs)
+    (λ c. search needs)
+    (λ c κs. search needs)
+    (λ c. search needs)
+    (λ c κs. search needs)
     returns)

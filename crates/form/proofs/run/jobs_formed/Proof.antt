@@ -6,24 +6,6 @@ use Rattle.form.proofs.Masks.{jobs-test}
 use Rattle.form.proofs.run.jobs_formed.Statement.{statement}
 use Rattle.form.proofs.run.jobs_formed.Tie as tie
 
-add-wide : tie.Need-add-wide
-add-wide c = search needs
-
-mul-wide : tie.Need-mul-wide
-mul-wide c = search needs
-
-shared-slice-read-wide : tie.Need-shared-slice-read-wide
-shared-slice-read-wide c = omega arith
-
-wide-requires : tie.Need-wide-requires
-wide-requires c κs = search needs
-
-is-between-requires : tie.Need-is-between-requires
-is-between-requires c κs = search needs
-
-add-each-job : tie.Need-add-each-job
-add-each-job c = search needs
-
 each-job-requires : tie.Need-each-job-requires
 each-job-requires c κs =
     let p = c .before .before .before .before .pre in (p .ranged, omega arith)
@@ -40,11 +22,11 @@ pub jobs-formed-spec : {M : Type 1} → statement M
 jobs-formed-spec =
     tie.close
     (tie.spec
-    add-wide
-    mul-wide
-    shared-slice-read-wide
-    wide-requires
-    is-between-requires
-    add-each-job
+    (λ c. search needs)
+    (λ c. search needs)
+    (λ c. omega arith)
+    (λ c κs. search needs)
+    (λ c κs. search needs)
+    (λ c. search needs)
     each-job-requires
     returns)

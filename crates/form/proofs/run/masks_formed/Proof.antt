@@ -12,45 +12,12 @@ use Rattle.form.proofs.run.masks_formed.Tie as tie
 most : (c : tie.Start) → let a = c .args in getD (a .words .now) (a .at + jobsOffset) 0 ≤ maxJobs
 most c = jobs-most (c .args .z) (c .args .words .now) (c .args .at) (c .pre .1)
 
-add-n : tie.Need-add-n
-add-n c = search needs
-
-mul-n : tie.Need-mul-n
-mul-n c = search needs
-
-shared-slice-read-n : tie.Need-shared-slice-read-n
-shared-slice-read-n c = omega arith
-
-add-done : tie.Need-add-done
-add-done c = search needs
-
-mul-done : tie.Need-mul-done
-mul-done c = search needs
-
-shared-slice-read-done : tie.Need-shared-slice-read-done
-shared-slice-read-done c = omega arith
-
-add-reads-of : tie.Need-add-reads-of
-add-reads-of c = search needs
-
 reads-of-requires : tie.Need-reads-of-requires
 reads-of-requires c κs = (omega arith, most (c .before .before .before))
-
-wide-requires : tie.Need-wide-requires
-wide-requires c κs = search needs
 
 is-below-requires : tie.Need-is-below-requires
 is-below-requires c κs =
     omega (arith, c .wide .ensures, most (c .before .before .before .before .before))
-
-add-result : tie.Need-add-result
-add-result c = search needs
-
-mul-result : tie.Need-mul-result
-mul-result c = search needs
-
-shared-slice-read-result : tie.Need-shared-slice-read-result
-shared-slice-read-result c = omega arith
 
 returns : tie.Need-returns
 returns c =
@@ -65,17 +32,17 @@ pub masks-formed-spec : {M : Type 1} → statement M
 masks-formed-spec =
     tie.close
     (tie.spec
-    add-n
-    mul-n
-    shared-slice-read-n
-    add-done
-    mul-done
-    shared-slice-read-done
-    add-reads-of
+    (λ c. search needs)
+    (λ c. search needs)
+    (λ c. omega arith)
+    (λ c. search needs)
+    (λ c. search needs)
+    (λ c. omega arith)
+    (λ c. search needs)
     reads-of-requires
-    wide-requires
+    (λ c κs. search needs)
     is-below-requires
-    add-result
-    mul-result
-    shared-slice-read-result
+    (λ c. search needs)
+    (λ c. search needs)
+    (λ c. omega arith)
     returns)

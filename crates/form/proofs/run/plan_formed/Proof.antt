@@ -10,9 +10,6 @@ use Rattle.layout.specs.Reading.{readRun}
 use Rattle.form.proofs.run.plan_formed.Statement.{statement}
 use Rattle.form.proofs.run.plan_formed.Tie as tie
 
-jobs-formed-requires : tie.Need-jobs-formed-requires
-jobs-formed-requires c κs = search needs
-
 -- The run of the call.
 abbrev theRun : tie.Start → Run
 theRun s = let a = s .args in readRun (a .z) (a .words .now) (a .at)
@@ -49,7 +46,7 @@ pub plan-formed-spec : {M : Type 1} → statement M
 plan-formed-spec =
     tie.close
     (tie.spec
-    jobs-formed-requires
+    (λ c κs. search needs)
     returns
     masks-formed-requires
     returns-2

@@ -7,18 +7,6 @@ use Rattle.layout.specs.Reading.{readRun}
 use Rattle.form.proofs.run.run_formed.Statement.{statement}
 use Rattle.form.proofs.run.run_formed.Tie as tie
 
-mul-state : tie.Need-mul-state
-mul-state c = search needs
-
-shared-slice-read-state : tie.Need-shared-slice-read-state
-shared-slice-read-state c = search needs
-
-free-formed-requires : tie.Need-free-formed-requires
-free-formed-requires c κs = search needs
-
-plan-formed-requires : tie.Need-plan-formed-requires
-plan-formed-requires c κs = search needs
-
 returns : tie.Need-returns
 unfolding runFormed readRun
 returns c = rw (eq-eqb _ _ (c .before .if1 .taken)) (c .free-formed .ensures)
@@ -31,9 +19,9 @@ pub run-formed-spec : {M : Type 1} → statement M
 run-formed-spec =
     tie.close
     (tie.spec
-    mul-state
-    shared-slice-read-state
-    free-formed-requires
-    plan-formed-requires
+    (λ c. search needs)
+    (λ c. search needs)
+    (λ c κs. search needs)
+    (λ c κs. search needs)
     returns
     returns-2)

@@ -9,9 +9,6 @@ use Rattle.version.proofs.Areas.{site-cache, mark-in}
 use Rattle.form.proofs.site.site_formed.Statement.{statement}
 use Rattle.form.proofs.site.site_formed.Tie as tie
 
-stale-at-requires : tie.Need-stale-at-requires
-stale-at-requires c κs = search needs
-
 stale-mask-requires : tie.Need-stale-mask-requires
 stale-mask-requires c κs =
     let s = c .before .before in
@@ -46,7 +43,7 @@ pub site-formed-spec : {M : Type 1} → statement M
 site-formed-spec =
     tie.close
     (tie.spec
-    stale-at-requires
+    (λ c κs. search needs)
     stale-mask-requires
     place-formed-requires
     mul-result

@@ -35,12 +35,6 @@ mark-site-requires c κs =
     rw (l .loop .inv .1)
     (s .pre .0, rw (m .site-at .ensures) (site-whole _ _ (A .ranged) (A .fits) _ (omega arith)))
 
-add-o : tie.Need-add-o Inv-loop μ-loop
-add-o c = omega arith
-
-loop-less : tie.Need-loop-less Inv-loop μ-loop
-loop-less c = omega arith
-
 loop-again : tie.Need-loop-again Inv-loop μ-loop
 loop-again c =
     let b = c .before .before in
@@ -50,9 +44,6 @@ loop-again c =
       b .mark-site .kept .0 ∙ l .loop .inv .1,
       rw (fold-more, ← l .loop .inv .2, ← m .site-at .ensures) (b .mark-site .ensures),
     )
-
-same-length : tie.Need-same-length Inv-loop μ-loop
-same-length c = c .before .loop .inv .1
 
 returns : tie.Need-returns Inv-loop μ-loop
 returns c =
@@ -70,8 +61,8 @@ mark-sites-spec =
     loop-holds
     site-at-requires
     mark-site-requires
-    add-o
-    loop-less
+    (λ c. omega arith)
+    (λ c. omega arith)
     loop-again
-    same-length
+    (λ c. c .before .loop .inv .1)
     returns)

@@ -9,15 +9,6 @@ use Rattle.issue.proofs.Masters.{save-yes}
 use Rattle.issue.proofs.past.merge_if.Statement.{statement}
 use Rattle.issue.proofs.past.merge_if.Tie as tie
 
-cast-has : tie.Need-cast-has
-cast-has c = search needs
-
-has-requires : tie.Need-has-requires
-has-requires c κs = search needs
-
-key-at-requires : tie.Need-key-at-requires
-key-at-requires c κs = search needs
-
 writer-row-at-requires : tie.Need-writer-row-at-requires
 writer-row-at-requires c κs =
     let s = c .before .before .before .before in
@@ -32,9 +23,6 @@ merge-version-requires c κs =
     let a = s .args in
     rw (k .key-at .ensures, r .writer-row-at .ensures ∙ writer-row-first _ _)
     (save-room _ (a .z) (a .place) (a .at) (a .k) (s .pre .0) (s .pre .1), s .pre .1)
-
-same-length : tie.Need-same-length
-same-length c = search needs
 
 returns : tie.Need-returns
 returns c =
@@ -60,11 +48,11 @@ pub merge-if-spec : {M : Type 1} → statement M
 merge-if-spec =
     tie.close
     (tie.spec
-    cast-has
-    has-requires
-    key-at-requires
+    (λ c. search needs)
+    (λ c κs. search needs)
+    (λ c κs. search needs)
     writer-row-at-requires
     merge-version-requires
-    same-length
+    (λ c. search needs)
     returns
     returns-2)

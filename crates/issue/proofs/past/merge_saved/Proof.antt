@@ -21,12 +21,6 @@ Inv-loop words₀ z place at w mask number leaders n k₀ words k =
 abbrev μ-loop : tie.MeasureT-loop
 μ-loop words₀ z place at w mask number leaders n k₀ words k = n - k
 
-cast-leaders : tie.Need-cast-leaders Inv-loop μ-loop
-cast-leaders c = omega (arith, c .before .pre .0 .ranged)
-
-shl-leaders : tie.Need-shl-leaders Inv-loop μ-loop
-shl-leaders c = omega (arith, c .before .pre .0 .ranged)
-
 loop-holds : tie.Need-loop-holds Inv-loop μ-loop
 unfolding foldBelow
 loop-holds c = (omega arith, refl, refl)
@@ -37,12 +31,6 @@ merge-if-requires c κs =
     let s = l .before .before in
     (rw (l .loop .inv .1) (s .pre .0), omega arith)
 
-add-k : tie.Need-add-k Inv-loop μ-loop
-add-k c = omega arith
-
-loop-less : tie.Need-loop-less Inv-loop μ-loop
-loop-less c = omega arith
-
 loop-again : tie.Need-loop-again Inv-loop μ-loop
 loop-again c =
     let b = c .before .before in
@@ -51,9 +39,6 @@ loop-again c =
       b .merge-if .kept .0 ∙ l .loop .inv .1,
       rw (fold-more, ← l .loop .inv .2) (b .merge-if .ensures),
     )
-
-same-length : tie.Need-same-length Inv-loop μ-loop
-same-length c = c .before .loop .inv .1
 
 returns : tie.Need-returns Inv-loop μ-loop
 unfolding newVersion
@@ -75,12 +60,12 @@ merge-saved-spec =
     (tie.spec
     Inv-loop
     μ-loop
-    cast-leaders
-    shl-leaders
+    (λ c. omega (arith, c .before .pre .0 .ranged))
+    (λ c. omega (arith, c .before .pre .0 .ranged))
     loop-holds
     merge-if-requires
-    add-k
-    loop-less
+    (λ c. omega arith)
+    (λ c. omega arith)
     loop-again
-    same-length
+    (λ c. c .before .loop .inv .1)
     returns)

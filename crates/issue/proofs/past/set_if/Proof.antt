@@ -10,15 +10,6 @@ use Rattle.issue.proofs.Writers.{row-yes, row-no}
 use Rattle.issue.proofs.past.set_if.Statement.{statement}
 use Rattle.issue.proofs.past.set_if.Tie as tie
 
-cast-has : tie.Need-cast-has
-cast-has c = search needs
-
-has-requires : tie.Need-has-requires
-has-requires c κs = search needs
-
-writer-row-at-requires : tie.Need-writer-row-at-requires
-writer-row-at-requires c κs = search needs
-
 here : (c : tie.After-writer-row-at) → let a = c .before .before .before .before .args in
     c .writer-row-at .result + a .w < length (a .words .now)
 here c =
@@ -27,14 +18,8 @@ here c =
     rw (c .writer-row-at .ensures)
     (row-room _ (a .z) (a .at) (a .k) (a .w) (s .pre .0 .fits) (s .pre .1 .1) (s .pre .1 .0))
 
-add-set-count : tie.Need-add-set-count
-add-set-count c = omega (arith, here (c .before))
-
 set-count-requires : tie.Need-set-count-requires
 set-count-requires c κs = here (c .before)
-
-same-length : tie.Need-same-length
-same-length c = search needs
 
 returns : tie.Need-returns
 returns c =
@@ -57,11 +42,11 @@ pub set-if-spec : {M : Type 1} → statement M
 set-if-spec =
     tie.close
     (tie.spec
-    cast-has
-    has-requires
-    writer-row-at-requires
-    add-set-count
+    (λ c. search needs)
+    (λ c κs. search needs)
+    (λ c κs. search needs)
+    (λ c. omega (arith, here (c .before)))
     set-count-requires
-    same-length
+    (λ c. search needs)
     returns
     returns-2)

@@ -29,12 +29,6 @@ set-if-requires c κs =
     let s = l .before .before in
     (rw (l .loop .inv .1) (s .pre .0), (s .pre .1, omega arith))
 
-add-k : tie.Need-add-k Inv-loop μ-loop
-add-k c = omega arith
-
-loop-less : tie.Need-loop-less Inv-loop μ-loop
-loop-less c = omega arith
-
 loop-again : tie.Need-loop-again Inv-loop μ-loop
 loop-again c =
     let b = c .before .before in
@@ -43,9 +37,6 @@ loop-again c =
       b .set-if .kept .0 ∙ l .loop .inv .1,
       rw (fold-more, ← l .loop .inv .2) (b .set-if .ensures),
     )
-
-same-length : tie.Need-same-length Inv-loop μ-loop
-same-length c = c .before .loop .inv .1
 
 returns : tie.Need-returns Inv-loop μ-loop
 returns c =
@@ -66,8 +57,8 @@ set-rows-spec =
     μ-loop
     loop-holds
     set-if-requires
-    add-k
-    loop-less
+    (λ c. omega arith)
+    (λ c. omega arith)
     loop-again
-    same-length
+    (λ c. c .before .loop .inv .1)
     returns)

@@ -11,12 +11,6 @@ use Rattle.issue.proofs.Writers.{take-yes, take-no}
 use Rattle.issue.proofs.past.take_if.Statement.{statement}
 use Rattle.issue.proofs.past.take_if.Tie as tie
 
-cast-has : tie.Need-cast-has
-cast-has c = search needs
-
-has-requires : tie.Need-has-requires
-has-requires c κs = search needs
-
 writer-row-at-requires : tie.Need-writer-row-at-requires
 writer-row-at-requires c κs =
     let s = c .before .before .before in
@@ -40,9 +34,6 @@ merge-past-requires c κs =
           (take-room (length (a .words .now)) (a .z) (a .at) (a .place) (a .k) (s .pre .0)
           (s .pre .1)),
     )
-
-same-length : tie.Need-same-length
-same-length c = search needs
 
 returns : tie.Need-returns
 returns c =
@@ -72,11 +63,11 @@ pub take-if-spec : {M : Type 1} → statement M
 take-if-spec =
     tie.close
     (tie.spec
-    cast-has
-    has-requires
+    (λ c. search needs)
+    (λ c κs. search needs)
     writer-row-at-requires
     row-of-requires
     merge-past-requires
-    same-length
+    (λ c. search needs)
     returns
     returns-2)

@@ -7,24 +7,6 @@ use Rattle.answers.proofs.Fronts.{over-last}
 use Rattle.look.proofs.row.put_front.Statement.{statement}
 use Rattle.look.proofs.row.put_front.Tie as tie
 
-word-requires : tie.Need-word-requires
-word-requires c κs = search needs
-
-put-two-requires : tie.Need-put-two-requires
-put-two-requires c κs = search needs
-
-mul-answer : tie.Need-mul-answer
-mul-answer c = search needs
-
-slice-write-answer : tie.Need-slice-write-answer
-slice-write-answer c = search needs
-
-add-result : tie.Need-add-result
-add-result c = search needs
-
-same-length : tie.Need-same-length
-same-length c = search needs
-
 returns : tie.Need-returns
 returns c =
     let p = c .before .before in
@@ -43,10 +25,10 @@ pub put-front-spec : {M : Type 1} → statement M
 put-front-spec =
     tie.close
     (tie.spec
-    word-requires
-    put-two-requires
-    mul-answer
-    slice-write-answer
-    add-result
-    same-length
+    (λ c κs. search needs)
+    (λ c κs. search needs)
+    (λ c. search needs)
+    (λ c. search needs)
+    (λ c. search needs)
+    (λ c. search needs)
     returns)

@@ -17,30 +17,6 @@ use Rattle.look.specs.Answer.{seen}
 use Rattle.look.proofs.row.put_version.Statement.{statement}
 use Rattle.look.proofs.row.put_version.Tie as tie
 
-put-front-requires : tie.Need-put-front-requires
-put-front-requires c κs = search needs
-
-put-counts-requires : tie.Need-put-counts-requires
-put-counts-requires c κs = search needs
-
-standing-number-requires : tie.Need-standing-number-requires
-standing-number-requires c κs = search needs
-
-add-answer : tie.Need-add-answer
-add-answer c = search needs
-
-mul-answer : tie.Need-mul-answer
-mul-answer c = search needs
-
-slice-write-answer : tie.Need-slice-write-answer
-slice-write-answer c = search needs
-
-add-result : tie.Need-add-result
-add-result c = search needs
-
-add-result-2 : tie.Need-add-result-2
-add-result-2 c = search needs
-
 same-length : tie.Need-same-length
 same-length c =
     let m = c .before .before .before in
@@ -75,13 +51,13 @@ pub put-version-spec : {M : Type 1} → statement M
 put-version-spec =
     tie.close
     (tie.spec
-    put-front-requires
-    put-counts-requires
-    standing-number-requires
-    add-answer
-    mul-answer
-    slice-write-answer
-    add-result
-    add-result-2
+    (λ c κs. search needs)
+    (λ c κs. search needs)
+    (λ c κs. search needs)
+    (λ c. search needs)
+    (λ c. search needs)
+    (λ c. search needs)
+    (λ c. search needs)
+    (λ c. search needs)
     same-length
     returns)

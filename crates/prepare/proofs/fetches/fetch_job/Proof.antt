@@ -12,15 +12,6 @@ use Rattle.prepare.proofs.Fetching.{site-low, start-low, job-stored}
 use Rattle.prepare.proofs.fetches.fetch_job.Statement.{statement}
 use Rattle.prepare.proofs.fetches.fetch_job.Tie as tie
 
-job-of-requires : tie.Need-job-of-requires
-job-of-requires c κs = search needs
-
-job-start-requires : tie.Need-job-start-requires
-job-start-requires c κs = search needs
-
-wide-requires : tie.Need-wide-requires
-wide-requires c κs = search needs
-
 -- The site is that of the job, and one of the store's.
 site : (c : tie.After-wide) → let a = c .before .before .before .before .before .before .args in
     c .wide .result ≡ storeOf (a .words .now) .run (a .r) .job (a .j) .site
@@ -64,9 +55,6 @@ fetch-keys-requires c κs =
       ),
     )
 
-same-length : tie.Need-same-length
-same-length c = search needs
-
 returns : tie.Need-returns
 returns c =
     let k = c .before .before in
@@ -84,11 +72,11 @@ pub fetch-job-spec : {M : Type 1} → statement M
 fetch-job-spec =
     tie.close
     (tie.spec
-    job-of-requires
-    job-start-requires
-    wide-requires
+    (λ c κs. search needs)
+    (λ c κs. search needs)
+    (λ c κs. search needs)
     site-at-requires
     areas-requires
     fetch-keys-requires
-    same-length
+    (λ c. search needs)
     returns)

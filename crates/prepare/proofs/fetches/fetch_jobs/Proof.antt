@@ -20,12 +20,6 @@ Inv-loop words₀ z r n j₀ words j =
 abbrev μ-loop : tie.MeasureT-loop
 μ-loop words₀ z r n j₀ words j = n - j
 
-job-count-requires : tie.Need-job-count-requires Inv-loop μ-loop
-job-count-requires c κs = search needs
-
-wide-requires : tie.Need-wide-requires Inv-loop μ-loop
-wide-requires c κs = search needs
-
 loop-holds : tie.Need-loop-holds Inv-loop μ-loop
 loop-holds c =
     let s = c .before .before .before .before in
@@ -51,12 +45,6 @@ fetch-job-requires c κs =
           (omega arith),
     )
 
-add-j : tie.Need-add-j Inv-loop μ-loop
-add-j c = omega arith
-
-loop-less : tie.Need-loop-less Inv-loop μ-loop
-loop-less c = omega arith
-
 loop-again : tie.Need-loop-again Inv-loop μ-loop
 loop-again c =
     let k = c .before .before in
@@ -70,9 +58,6 @@ loop-again c =
       jobs-turn (a .words .now) (a .z) (a .r) (s .pre) j (omega arith) (l .loop .words)
           (l .loop .inv .2) _ (k .fetch-job .ensures),
     )
-
-same-length : tie.Need-same-length Inv-loop μ-loop
-same-length c = c .before .loop .inv .1
 
 returns : tie.Need-returns Inv-loop μ-loop
 returns c =
@@ -88,12 +73,12 @@ fetch-jobs-spec =
     (tie.spec
     Inv-loop
     μ-loop
-    job-count-requires
-    wide-requires
+    (λ c κs. search needs)
+    (λ c κs. search needs)
     loop-holds
     fetch-job-requires
-    add-j
-    loop-less
+    (λ c. omega arith)
+    (λ c. omega arith)
     loop-again
-    same-length
+    (λ c. c .before .loop .inv .1)
     returns)

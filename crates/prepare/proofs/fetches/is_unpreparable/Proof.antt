@@ -40,12 +40,6 @@ Inv-loop words z r n j₀ j = (j ≤ n) × (anyBelow j (lacks words z r) ≡ fal
 abbrev μ-loop : tie.MeasureT-loop
 μ-loop words z r n j₀ j = n - j
 
-job-count-requires : tie.Need-job-count-requires Inv-loop μ-loop
-job-count-requires c κs = search needs
-
-wide-requires : tie.Need-wide-requires Inv-loop μ-loop
-wide-requires c κs = search needs
-
 loop-holds : tie.Need-loop-holds Inv-loop μ-loop
 unfolding anyBelow
 loop-holds c = (omega arith, refl)
@@ -67,12 +61,6 @@ returns c =
     sym (asked (a .words .now) (a .z) (a .r)
     ∙ any-intro _ (lacks (a .words .now) (a .z) (a .r)) (l .loop .j) (omega arith)
     (sym (c .before .is-lacked .ensures) ∙ c .if1 .taken))
-
-add-j : tie.Need-add-j Inv-loop μ-loop
-add-j c = omega arith
-
-loop-less : tie.Need-loop-less Inv-loop μ-loop
-loop-less c = omega arith
 
 loop-again : tie.Need-loop-again Inv-loop μ-loop
 loop-again c =
@@ -97,12 +85,12 @@ is-unpreparable-spec =
     (tie.spec
     Inv-loop
     μ-loop
-    job-count-requires
-    wide-requires
+    (λ c κs. search needs)
+    (λ c κs. search needs)
     loop-holds
     is-lacked-requires
     returns
-    add-j
-    loop-less
+    (λ c. omega arith)
+    (λ c. omega arith)
     loop-again
     returns-2)

@@ -6,12 +6,6 @@ use Rattle.prepare.proofs.Carrying.{snapshot-in-place, merge-area, run-
 use Rattle.prepare.proofs.merges.merge_run.Statement.{statement}
 use Rattle.prepare.proofs.merges.merge_run.Tie as tie
 
-sites-used-requires : tie.Need-sites-used-requires
-sites-used-requires c κs = search needs
-
-plan-keys-requires : tie.Need-plan-keys-requires
-plan-keys-requires c κs = search needs
-
 snapshot-at-requires : tie.Need-snapshot-at-requires
 snapshot-at-requires c κs =
     let s = c .before .before .before .before .before in
@@ -32,9 +26,6 @@ merge-sites-requires c κs =
     merge-area (a .words .now) (a .z) (a .r) (s .pre) _ (t .snapshot-at .ensures) _
     (k .clear-place .ensures)
 
-same-length : tie.Need-same-length
-same-length c = search needs
-
 returns : tie.Need-returns
 returns c =
     let m = c .before .before in
@@ -52,10 +43,10 @@ pub merge-run-spec : {M : Type 1} → statement M
 merge-run-spec =
     tie.close
     (tie.spec
-    sites-used-requires
-    plan-keys-requires
+    (λ c κs. search needs)
+    (λ c κs. search needs)
     snapshot-at-requires
     clear-place-requires
     merge-sites-requires
-    same-length
+    (λ c. search needs)
     returns)

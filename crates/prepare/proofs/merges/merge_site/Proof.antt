@@ -6,22 +6,10 @@ use Rattle.prepare.proofs.Merging.{site-merged, site-passed}
 use Rattle.prepare.proofs.merges.merge_site.Statement.{statement}
 use Rattle.prepare.proofs.merges.merge_site.Tie as tie
 
-cast-has : tie.Need-cast-has
-cast-has c = search needs
-
-has-requires : tie.Need-has-requires
-has-requires c κs = search needs
-
-site-at-requires : tie.Need-site-at-requires
-site-at-requires c κs = search needs
-
 merge-keys-requires : tie.Need-merge-keys-requires
 merge-keys-requires c κs =
     let s = c .before .before .before .before .before in
     rw (c .before .site-at .ensures) (s .pre .0)
-
-same-length : tie.Need-same-length
-same-length c = search needs
 
 returns : tie.Need-returns
 returns c =
@@ -43,10 +31,10 @@ pub merge-site-spec : {M : Type 1} → statement M
 merge-site-spec =
     tie.close
     (tie.spec
-    cast-has
-    has-requires
-    site-at-requires
+    (λ c. search needs)
+    (λ c κs. search needs)
+    (λ c κs. search needs)
     merge-keys-requires
-    same-length
+    (λ c. search needs)
     returns
     returns-2)

@@ -34,12 +34,6 @@ merge-site-requires c κs =
     let lies = merge-lies (a .z) (a .words .now) (a .snapshot) (a .sites) (a .plan) (s .pre) in
     (rw (l .loop .inv .1) (lies (l .loop .o) (omega arith)), omega arith)
 
-add-o : tie.Need-add-o Inv-loop μ-loop
-add-o c = omega arith
-
-loop-less : tie.Need-loop-less Inv-loop μ-loop
-loop-less c = omega arith
-
 loop-again : tie.Need-loop-again Inv-loop μ-loop
 loop-again c =
     let k = c .before .before in
@@ -51,9 +45,6 @@ loop-again c =
       merge-turn (a .z) (a .words .now) (a .snapshot) (a .sites) (a .plan) (s .pre) (l .loop .o)
           (omega arith) (l .loop .words) (l .loop .inv .2) _ (k .merge-site .ensures),
     )
-
-same-length : tie.Need-same-length Inv-loop μ-loop
-same-length c = c .before .loop .inv .1
 
 returns : tie.Need-returns Inv-loop μ-loop
 returns c =
@@ -72,8 +63,8 @@ merge-sites-spec =
     μ-loop
     loop-holds
     merge-site-requires
-    add-o
-    loop-less
+    (λ c. omega arith)
+    (λ c. omega arith)
     loop-again
-    same-length
+    (λ c. c .before .loop .inv .1)
     returns)

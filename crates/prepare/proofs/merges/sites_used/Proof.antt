@@ -19,12 +19,6 @@ Inv-loop words z r n mask₀ j₀ mask j =
 abbrev μ-loop : tie.MeasureT-loop
 μ-loop words z r n mask₀ j₀ mask j = n - j
 
-job-count-requires : tie.Need-job-count-requires Inv-loop μ-loop
-job-count-requires c κs = search needs
-
-wide-requires : tie.Need-wide-requires Inv-loop μ-loop
-wide-requires c κs = search needs
-
 loop-holds : tie.Need-loop-holds Inv-loop μ-loop
 loop-holds c = (omega arith, uses-none _)
 
@@ -46,12 +40,6 @@ with-item-requires c κs =
     let K = jobs-known (a .words .now) (a .z) (a .r) (s .pre) in
     let J = job-known (a .words .now) (a .z) (a .r) (s .pre) (l .loop .j) (omega arith) in
     rw (c .job-of .ensures) (omega (arith, J .site, K .area .ranged .sites-high))
-
-add-j : tie.Need-add-j Inv-loop μ-loop
-add-j c = omega arith
-
-loop-less : tie.Need-loop-less Inv-loop μ-loop
-loop-less c = omega arith
 
 loop-again : tie.Need-loop-again Inv-loop μ-loop
 loop-again c =
@@ -77,12 +65,12 @@ sites-used-spec =
     (tie.spec
     Inv-loop
     μ-loop
-    job-count-requires
-    wide-requires
+    (λ c κs. search needs)
+    (λ c κs. search needs)
     loop-holds
     job-of-requires
     with-item-requires
-    add-j
-    loop-less
+    (λ c. omega arith)
+    (λ c. omega arith)
     loop-again
     returns)

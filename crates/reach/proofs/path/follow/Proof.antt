@@ -60,30 +60,6 @@ turn c =
           (c .lowest-item .result) (s .pre .0 .1) (s .pre .1 .0) (c .lowest-item .ensures),
     )
 
-mul-lowest-item : tie.Need-mul-lowest-item Inv-loop μ-loop
-mul-lowest-item c = omega arith
-
-shared-slice-read-lowest-item : tie.Need-shared-slice-read-lowest-item Inv-loop μ-loop
-shared-slice-read-lowest-item c = omega arith
-
-cast-lowest-item : tie.Need-cast-lowest-item Inv-loop μ-loop
-cast-lowest-item c = omega arith
-
-lowest-item-requires : tie.Need-lowest-item-requires Inv-loop μ-loop
-lowest-item-requires c κs = omega arith
-
-mul-items : tie.Need-mul-items Inv-loop μ-loop
-mul-items c = omega arith
-
-array-write-items : tie.Need-array-write-items Inv-loop μ-loop
-array-write-items c = omega arith
-
-cast-from : tie.Need-cast-from Inv-loop μ-loop
-cast-from c = omega arith
-
-mul-from : tie.Need-mul-from Inv-loop μ-loop
-mul-from c = omega arith
-
 shared-slice-read-from : tie.Need-shared-slice-read-from Inv-loop μ-loop
 shared-slice-read-from c =
     let f = c .before in
@@ -94,12 +70,6 @@ shared-slice-read-from c =
     (pathOf (a .rows .now) (a .n) (a .masks .now) (a .start) (a .m)) (l .loop .i)
     (a .m - l .loop .i) (l .loop .from) (t .0) in
     omega (arith, low, t .1)
-
-add-i : tie.Need-add-i Inv-loop μ-loop
-add-i c = omega arith
-
-loop-less : tie.Need-loop-less Inv-loop μ-loop
-loop-less c = omega arith
 
 loop-again : tie.Need-loop-again Inv-loop μ-loop
 loop-again c =
@@ -138,16 +108,16 @@ follow-spec =
     Inv-loop
     μ-loop
     loop-holds
-    mul-lowest-item
-    shared-slice-read-lowest-item
-    cast-lowest-item
-    lowest-item-requires
-    mul-items
-    array-write-items
-    cast-from
-    mul-from
+    (λ c. omega arith)
+    (λ c. omega arith)
+    (λ c. omega arith)
+    (λ c κs. omega arith)
+    (λ c. omega arith)
+    (λ c. omega arith)
+    (λ c. omega arith)
+    (λ c. omega arith)
     shared-slice-read-from
-    add-i
-    loop-less
+    (λ c. omega arith)
+    (λ c. omega arith)
     loop-again
     returns)

@@ -29,24 +29,12 @@ loop-holds c =
     let a = s .args in
     (omega arith, refl, refl, sym (layer-first (a .rows .now) (a .n) (a .goal) (s .pre .1)))
 
-mul-masks : tie.Need-mul-masks Inv-loop μ-loop
-mul-masks c = omega arith
-
-array-write-masks : tie.Need-array-write-masks Inv-loop μ-loop
-array-write-masks c = omega arith
-
 leading-to-requires : tie.Need-leading-to-requires Inv-loop μ-loop
 leading-to-requires c κs =
     let l = c .before in
     let s = l .before .before in
     let a = s .args in
     (s .pre .0, rw (l .loop .inv .3) (layer-low (a .rows .now) (a .n) (a .goal) (l .loop .m)))
-
-add-m : tie.Need-add-m Inv-loop μ-loop
-add-m c = omega arith
-
-loop-less : tie.Need-loop-less Inv-loop μ-loop
-loop-less c = omega arith
 
 loop-again : tie.Need-loop-again Inv-loop μ-loop
 loop-again c =
@@ -75,10 +63,10 @@ layers-spec =
     Inv-loop
     μ-loop
     loop-holds
-    mul-masks
-    array-write-masks
+    (λ c. omega arith)
+    (λ c. omega arith)
     leading-to-requires
-    add-m
-    loop-less
+    (λ c. omega arith)
+    (λ c. omega arith)
     loop-again
     returns)

@@ -23,24 +23,6 @@ loop-holds : tie.Need-loop-holds Inv-loop μ-loop
 unfolding maskBelow
 loop-holds c = (omega arith, refl)
 
-mul-with-if : tie.Need-mul-with-if Inv-loop μ-loop
-mul-with-if c = omega arith
-
-shared-slice-read-with-if : tie.Need-shared-slice-read-with-if Inv-loop μ-loop
-shared-slice-read-with-if c = omega arith
-
-cast-with-if : tie.Need-cast-with-if Inv-loop μ-loop
-cast-with-if c = omega arith
-
-with-if-requires : tie.Need-with-if-requires Inv-loop μ-loop
-with-if-requires c κs = omega arith
-
-add-k : tie.Need-add-k Inv-loop μ-loop
-add-k c = omega arith
-
-loop-less : tie.Need-loop-less Inv-loop μ-loop
-loop-less c = omega arith
-
 loop-again : tie.Need-loop-again Inv-loop μ-loop
 loop-again c =
     let l = c .before .before .before in
@@ -68,11 +50,11 @@ leading-to-spec =
     Inv-loop
     μ-loop
     loop-holds
-    mul-with-if
-    shared-slice-read-with-if
-    cast-with-if
-    with-if-requires
-    add-k
-    loop-less
+    (λ c. omega arith)
+    (λ c. omega arith)
+    (λ c. omega arith)
+    (λ c κs. omega arith)
+    (λ c. omega arith)
+    (λ c. omega arith)
     loop-again
     returns)

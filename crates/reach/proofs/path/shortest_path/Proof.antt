@@ -12,12 +12,6 @@ use Rattle.reach.proofs.Layers.{layers-long, layers-goal, layers-of, ed
 use Rattle.reach.proofs.path.shortest_path.Statement.{statement}
 use Rattle.reach.proofs.path.shortest_path.Tie as tie
 
-layers-requires : tie.Need-layers-requires
-layers-requires c κs = search needs
-
-slice-aggregate-edges-to : tie.Need-slice-aggregate-edges-to
-slice-aggregate-edges-to c = search needs
-
 edges-to-requires : tie.Need-edges-to-requires
 edges-to-requires c κs =
     let y = c .before in
@@ -45,9 +39,6 @@ returns c =
     let a = f .before .before .before .before .args in
     sym (ap itemPath (path-not-there (a .n) (leadsBy (a .rows .now)) (testBit (a .start))
     (testBit (a .goal)) (f .edges-to .result) (edges f) (c .if1 .taken)))
-
-slice-aggregate-follow : tie.Need-slice-aggregate-follow
-slice-aggregate-follow c = search needs
 
 follow-requires : tie.Need-follow-requires
 follow-requires c κs =
@@ -85,10 +76,10 @@ pub shortest-path-spec : {M : Type 1} → statement M
 shortest-path-spec =
     tie.close
     (tie.spec
-    layers-requires
-    slice-aggregate-edges-to
+    (λ c κs. search needs)
+    (λ c. search needs)
     edges-to-requires
     returns
-    slice-aggregate-follow
+    (λ c. search needs)
     follow-requires
     returns-2)

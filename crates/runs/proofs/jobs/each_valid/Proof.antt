@@ -33,36 +33,6 @@ loop-holds : tie.Need-loop-holds Inv-loop μ-loop
 unfolding allBelow
 loop-holds c = (omega arith, refl)
 
-mul-at : tie.Need-mul-at Inv-loop μ-loop
-mul-at c = omega arith
-
-mul-valid-job : tie.Need-mul-valid-job Inv-loop μ-loop
-mul-valid-job c = omega arith
-
-shared-slice-read-valid-job : tie.Need-shared-slice-read-valid-job Inv-loop μ-loop
-shared-slice-read-valid-job c = omega arith
-
-add-valid-job : tie.Need-add-valid-job Inv-loop μ-loop
-add-valid-job c = omega arith
-
-mul-valid-job-2 : tie.Need-mul-valid-job-2 Inv-loop μ-loop
-mul-valid-job-2 c = omega arith
-
-shared-slice-read-valid-job-2 : tie.Need-shared-slice-read-valid-job-2 Inv-loop μ-loop
-shared-slice-read-valid-job-2 c = omega arith
-
-add-valid-job-2 : tie.Need-add-valid-job-2 Inv-loop μ-loop
-add-valid-job-2 c = omega arith
-
-mul-valid-job-3 : tie.Need-mul-valid-job-3 Inv-loop μ-loop
-mul-valid-job-3 c = omega arith
-
-shared-slice-read-valid-job-3 : tie.Need-shared-slice-read-valid-job-3 Inv-loop μ-loop
-shared-slice-read-valid-job-3 c = omega arith
-
-valid-job-requires : tie.Need-valid-job-requires Inv-loop μ-loop
-valid-job-requires c κs = search needs
-
 returns : tie.Need-returns Inv-loop μ-loop
 unfolding listedJob
 returns c =
@@ -70,12 +40,6 @@ returns c =
     let n = l .before .before .args .n in
     loop-fails n (tests l) (l .loop .i) _ (omega arith) (c .before .valid-job .ensures)
     (c .if1 .taken)
-
-add-i : tie.Need-add-i Inv-loop μ-loop
-add-i c = omega arith
-
-loop-less : tie.Need-loop-less Inv-loop μ-loop
-loop-less c = omega arith
 
 loop-again : tie.Need-loop-again Inv-loop μ-loop
 unfolding listedJob
@@ -97,18 +61,18 @@ each-valid-spec =
     Inv-loop
     μ-loop
     loop-holds
-    mul-at
-    mul-valid-job
-    shared-slice-read-valid-job
-    add-valid-job
-    mul-valid-job-2
-    shared-slice-read-valid-job-2
-    add-valid-job-2
-    mul-valid-job-3
-    shared-slice-read-valid-job-3
-    valid-job-requires
+    (λ c. omega arith)
+    (λ c. omega arith)
+    (λ c. omega arith)
+    (λ c. omega arith)
+    (λ c. omega arith)
+    (λ c. omega arith)
+    (λ c. omega arith)
+    (λ c. omega arith)
+    (λ c. omega arith)
+    (λ c κs. search needs)
     returns
-    add-i
-    loop-less
+    (λ c. omega arith)
+    (λ c. omega arith)
     loop-again
     returns-2)

@@ -13,29 +13,17 @@ use Rattle.sets.proofs.growth.leads.Tie as tie
 ranged : (c : tie.Start) → Ranged (c .args .z)
 ranged c = rule-ranged (length (c .args .words .now)) (c .args .z) (c .args .rule) (c .pre .0)
 
-cast-has : tie.Need-cast-has
-cast-has c = omega (arith, ranged (c .before))
-
-has-requires : tie.Need-has-requires
-has-requires c κs = omega (arith, ranged (c .before))
-
 returns : tie.Need-returns
 unfolding leadsTo
 returns c =
     let h = c .before in
     rw (← h .has .ensures) (first-fails (h .has .result) _ (c .if1 .taken))
 
-enum-known-rule : tie.Need-enum-known-rule
-enum-known-rule c = search needs
-
 draws-requires : tie.Need-draws-requires
 unfolding RuleArea
 draws-requires c κs =
     let s = c .before .before .before .before .before .before in
     (rw (c .before .rule .given .1) at (s .pre .0), s .pre .1)
-
-enum-known-rule-2 : tie.Need-enum-known-rule-2
-enum-known-rule-2 c = search needs
 
 needs-requires : tie.Need-needs-requires
 unfolding RuleArea
@@ -65,12 +53,12 @@ pub leads-spec : {M : Type 1} → statement M
 leads-spec =
     tie.close
     (tie.spec
-    cast-has
-    has-requires
+    (λ c. omega (arith, ranged (c .before)))
+    (λ c κs. omega (arith, ranged (c .before)))
     returns
-    enum-known-rule
+    (λ c. search needs)
     draws-requires
-    enum-known-rule-2
+    (λ c. search needs)
     needs-requires
     returns-2
     returns-3)

@@ -28,18 +28,6 @@ loop-holds c =
     let a = c .before .before .args in
     (omega arith, led-start (a .z) (a .words .now) (a .rule) (a .z .keys) (a .scope) (a .mask))
 
-without-requires : tie.Need-without-requires Inv-loop μ-loop
-without-requires c κs = search needs
-
-led-if-requires : tie.Need-led-if-requires Inv-loop μ-loop
-led-if-requires c κs = search needs
-
-add-t : tie.Need-add-t Inv-loop μ-loop
-add-t c = omega arith
-
-loop-less : tie.Need-loop-less Inv-loop μ-loop
-loop-less c = omega arith
-
 loop-again : tie.Need-loop-again Inv-loop μ-loop
 loop-again c =
     let l = c .before .before .before in
@@ -70,9 +58,9 @@ led-by-spec =
     μ-loop
     returns
     loop-holds
-    without-requires
-    led-if-requires
-    add-t
-    loop-less
+    (λ c κs. search needs)
+    (λ c κs. search needs)
+    (λ c. omega arith)
+    (λ c. omega arith)
     loop-again
     returns-2)

@@ -27,21 +27,6 @@ loop-holds : tie.Need-loop-holds Inv-loop μ-loop
 unfolding maskBelow
 loop-holds c = (omega arith, refl)
 
-leads-requires : tie.Need-leads-requires Inv-loop μ-loop
-leads-requires c κs = search needs
-
-cast-with-if : tie.Need-cast-with-if Inv-loop μ-loop
-cast-with-if c = omega (arith, ranged (c .before .before .before .before))
-
-with-if-requires : tie.Need-with-if-requires Inv-loop μ-loop
-with-if-requires c κs = omega (arith, ranged (c .before .before .before .before))
-
-add-d : tie.Need-add-d Inv-loop μ-loop
-add-d c = omega arith
-
-loop-less : tie.Need-loop-less Inv-loop μ-loop
-loop-less c = omega arith
-
 loop-again : tie.Need-loop-again Inv-loop μ-loop
 loop-again c =
     let l = c .before .before .before in
@@ -63,10 +48,10 @@ led-from-spec =
     Inv-loop
     μ-loop
     loop-holds
-    leads-requires
-    cast-with-if
-    with-if-requires
-    add-d
-    loop-less
+    (λ c κs. search needs)
+    (λ c. omega (arith, ranged (c .before .before .before .before)))
+    (λ c κs. omega (arith, ranged (c .before .before .before .before)))
+    (λ c. omega arith)
+    (λ c. omega arith)
     loop-again
     returns)

@@ -9,9 +9,6 @@ use Rattle.sheetdesk_c.proofs.Lengths.{one-length, compared-no, compare
 use Rattle.sheetdesk_c.proofs.clocks.sheetdesk_compare.Statement.{statement}
 use Rattle.sheetdesk_c.proofs.clocks.sheetdesk_compare.Tie as tie
 
-are-alike-requires : tie.Need-are-alike-requires
-are-alike-requires c κs = search needs
-
 returns : tie.Need-returns
 returns c = compared-no _ _ (sym (c .before .are-alike .ensures) ∙ not-true _ (c .if1 .taken))
 
@@ -19,9 +16,6 @@ compare-requires : tie.Need-compare-requires
 compare-requires c κs =
     let y = sym (c .before .are-alike .ensures) ∙ not-false _ (c .if1 .left) in
     let e = one-length _ _ y in (omega arith, omega (arith, e))
-
-standing-number-requires : tie.Need-standing-number-requires
-standing-number-requires c κs = search needs
 
 returns-2 : tie.Need-returns-2
 returns-2 c =
@@ -34,8 +28,8 @@ pub sheetdesk-compare-spec : {M : Type 1} → statement M
 sheetdesk-compare-spec =
     tie.close
     (tie.spec
-    are-alike-requires
+    (λ c κs. search needs)
     returns
     compare-requires
-    standing-number-requires
+    (λ c κs. search needs)
     returns-2)

@@ -9,9 +9,6 @@ use Rattle.sheetdesk_c.proofs.Lengths.{one-length, covers-no, covers-te
 use Rattle.sheetdesk_c.proofs.clocks.sheetdesk_covers.Statement.{statement}
 use Rattle.sheetdesk_c.proofs.clocks.sheetdesk_covers.Tie as tie
 
-are-alike-requires : tie.Need-are-alike-requires
-are-alike-requires c κs = search needs
-
 returns : tie.Need-returns
 returns c = covers-no _ _ (sym (c .before .are-alike .ensures) ∙ not-true _ (c .if1 .taken))
 
@@ -19,9 +16,6 @@ compare-requires : tie.Need-compare-requires
 compare-requires c κs =
     let y = sym (c .before .are-alike .ensures) ∙ not-false _ (c .if1 .left) in
     let e = one-length _ _ y in (omega arith, omega (arith, e))
-
-covering-requires : tie.Need-covering-requires
-covering-requires c κs = search needs
 
 returns-2 : tie.Need-returns-2
 unfolding when
@@ -45,9 +39,9 @@ pub sheetdesk-covers-spec : {M : Type 1} → statement M
 sheetdesk-covers-spec =
     tie.close
     (tie.spec
-    are-alike-requires
+    (λ c κs. search needs)
     returns
     compare-requires
-    covering-requires
+    (λ c κs. search needs)
     returns-2
     returns-3)

@@ -19,45 +19,6 @@ unfolding pastSize versionSize placeSize siteSize writerSize runSize
 most k w n p R =
     let m = largest (countsOf k w n p) R in (m .place, m .sites, m .past, m .writers, m .runs)
 
-mul-past : tie.Need-mul-past
-mul-past c = omega (arith, most _ _ _ _ (c .pre))
-
-add-place : tie.Need-add-place
-add-place c = omega (arith, most _ _ _ _ (c .pre))
-
-mul-place : tie.Need-mul-place
-mul-place c = omega (arith, most _ _ _ _ (c .pre))
-
-add-sites-at : tie.Need-add-sites-at
-add-sites-at c = omega (arith, most _ _ _ _ (c .pre))
-
-add-writers-at-2 : tie.Need-add-writers-at-2
-add-writers-at-2 c = omega (arith, most _ _ _ _ (c .pre))
-
-mul-writers-at : tie.Need-mul-writers-at
-mul-writers-at c = omega (arith, most _ _ _ _ (c .pre))
-
-add-writers-at : tie.Need-add-writers-at
-add-writers-at c = omega (arith, most _ _ _ _ (c .pre))
-
-add-runs-at : tie.Need-add-runs-at
-add-runs-at c = omega (arith, most _ _ _ _ (c .pre))
-
-mul-runs-at : tie.Need-mul-runs-at
-mul-runs-at c = omega (arith, most _ _ _ _ (c .pre))
-
-add-runs-at-2 : tie.Need-add-runs-at-2
-add-runs-at-2 c = omega (arith, most _ _ _ _ (c .pre))
-
-add-tail : tie.Need-add-tail
-add-tail c = omega (arith, most _ _ _ _ (c .pre))
-
-mul-tail : tie.Need-mul-tail
-mul-tail c = omega (arith, most _ _ _ _ (c .pre))
-
-add-tail-2 : tie.Need-add-tail-2
-add-tail-2 c = omega (arith, most _ _ _ _ (c .pre))
-
 -- The total is where the tail begins.
 sized : (z : Counts) → let t = tailAt z in sizesOf z
     ≡ record {
@@ -91,17 +52,17 @@ pub of-spec : {M : Type 1} → statement M
 of-spec =
     tie.close
     (tie.spec
-    mul-past
-    add-place
-    mul-place
-    add-sites-at
-    add-writers-at
-    mul-writers-at
-    add-writers-at-2
-    add-runs-at
-    mul-runs-at
-    add-runs-at-2
-    add-tail
-    mul-tail
-    add-tail-2
+    (λ c. omega (arith, most _ _ _ _ (c .pre)))
+    (λ c. omega (arith, most _ _ _ _ (c .pre)))
+    (λ c. omega (arith, most _ _ _ _ (c .pre)))
+    (λ c. omega (arith, most _ _ _ _ (c .pre)))
+    (λ c. omega (arith, most _ _ _ _ (c .pre)))
+    (λ c. omega (arith, most _ _ _ _ (c .pre)))
+    (λ c. omega (arith, most _ _ _ _ (c .pre)))
+    (λ c. omega (arith, most _ _ _ _ (c .pre)))
+    (λ c. omega (arith, most _ _ _ _ (c .pre)))
+    (λ c. omega (arith, most _ _ _ _ (c .pre)))
+    (λ c. omega (arith, most _ _ _ _ (c .pre)))
+    (λ c. omega (arith, most _ _ _ _ (c .pre)))
+    (λ c. omega (arith, most _ _ _ _ (c .pre)))
     returns)

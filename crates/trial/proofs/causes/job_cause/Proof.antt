@@ -32,34 +32,7 @@ here : (c : tie.After-run-at)
     → c .run-at .result + 28 ≤ length (c .before .before .args .words .now)
 here c = rw (c .run-at .ensures) (omega (arith, known c .area .fits))
 
-mul-state : tie.Need-mul-state
-mul-state c = omega (arith, here c)
-
-shared-slice-read-state : tie.Need-shared-slice-read-state
-shared-slice-read-state c = omega (arith, here (c .before))
-
-add-jobs : tie.Need-add-jobs
-add-jobs c = omega (arith, here (c .before))
-
-mul-jobs : tie.Need-mul-jobs
-mul-jobs c = omega (arith, here (c .before))
-
-shared-slice-read-jobs : tie.Need-shared-slice-read-jobs
-shared-slice-read-jobs c = omega (arith, here (c .before .before))
-
-add-done : tie.Need-add-done
-add-done c = omega (arith, here (c .before .before))
-
-mul-done : tie.Need-mul-done
-mul-done c = omega (arith, here (c .before .before))
-
-shared-slice-read-done : tie.Need-shared-slice-read-done
-shared-slice-read-done c = omega (arith, here (c .before .before .before))
-
 -- ---- the job's range
-
-job-limit-requires : tie.Need-job-limit-requires
-job-limit-requires c κs = search needs
 
 limited : (c : tie.After-job-limit) → let n = c .before .before .before .before in
     let a = n .before .before .args in
@@ -135,9 +108,6 @@ low c =
           (upstream-low (a .words .now) (a .z) (a .r) (U .0) (a .j) (U .1)),
     )
 
-cast-is-unready : tie.Need-cast-is-unready
-cast-is-unready c = omega (arith, low c)
-
 is-unready-requires : tie.Need-is-unready-requires
 is-unready-requires c κs = low c
 
@@ -176,20 +146,20 @@ job-cause-spec =
     tie.close
     (tie.spec
     run-at-requires
-    mul-state
-    shared-slice-read-state
-    add-jobs
-    mul-jobs
-    shared-slice-read-jobs
-    add-done
-    mul-done
-    shared-slice-read-done
-    job-limit-requires
+    (λ c. omega (arith, here c))
+    (λ c. omega (arith, here (c .before)))
+    (λ c. omega (arith, here (c .before)))
+    (λ c. omega (arith, here (c .before)))
+    (λ c. omega (arith, here (c .before .before)))
+    (λ c. omega (arith, here (c .before .before)))
+    (λ c. omega (arith, here (c .before .before)))
+    (λ c. omega (arith, here (c .before .before .before)))
+    (λ c κs. search needs)
     returns
     is-allowed-requires
     returns-2
     job-of-requires
-    cast-is-unready
+    (λ c. omega (arith, low c))
     is-unready-requires
     returns-3
     returns-4)

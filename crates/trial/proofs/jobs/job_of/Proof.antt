@@ -25,9 +25,6 @@ here c =
       job-low (a .words .now) (a .z) (a .r) (s .pre .0) (a .j) (s .pre .1),
     )
 
-add-job-at : tie.Need-add-job-at
-add-job-at c = omega (arith, here c)
-
 job-at-requires : tie.Need-job-at-requires
 job-at-requires c κs =
     let s = c .before .before in
@@ -44,30 +41,6 @@ inside c =
     let lies = job-lies (n .run-at .result + 4) (a .j) (here n .1) in
     omega (arith, lies .1, c .job-at .ensures, here n .0)
 
-mul-t7 : tie.Need-mul-t7
-mul-t7 c = omega (arith, inside c)
-
-shared-slice-read-t9 : tie.Need-shared-slice-read-t9
-shared-slice-read-t9 c = omega (arith, inside (c .before))
-
-add-t10 : tie.Need-add-t10
-add-t10 c = omega (arith, inside (c .before))
-
-mul-t11 : tie.Need-mul-t11
-mul-t11 c = omega (arith, inside (c .before))
-
-shared-slice-read-t13 : tie.Need-shared-slice-read-t13
-shared-slice-read-t13 c = omega (arith, inside (c .before .before))
-
-add-t14 : tie.Need-add-t14
-add-t14 c = omega (arith, inside (c .before .before))
-
-mul-t15 : tie.Need-mul-t15
-mul-t15 c = omega (arith, inside (c .before .before))
-
-shared-slice-read-t17 : tie.Need-shared-slice-read-t17
-shared-slice-read-t17 c = omega (arith, inside (c .before .before .before))
-
 returns : tie.Need-returns
 returns c =
     let j = c .before .before .before in
@@ -82,14 +55,14 @@ job-of-spec =
     tie.close
     (tie.spec
     run-at-requires
-    add-job-at
+    (λ c. omega (arith, here c))
     job-at-requires
-    mul-t7
-    shared-slice-read-t9
-    add-t10
-    mul-t11
-    shared-slice-read-t13
-    add-t14
-    mul-t15
-    shared-slice-read-t17
+    (λ c. omega (arith, inside c))
+    (λ c. omega (arith, inside (c .before)))
+    (λ c. omega (arith, inside (c .before)))
+    (λ c. omega (arith, inside (c .before)))
+    (λ c. omega (arith, inside (c .before .before)))
+    (λ c. omega (arith, inside (c .before .before)))
+    (λ c. omega (arith, inside (c .before .before)))
+    (λ c. omega (arith, inside (c .before .before .before)))
     returns)

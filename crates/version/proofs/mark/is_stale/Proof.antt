@@ -10,18 +10,9 @@ use Rattle.version.proofs.Areas.{row-in, standing-word}
 use Rattle.version.proofs.mark.is_stale.Statement.{statement}
 use Rattle.version.proofs.mark.is_stale.Tie as tie
 
-held-requires : tie.Need-held-requires
-held-requires c κs = search needs
-
 returns : tie.Need-returns
 unfolding isStale
 returns c = rw (sym (c .before .held .ensures) ∙ not-true _ (c .if1 .taken))
-
-row-of-requires : tie.Need-row-of-requires
-row-of-requires c κs = search needs
-
-row-of-requires-2 : tie.Need-row-of-requires-2
-row-of-requires-2 c κs = search needs
 
 compare-requires : tie.Need-compare-requires
 compare-requires c κs =
@@ -32,9 +23,6 @@ compare-requires c κs =
     let own = row-in n (a .z) (a .cache) (s .pre .0 .1) (a .k) (a .k) k k in
     let current = row-in n (a .z) (a .master) (s .pre .0 .0) (a .k) (a .k) k k in
     rw (c .row-of2 .ensures, c .before .row-of .ensures) (omega arith, omega arith)
-
-differing-requires : tie.Need-differing-requires
-differing-requires c κs = search needs
 
 returns-2 : tie.Need-returns-2
 unfolding isStale
@@ -57,10 +45,10 @@ pub is-stale-spec : {M : Type 1} → statement M
 is-stale-spec =
     tie.close
     (tie.spec
-    held-requires
+    (λ c κs. search needs)
     returns
-    row-of-requires
-    row-of-requires-2
+    (λ c κs. search needs)
+    (λ c κs. search needs)
     compare-requires
-    differing-requires
+    (λ c κs. search needs)
     returns-2)

@@ -14,9 +14,6 @@ stale-mask-requires c κs =
     let s = c .before .before in
     (s .pre .0, site-cache (length (s .args .words .now)) (s .args .z) (s .args .site) (s .pre .1))
 
-stale-at-requires : tie.Need-stale-at-requires
-stale-at-requires c κs = search needs
-
 -- The mark lies in the buffer.
 inside : (c : tie.Start) → let a = c .args in
     (staleAt (a .z) (a .site) < versionLimit) × (staleAt (a .z) (a .site) < length (a .words .now))
@@ -30,9 +27,6 @@ slice-write-words : tie.Need-slice-write-words
 slice-write-words c =
     rw (c .stale-at .ensures) (inside (c .before .before .before .before) .1)
 
-same-length : tie.Need-same-length
-same-length c = search needs
-
 returns : tie.Need-returns
 returns c = rw (c .stale-at .ensures, c .before .stale-mask .ensures)
 
@@ -41,8 +35,8 @@ mark-site-spec =
     tie.close
     (tie.spec
     stale-mask-requires
-    stale-at-requires
+    (λ c κs. search needs)
     mul-words
     slice-write-words
-    same-length
+    (λ c. search needs)
     returns)

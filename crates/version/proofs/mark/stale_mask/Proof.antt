@@ -24,20 +24,11 @@ loop-holds : tie.Need-loop-holds Inv-loop μ-loop
 unfolding maskBelow
 loop-holds c = (omega arith, refl)
 
-is-stale-requires : tie.Need-is-stale-requires Inv-loop μ-loop
-is-stale-requires c κs = search needs
-
 cast-with-if : tie.Need-cast-with-if Inv-loop μ-loop
 cast-with-if c = omega (arith, c .before .before .before .before .pre .0 .ranged)
 
 with-if-requires : tie.Need-with-if-requires Inv-loop μ-loop
 with-if-requires c κs = omega (arith, c .before .before .before .before .pre .0 .ranged)
-
-add-k : tie.Need-add-k Inv-loop μ-loop
-add-k c = omega arith
-
-loop-less : tie.Need-loop-less Inv-loop μ-loop
-loop-less c = omega arith
 
 loop-again : tie.Need-loop-again Inv-loop μ-loop
 loop-again c =
@@ -70,10 +61,10 @@ stale-mask-spec =
     Inv-loop
     μ-loop
     loop-holds
-    is-stale-requires
+    (λ c κs. search needs)
     cast-with-if
     with-if-requires
-    add-k
-    loop-less
+    (λ c. omega arith)
+    (λ c. omega arith)
     loop-again
     returns)

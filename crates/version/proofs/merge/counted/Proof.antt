@@ -30,36 +30,6 @@ loop-holds : tie.Need-loop-holds Inv-loop μ-loop
 unfolding maskBelow
 loop-holds c = (omega arith, refl)
 
-add-count-at : tie.Need-add-count-at Inv-loop μ-loop
-add-count-at c = omega arith
-
-count-at-requires : tie.Need-count-at-requires Inv-loop μ-loop
-count-at-requires c κs = omega arith
-
-add-count-at-2 : tie.Need-add-count-at-2 Inv-loop μ-loop
-add-count-at-2 c = omega arith
-
-count-at-requires-2 : tie.Need-count-at-requires-2 Inv-loop μ-loop
-count-at-requires-2 c κs = omega arith
-
-is-present-requires : tie.Need-is-present-requires Inv-loop μ-loop
-is-present-requires c κs = search needs
-
-is-present-requires-2 : tie.Need-is-present-requires-2 Inv-loop μ-loop
-is-present-requires-2 c κs = search needs
-
-cast-with-if : tie.Need-cast-with-if Inv-loop μ-loop
-cast-with-if c = omega arith
-
-with-if-requires : tie.Need-with-if-requires Inv-loop μ-loop
-with-if-requires c κs = omega arith
-
-add-u : tie.Need-add-u Inv-loop μ-loop
-add-u c = omega arith
-
-loop-less : tie.Need-loop-less Inv-loop μ-loop
-loop-less c = omega arith
-
 loop-again : tie.Need-loop-again Inv-loop μ-loop
 unfolding join clockAt
 loop-again c =
@@ -97,15 +67,15 @@ counted-spec =
     Inv-loop
     μ-loop
     loop-holds
-    add-count-at
-    count-at-requires
-    add-count-at-2
-    count-at-requires-2
-    is-present-requires
-    is-present-requires-2
-    cast-with-if
-    with-if-requires
-    add-u
-    loop-less
+    (λ c. omega arith)
+    (λ c κs. omega arith)
+    (λ c. omega arith)
+    (λ c κs. omega arith)
+    (λ c κs. search needs)
+    (λ c κs. search needs)
+    (λ c. omega arith)
+    (λ c κs. omega arith)
+    (λ c. omega arith)
+    (λ c. omega arith)
     loop-again
     returns)

@@ -15,18 +15,6 @@ use Rattle.version.proofs.Versions.{merge-version}
 use Rattle.version.proofs.merge.merge_held.Statement.{statement}
 use Rattle.version.proofs.merge.merge_held.Tie as tie
 
-row-at-requires : tie.Need-row-at-requires
-row-at-requires c κs = search needs
-
-past-row-at-requires : tie.Need-past-row-at-requires
-past-row-at-requires c κs = search needs
-
-add-mine : tie.Need-add-mine
-add-mine c = search needs
-
-mul-mine : tie.Need-mul-mine
-mul-mine c = search needs
-
 slice-read-mine : tie.Need-slice-read-mine
 unfolding versionSize
 slice-read-mine c = omega (arith, c .before .before .before .before .pre .0 .target)
@@ -49,20 +37,11 @@ version-issue-requires c κs =
     let s = c .before .before .before .before .before .before .before in
     omega (arith, s .pre .0 .target)
 
-later-requires : tie.Need-later-requires
-later-requires c κs = search needs
-
 set-version-issue-requires : tie.Need-set-version-issue-requires
 unfolding versionSize
 set-version-issue-requires c κs =
     let s = c .before .before .before .before .before .before .before .before .before .before in
     omega (arith, s .pre .0 .target)
-
-add-words : tie.Need-add-words
-add-words c = search needs
-
-mul-words : tie.Need-mul-words
-mul-words c = search needs
 
 slice-write-words : tie.Need-slice-write-words
 unfolding versionSize
@@ -71,9 +50,6 @@ slice-write-words c =
     let o = i .before .before .before .before .before in
     let s = o .before .before .before .before .before .before in
     omega (arith, s .pre .0 .target, i .set-version-issue .kept .0)
-
-row-at-requires-2 : tie.Need-row-at-requires-2
-row-at-requires-2 c κs = search needs
 
 merge-past-requires : tie.Need-merge-past-requires
 unfolding versionSize
@@ -129,19 +105,19 @@ pub merge-held-spec : {M : Type 1} → statement M
 merge-held-spec =
     tie.close
     (tie.spec
-    row-at-requires
-    past-row-at-requires
-    add-mine
-    mul-mine
+    (λ c κs. search needs)
+    (λ c κs. search needs)
+    (λ c. search needs)
+    (λ c. search needs)
     slice-read-mine
     merged-leaders-requires
     version-issue-requires
-    later-requires
+    (λ c κs. search needs)
     set-version-issue-requires
-    add-words
-    mul-words
+    (λ c. search needs)
+    (λ c. search needs)
     slice-write-words
-    row-at-requires-2
+    (λ c κs. search needs)
     merge-past-requires
     same-length
     returns)

@@ -11,18 +11,6 @@ use Rattle.version.proofs.Areas.{issue-in, leaders-word, key-merges}
 use Rattle.version.proofs.merge.merge_if.Statement.{statement}
 use Rattle.version.proofs.merge.merge_if.Tie as tie
 
-cast-has : tie.Need-cast-has
-cast-has c = search needs
-
-has-requires : tie.Need-has-requires
-has-requires c κs = search needs
-
-key-at-requires : tie.Need-key-at-requires
-key-at-requires c κs = search needs
-
-key-at-requires-2 : tie.Need-key-at-requires-2
-key-at-requires-2 c κs = search needs
-
 version-issue-requires : tie.Need-version-issue-requires
 version-issue-requires c κs =
     let k = c .before in
@@ -30,12 +18,6 @@ version-issue-requires c κs =
     let a = s .args in
     rw (k .key-at2 .ensures)
     (issue-in (length (a .words .now)) (a .z) (a .src) (s .pre .0 .source) (a .k) (s .pre .1))
-
-leaders-of-requires : tie.Need-leaders-of-requires
-leaders-of-requires c κs = search needs
-
-row-of-requires : tie.Need-row-of-requires
-row-of-requires c κs = search needs
 
 merge-version-requires : tie.Need-merge-version-requires
 merge-version-requires c κs =
@@ -47,9 +29,6 @@ merge-version-requires c κs =
       key-merges (length (a .words .now)) (a .z) (a .dst) (a .src) (s .pre .0) (a .k) (s .pre .1),
       s .pre .1,
     )
-
-same-length : tie.Need-same-length
-same-length c = search needs
 
 returns : tie.Need-returns
 unfolding readVersion
@@ -83,14 +62,14 @@ pub merge-if-spec : {M : Type 1} → statement M
 merge-if-spec =
     tie.close
     (tie.spec
-    cast-has
-    has-requires
-    key-at-requires
-    key-at-requires-2
+    (λ c. search needs)
+    (λ c κs. search needs)
+    (λ c κs. search needs)
+    (λ c κs. search needs)
     version-issue-requires
-    leaders-of-requires
-    row-of-requires
+    (λ c κs. search needs)
+    (λ c κs. search needs)
     merge-version-requires
-    same-length
+    (λ c. search needs)
     returns
     returns-2)

@@ -31,12 +31,6 @@ merge-if-requires c κs =
     let s = l .before .before in
     (rw (l .loop .inv .1) (s .pre), omega arith)
 
-add-k : tie.Need-add-k Inv-loop μ-loop
-add-k c = omega arith
-
-loop-less : tie.Need-loop-less Inv-loop μ-loop
-loop-less c = omega arith
-
 loop-again : tie.Need-loop-again Inv-loop μ-loop
 loop-again c =
     let b = c .before .before in
@@ -45,9 +39,6 @@ loop-again c =
       b .merge-if .kept .0 ∙ l .loop .inv .1,
       rw (fold-more, ← l .loop .inv .2) (b .merge-if .ensures),
     )
-
-same-length : tie.Need-same-length Inv-loop μ-loop
-same-length c = c .before .loop .inv .1
 
 returns : tie.Need-returns Inv-loop μ-loop
 returns c =
@@ -68,8 +59,8 @@ merge-keys-spec =
     μ-loop
     loop-holds
     merge-if-requires
-    add-k
-    loop-less
+    (λ c. omega arith)
+    (λ c. omega arith)
     loop-again
-    same-length
+    (λ c. c .before .loop .inv .1)
     returns)

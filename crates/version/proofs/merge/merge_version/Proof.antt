@@ -19,15 +19,6 @@ version-issue-requires : tie.Need-version-issue-requires
 unfolding versionSize
 version-issue-requires c κs = omega (arith, c .before .before .pre .0 .target)
 
-is-held-requires : tie.Need-is-held-requires
-is-held-requires c κs = search needs
-
-put-version-requires : tie.Need-put-version-requires
-put-version-requires c κs = search needs
-
-same-length : tie.Need-same-length
-same-length c = search needs
-
 returns : tie.Need-returns
 unfolding held readVersion
 returns c =
@@ -41,15 +32,6 @@ returns c =
     version-merged (a .z) (a .k) (a .words .now) (p .put-version .last .0) (a .dst) (a .number .0)
     (a .leaders) (a .past)
     (rw (merge-unheld-left (a .z .writers) (a .k) _ _ blank) (p .put-version .ensures))
-
-is-held-requires-2 : tie.Need-is-held-requires-2
-is-held-requires-2 c κs = search needs
-
-merge-held-requires : tie.Need-merge-held-requires
-merge-held-requires c κs = search needs
-
-same-length-2 : tie.Need-same-length-2
-same-length-2 c = search needs
 
 returns-2 : tie.Need-returns-2
 unfolding held readVersion
@@ -67,9 +49,6 @@ returns-2 c =
     version-merged (a .z) (a .k) (a .words .now) (m .merge-held .last .0) (a .dst) (a .number .0)
     (a .leaders) (a .past)
     (rw (merge-both (a .z .writers) (a .k) _ _ mine other) (m .merge-held .ensures))
-
-same-length-3 : tie.Need-same-length-3
-same-length-3 c = search needs
 
 returns-3 : tie.Need-returns-3
 unfolding held readVersion
@@ -92,13 +71,13 @@ merge-version-spec =
     tie.close
     (tie.spec
     version-issue-requires
-    is-held-requires
-    put-version-requires
-    same-length
+    (λ c κs. search needs)
+    (λ c κs. search needs)
+    (λ c. search needs)
     returns
-    is-held-requires-2
-    merge-held-requires
-    same-length-2
+    (λ c κs. search needs)
+    (λ c κs. search needs)
+    (λ c. search needs)
     returns-2
-    same-length-3
+    (λ c. search needs)
     returns-3)

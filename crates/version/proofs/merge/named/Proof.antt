@@ -21,36 +21,6 @@ loop-holds : tie.Need-loop-holds Inv-loop μ-loop
 unfolding maskBelow
 loop-holds c = (omega arith, refl)
 
-add-count-at : tie.Need-add-count-at Inv-loop μ-loop
-add-count-at c = omega arith
-
-count-at-requires : tie.Need-count-at-requires Inv-loop μ-loop
-count-at-requires c κs = omega arith
-
-add-count-at-2 : tie.Need-add-count-at-2 Inv-loop μ-loop
-add-count-at-2 c = omega arith
-
-count-at-requires-2 : tie.Need-count-at-requires-2 Inv-loop μ-loop
-count-at-requires-2 c κs = omega arith
-
-cast-leads-on : tie.Need-cast-leads-on Inv-loop μ-loop
-cast-leads-on c = omega arith
-
-leads-on-requires : tie.Need-leads-on-requires Inv-loop μ-loop
-leads-on-requires c κs = omega arith
-
-cast-with-if : tie.Need-cast-with-if Inv-loop μ-loop
-cast-with-if c = omega arith
-
-with-if-requires : tie.Need-with-if-requires Inv-loop μ-loop
-with-if-requires c κs = omega arith
-
-add-u : tie.Need-add-u Inv-loop μ-loop
-add-u c = omega arith
-
-loop-less : tie.Need-loop-less Inv-loop μ-loop
-loop-less c = omega arith
-
 loop-again : tie.Need-loop-again Inv-loop μ-loop
 unfolding leadsOn clockAt
 loop-again c =
@@ -85,15 +55,15 @@ named-spec =
     Inv-loop
     μ-loop
     loop-holds
-    add-count-at
-    count-at-requires
-    add-count-at-2
-    count-at-requires-2
-    cast-leads-on
-    leads-on-requires
-    cast-with-if
-    with-if-requires
-    add-u
-    loop-less
+    (λ c. omega arith)
+    (λ c κs. omega arith)
+    (λ c. omega arith)
+    (λ c κs. omega arith)
+    (λ c. omega arith)
+    (λ c κs. omega arith)
+    (λ c. omega arith)
+    (λ c κs. omega arith)
+    (λ c. omega arith)
+    (λ c. omega arith)
     loop-again
     returns)

@@ -16,24 +16,12 @@ set-version-issue-requires : tie.Need-set-version-issue-requires
 unfolding versionSize
 set-version-issue-requires c κs = omega (arith, c .before .before .pre .target)
 
-add-words : tie.Need-add-words
-add-words c = search needs
-
-mul-words : tie.Need-mul-words
-mul-words c = search needs
-
 slice-write-words : tie.Need-slice-write-words
 unfolding versionSize
 slice-write-words c =
     let i = c .before .before in
     let s = i .before .before .before in
     omega (arith, s .pre .target, i .set-version-issue .kept .0)
-
-row-at-requires : tie.Need-row-at-requires
-row-at-requires c κs = search needs
-
-past-size-requires : tie.Need-past-size-requires
-past-size-requires c κs = search needs
 
 copy-requires : tie.Need-copy-requires
 unfolding versionSize
@@ -77,11 +65,11 @@ put-version-spec =
     tie.close
     (tie.spec
     set-version-issue-requires
-    add-words
-    mul-words
+    (λ c. search needs)
+    (λ c. search needs)
     slice-write-words
-    row-at-requires
-    past-size-requires
+    (λ c κs. search needs)
+    (λ c κs. search needs)
     copy-requires
     same-length
     returns)
