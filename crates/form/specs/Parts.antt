@@ -1,6 +1,6 @@
 -- Parts of a store in a buffer, for the contracts of the tests.
 -- jobOf: a job of three numbers. jobFormed: what is asked of one job.
--- readsOf: what some jobs read. partCount, partFormed: the sites, and the runs.
+-- readsOf: what some jobs read. siteTest, runTest: what is asked of a site, of a run.
 -- RunArea, StoreArea: where a part lies. FormWith: a buffer in form.
 -- Assumes nothing.
 use mathlib.Core.Path.{_≡_}
@@ -16,7 +16,6 @@ use Rattle.model.specs.Store.{Job}
 use Rattle.model.specs.Form.{validJob, zeroJob, siteFormed, runFormed}
 use Rattle.layout.specs.Reading.{readPlace, readSite, readRun, countsIn}
 use Rattle.layout.specs.Buffer.{inForm}
-use Rattle.form.specs.declared.Part.{Part}
 
 abbrev pub jobOf : ℕ → ℕ → ℕ → Job
 jobOf a b c = record { site = a; reads = b; upstream = c }
@@ -29,15 +28,12 @@ jobFormed z n i j = cond (ltb i n) (validJob z i j) (zeroJob j)
 unfoldable pub readsOf : ℕ → (ℕ → Job) → ℕ → ℕ
 readsOf n job mask = unionBelow n (λ j. when (testBit mask j) (job j .reads))
 
--- How many sites or runs there are, and what is asked of one.
-unfoldable pub partCount : Counts → Part → ℕ
-partCount z Part.Site = z .sites
-partCount z Part.Run = z .runs
+-- What is asked of site o, and of run r.
+abbrev pub siteTest : Counts → List ℕ → ℕ → Bool
+siteTest z l o = siteFormed z (readPlace z l (masterAt z)) (readSite z l (siteAt z o))
 
-unfoldable pub partFormed : Counts → List ℕ → Part → ℕ → Bool
-partFormed z l Part.Site i =
-    siteFormed z (readPlace z l (masterAt z)) (readSite z l (siteAt z i))
-partFormed z l Part.Run i = runFormed z (readRun z l (runAt z i))
+abbrev pub runTest : Counts → List ℕ → ℕ → Bool
+runTest z l r = runFormed z (readRun z l (runAt z r))
 
 -- ---- where a part lies in a buffer of len words
 

@@ -14,39 +14,36 @@ use site::site_formed;
 use sizes::Counts;
 use sizes::header::HeaderOffset;
 ghost use mathlib.Core.Path.{_≡_};
-ghost use Prim.Native.Nat.{_≤_, _<_};
 ghost use lib.ListN.{length};
 ghost use Rattle.words.specs.Tests.{allBelow};
 ghost use Rattle.layout.specs.Buffer.{inForm};
-ghost use Rattle.form.specs.Parts.{StoreArea, partCount, partFormed};
+ghost use Rattle.form.specs.Parts.{StoreArea, siteTest, runTest};
 
-// A kind of part of which a store has several: a site or a run.
-pub enum Part {
-    Site,
-    Run,
-}
-
-// Whether site or run i is in form.
-fn part_formed(words: &[u32], z: Counts, part: Part, i: usize) -> bool
+// Whether every site is in form.
+fn sites_formed(words: &[u32], z: Counts) -> bool
     requires { ⌜ StoreArea (length (now words)) z ⌝ }
-    requires { ⌜ i < partCount z part ⌝ }
-    ensures { λ r. ⌜ r ≡ partFormed z (now (words .entry)) part i ⌝ }
+    ensures { λ r. ⌜ r ≡ allBelow (z .sites) (siteTest z (now (words .entry))) ⌝ }
 {
-    match part {
-        Part::Site => site_formed(words, z, HeaderOffset::SIZE, z.site_at(i)),
-        Part::Run => run_formed(words, z, z.run_at(i)),
+    let sites = z.sites;
+    let mut o = 0;
+    while o < sites {
+        if !site_formed(words, z, HeaderOffset::SIZE, z.site_at(o)) {
+            return false;
+        }
+        o += 1;
     }
+    true
 }
 
-// Whether each of the first n sites or runs is in form.
-fn parts_formed(words: &[u32], z: Counts, part: Part, n: usize) -> bool
+// Whether every run is in form.
+fn runs_formed(words: &[u32], z: Counts) -> bool
     requires { ⌜ StoreArea (length (now words)) z ⌝ }
-    requires { ⌜ n ≤ partCount z part ⌝ }
-    ensures { λ r. ⌜ r ≡ allBelow n (partFormed z (now (words .entry)) part) ⌝ }
+    ensures { λ r. ⌜ r ≡ allBelow (z .runs) (runTest z (now (words .entry))) ⌝ }
 {
+    let runs = z.runs;
     let mut i = 0;
-    while i < n {
-        if !part_formed(words, z, part, i) {
+    while i < runs {
+        if !run_formed(words, z, z.run_at(i)) {
             return false;
         }
         i += 1;
@@ -63,6 +60,5 @@ pub fn in_form(words: &[u32]) -> bool
     }
     let z = counts(words);
     let areas = z.areas();
-    place_formed(words, z, areas.master)
-        & (parts_formed(words, z, Part::Site, z.sites) & parts_formed(words, z, Part::Run, z.runs))
+    place_formed(words, z, areas.master) & (sites_formed(words, z) & runs_formed(words, z))
 }

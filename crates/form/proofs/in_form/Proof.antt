@@ -4,12 +4,11 @@ use mathlib.Core.Path.{sym, _∙_}
 use mathlib.Core.Bool.{So}
 use borrow.Author.Needs.{needs}
 use borrow.Author.Tests.{not-true, not-false}
-use native.Mathlib.Omega.{arith}
 use lib.ListN.{length}
-use Rattle.sizes.specs.Bounds.{sizesOf}
+use Rattle.sizes.specs.Bounds.{sizesOf, masterAt}
 use Rattle.layout.specs.Buffer.{shaped, inForm}
 use Rattle.version.proofs.Stores.{master-area}
-use Rattle.form.specs.Parts.{StoreArea, partCount, partFormed}
+use Rattle.form.specs.Parts.{StoreArea}
 use Rattle.form.proofs.Stores.{shaped-area, shaped-long, store-test}
 use Rattle.form.proofs.in_form.Statement.{statement}
 use Rattle.form.proofs.in_form.Tie as tie
@@ -37,16 +36,8 @@ unfolding sizesOf
 place-formed-requires c κs =
     let A = area (c .before) in rw (c .areas .ensures) (master-area _ _ (A .ranged) (A .fits))
 
-parts-formed-requires : tie.Need-parts-formed-requires
-unfolding partCount
-parts-formed-requires c κs = (area (c .before .before), omega arith)
-
-parts-formed-requires-2 : tie.Need-parts-formed-requires-2
-unfolding partCount
-parts-formed-requires-2 c κs = (area (c .before .before .before), omega arith)
-
 returns-2 : tie.Need-returns-2
-unfolding inForm sizesOf partFormed
+unfolding inForm sizesOf masterAt
 returns-2 c =
     let s = c .before in
     let p = s .before in
@@ -55,8 +46,8 @@ returns-2 c =
     rw (
       yes (n .before),
       p .place-formed .ensures,
-      s .parts-formed .ensures,
-      c .parts-formed2 .ensures,
+      s .sites-formed .ensures,
+      c .runs-formed .ensures,
       a .areas .ensures,
       n .counts .ensures,
     )
@@ -71,6 +62,6 @@ in-form-spec =
     counts-requires
     areas-requires
     place-formed-requires
-    parts-formed-requires
-    parts-formed-requires-2
+    (λ c κs. area (c .before .before))
+    (λ c κs. area (c .before .before .before))
     returns-2)
