@@ -4,7 +4,7 @@ use mathlib.Core.Bool.{So}
 use mathlib.Core.List.{List}
 use Prim.Native.Nat.{ℕ}
 use Rattle.script.specs.Tie.{Served, Finished}
-use Rattle.sheetdesk.specs.Streams.{inputOver}
+use Rattle.streams.specs.Streams.{inputOver}
 use Rattle.sheetdesk.specs.declared.Kept.{Kept}
 
 -- Begun on the buffer l, it leaves m, and k as what is kept. stopped: by a write that failed, with

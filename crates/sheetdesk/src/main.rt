@@ -1,7 +1,5 @@
 // The program: reads calls from standard input, a line each, and writes the answers to standard
 // output after each read.
-mod streams;
-
 use script::Buffers;
 use script::State;
 use streams::Input;
@@ -19,7 +17,7 @@ ghost use Rattle.print.specs.Print.{lineRoom};
 ghost use Rattle.script.specs.Limits.{readRoom, outRoom, maxInput, Lent};
 ghost use Rattle.script.specs.Fold.{progress, fed, finished};
 ghost use Rattle.script.specs.Tie.{Served};
-ghost use Rattle.sheetdesk.specs.Streams.{Reads, Hands, goesOn};
+ghost use Rattle.streams.specs.Streams.{Reads, Hands, goesOn};
 ghost use Rattle.sheetdesk.specs.Runs.{Ran};
 
 // What is kept from one read to the next. ready, len: as in script's State. input, output: what

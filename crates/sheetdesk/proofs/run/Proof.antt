@@ -5,7 +5,7 @@ use borrow.Author.Needs.{needs}
 use Rattle.script.proofs.Steps.{taken}
 use Rattle.script.proofs.Serves.{served-last}
 use Rattle.sheetdesk.specs.Runs.{stopped, ended}
-use Rattle.sheetdesk.proofs.Stops.{over-unless}
+use Rattle.streams.proofs.Stops.{over-unless}
 use Rattle.sheetdesk.proofs.run.Statement.{statement}
 use Rattle.sheetdesk.proofs.run.Tie as tie
 

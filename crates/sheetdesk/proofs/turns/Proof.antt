@@ -13,8 +13,8 @@ use Rattle.script.specs.Limits.{readRoom, maxInput}
 use Rattle.script.specs.Tie.{Served}
 use Rattle.script.proofs.Steps.{taken}
 use Rattle.script.proofs.Serves.{served-none, served-more}
-use Rattle.sheetdesk.specs.Streams.{goesOn}
-use Rattle.sheetdesk.proofs.Stops.{begins, goes-below, goes-up, falls}
+use Rattle.streams.specs.Streams.{goesOn}
+use Rattle.streams.proofs.Stops.{begins, goes-below, goes-up, falls}
 use Rattle.sheetdesk.proofs.turns.Statement.{statement}
 use Rattle.sheetdesk.proofs.turns.Tie as tie
 

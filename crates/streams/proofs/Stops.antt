@@ -10,9 +10,9 @@ use native.Mathlib.Omega.{arith}
 use lib.Dec.{leb}
 use Rattle.words.proofs.Bools.{clash, test, and-right, not-elim, or-none, leb-gt, gt-leb, eqb-ne}
 use Rattle.script.specs.Limits.{maxInput}
-use Rattle.sheetdesk.specs.Streams.{Reads, inputOver, goesOn}
-use Rattle.sheetdesk.specs.declared.streams.Input.{Input}
-use Rattle.sheetdesk.specs.declared.streams.Output.{Output}
+use Rattle.streams.specs.Streams.{Reads, inputOver, goesOn}
+use Rattle.streams.specs.declared.Input.{Input}
+use Rattle.streams.specs.declared.Output.{Output}
 
 pub begins : (i : Input) (o : Output) → (i .all ≡ 0) × (i .ended ≡ false) → o .failed ≡ false
     → So (goesOn i o)

@@ -9,7 +9,7 @@ ghost use Prim.Native.Nat.{_+_, _*_, _≤_, _<_};
 ghost use lib.ListN.{length};
 ghost use Rattle.print.specs.Print.{lineRoom};
 ghost use Rattle.script.specs.Limits.{readRoom, outRoom, maxInput};
-ghost use Rattle.sheetdesk.specs.Streams.{Reads, Hands, inputOver, goesOn};
+ghost use Rattle.streams.specs.Streams.{Reads, Hands, inputOver, goesOn};
 
 // What was read. all: how many bytes. got: how many by the last read, to the front of a buffer of
 // room bytes. ended: it delivered none, at the end of the input or because it failed.

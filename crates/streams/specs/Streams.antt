@@ -9,8 +9,8 @@ use Prim.Native.Nat.{ℕ, _+_, _≤_}
 use lib.Dec.{eqb, leb}
 use lib.ListN.{length}
 use Rattle.script.specs.Limits.{maxInput}
-use Rattle.sheetdesk.specs.declared.streams.Input.{Input}
-use Rattle.sheetdesk.specs.declared.streams.Output.{Output}
+use Rattle.streams.specs.declared.Input.{Input}
+use Rattle.streams.specs.declared.Output.{Output}
 
 -- From i to j, one read more: to the front of chunk.
 pub record Reads (i j : Input) (chunk : List ℕ) : Type 0 where
