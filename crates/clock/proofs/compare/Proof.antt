@@ -24,23 +24,23 @@ loop-holds : tie.Need-loop-holds Inv-loop μ-loop
 unfolding exceeds anyBelow
 loop-holds c = (omega arith, refl, refl)
 
-add-x : tie.Need-add-x Inv-loop μ-loop
-add-x c = omega arith
+add-count-at : tie.Need-add-count-at Inv-loop μ-loop
+add-count-at c = omega arith
 
-mul-x : tie.Need-mul-x Inv-loop μ-loop
-mul-x c = omega arith
+count-at-requires : tie.Need-count-at-requires Inv-loop μ-loop
+count-at-requires c κs = omega arith
 
-shared-slice-read-x : tie.Need-shared-slice-read-x Inv-loop μ-loop
-shared-slice-read-x c = omega arith
+add-count-at-2 : tie.Need-add-count-at-2 Inv-loop μ-loop
+add-count-at-2 c = omega arith
 
-add-y : tie.Need-add-y Inv-loop μ-loop
-add-y c = omega arith
+count-at-requires-2 : tie.Need-count-at-requires-2 Inv-loop μ-loop
+count-at-requires-2 c κs = omega arith
 
-mul-y : tie.Need-mul-y Inv-loop μ-loop
-mul-y c = omega arith
+exceeds-requires : tie.Need-exceeds-requires Inv-loop μ-loop
+exceeds-requires c κs = search needs
 
-shared-slice-read-y : tie.Need-shared-slice-read-y Inv-loop μ-loop
-shared-slice-read-y c = omega arith
+exceeds-requires-2 : tie.Need-exceeds-requires-2 Inv-loop μ-loop
+exceeds-requires-2 c κs = search needs
 
 add-i : tie.Need-add-i Inv-loop μ-loop
 add-i c = omega arith
@@ -51,14 +51,19 @@ loop-less c = omega arith
 loop-again : tie.Need-loop-again Inv-loop μ-loop
 unfolding clockAt
 loop-again c =
-    let l = c .before .before .before in
+    let b = c .before in
+    let y = b .before in
+    let x = y .before in
+    let l = x .before .before in
     let a = l .before .before .before .args in
     let p = clockAt (a .p .now) (a .a) in
     let q = clockAt (a .q .now) (a .b) in
-    let i = l .loop .i in (
+    let i = l .loop .i in
+    let m = x .count-at .ensures in
+    let n = y .count-at2 .ensures in (
       omega arith,
-      rw (exceeds-more p q i, ← l .loop .inv .1),
-      rw (exceeds-more q p i, ← l .loop .inv .2),
+      rw (exceeds-more p q i, ← l .loop .inv .1, b .exceeds .ensures, m, n),
+      rw (exceeds-more q p i, ← l .loop .inv .2, c .exceeds2 .ensures, m, n),
     )
 
 standing-of-requires : tie.Need-standing-of-requires Inv-loop μ-loop
@@ -79,12 +84,12 @@ compare-spec =
     Inv-loop
     μ-loop
     loop-holds
-    add-x
-    mul-x
-    shared-slice-read-x
-    add-y
-    mul-y
-    shared-slice-read-y
+    add-count-at
+    count-at-requires
+    add-count-at-2
+    count-at-requires-2
+    exceeds-requires
+    exceeds-requires-2
     add-i
     loop-less
     loop-again

@@ -1,7 +1,7 @@
 -- `merge_into` stores the join of two clocks. The loop's invariant: the places passed hold it.
 -- Assumes nothing.
-use mathlib.Core.Path.{_≡_, refl, _∙_}
-use Prim.Native.Nat.{_+_, _≤_, _-_}
+use mathlib.Core.Path.{_≡_, refl, ap, ap₂, _∙_}
+use Prim.Native.Nat.{_+_, _≤_, _-_, max}
 use borrow.Author.Needs.{needs}
 use native.Mathlib.Omega.{arith}
 use lib.ListN.{length, length-set}
@@ -21,35 +21,26 @@ loop-holds : tie.Need-loop-holds Inv-loop μ-loop
 unfolding put
 loop-holds c = (omega arith, refl, refl)
 
-add-larger : tie.Need-add-larger Inv-loop μ-loop
-add-larger c = omega arith
+add-count-at : tie.Need-add-count-at Inv-loop μ-loop
+add-count-at c = omega arith
 
-mul-larger : tie.Need-mul-larger Inv-loop μ-loop
-mul-larger c = omega arith
+count-at-requires : tie.Need-count-at-requires Inv-loop μ-loop
+count-at-requires c κs = omega arith
 
-slice-read-larger : tie.Need-slice-read-larger Inv-loop μ-loop
-slice-read-larger c = omega arith
+add-count-at-2 : tie.Need-add-count-at-2 Inv-loop μ-loop
+add-count-at-2 c = omega arith
 
-add-larger-2 : tie.Need-add-larger-2 Inv-loop μ-loop
-add-larger-2 c = omega arith
-
-mul-larger-2 : tie.Need-mul-larger-2 Inv-loop μ-loop
-mul-larger-2 c = omega arith
-
-slice-read-larger-2 : tie.Need-slice-read-larger-2 Inv-loop μ-loop
-slice-read-larger-2 c = omega arith
+count-at-requires-2 : tie.Need-count-at-requires-2 Inv-loop μ-loop
+count-at-requires-2 c κs = omega arith
 
 larger-requires : tie.Need-larger-requires Inv-loop μ-loop
 larger-requires c κs = search needs
 
-add-words : tie.Need-add-words Inv-loop μ-loop
-add-words c = omega arith
+add-set-count : tie.Need-add-set-count Inv-loop μ-loop
+add-set-count c = omega arith
 
-mul-words : tie.Need-mul-words Inv-loop μ-loop
-mul-words c = omega arith
-
-slice-write-words : tie.Need-slice-write-words Inv-loop μ-loop
-slice-write-words c = omega arith
+set-count-requires : tie.Need-set-count-requires Inv-loop μ-loop
+set-count-requires c κs = omega arith
 
 add-i : tie.Need-add-i Inv-loop μ-loop
 add-i c = omega arith
@@ -59,16 +50,22 @@ loop-less c = omega arith
 
 loop-again : tie.Need-loop-again Inv-loop μ-loop
 loop-again c =
-    let l = c .before .before .before .before in
+    let s = c .before .before in
+    let g = s .before in
+    let y = g .before .before in
+    let x = y .before .before in
+    let l = x .before .before .before in
     let a = l .before .before .args in
     let i = l .loop .i in
     let m = l .loop .words in
-    let x = c .larger .result in
-    let P = l .before .before .pre in (
+    let n = g .larger .result .0 in
+    let e = s .set-count .ensures in (
       omega arith,
-      length-set m (a .dst + i) x ∙ l .loop .inv .1,
-      merge-step (a .words .now) (a .dst) (a .src) (a .n) i P (omega arith) m (l .loop .inv .2)
-          x (c .larger .ensures),
+      ap length e ∙ length-set m (a .dst + i) n ∙ l .loop .inv .1,
+      e
+          ∙ merge-step (a .words .now) (a .dst) (a .src) (a .n) i (l .before .before .pre)
+          (omega arith) m (l .loop .inv .2) n
+          (g .larger .ensures ∙ ap₂ max (x .count-at .ensures) (y .count-at2 .ensures)),
     )
 
 same-length : tie.Need-same-length Inv-loop μ-loop
@@ -87,16 +84,13 @@ merge-into-spec =
     Inv-loop
     μ-loop
     loop-holds
-    add-larger
-    mul-larger
-    slice-read-larger
-    add-larger-2
-    mul-larger-2
-    slice-read-larger-2
+    add-count-at
+    count-at-requires
+    add-count-at-2
+    count-at-requires-2
+    add-set-count
     larger-requires
-    add-words
-    mul-words
-    slice-write-words
+    set-count-requires
     add-i
     loop-less
     loop-again

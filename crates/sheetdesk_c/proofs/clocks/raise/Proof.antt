@@ -1,6 +1,6 @@
 -- `raise` stores the join of two clocks. The loop's invariant: the places passed hold it.
 -- Assumes nothing.
-use mathlib.Core.Path.{_≡_, refl, _∙_}
+use mathlib.Core.Path.{_≡_, refl, ap, ap₂, _∙_}
 use Prim.Native.Nat.{_+_, _≤_, _-_, max}
 use borrow.Author.Needs.{needs}
 use native.Mathlib.Omega.{arith}
@@ -25,26 +25,17 @@ loop-holds : tie.Need-loop-holds Inv-loop μ-loop
 unfolding put
 loop-holds c = (omega arith, refl, refl)
 
-mul-larger : tie.Need-mul-larger Inv-loop μ-loop
-mul-larger c = omega arith
+count-at-requires : tie.Need-count-at-requires Inv-loop μ-loop
+count-at-requires c κs = omega arith
 
-slice-read-larger : tie.Need-slice-read-larger Inv-loop μ-loop
-slice-read-larger c = omega arith
-
-mul-larger-2 : tie.Need-mul-larger-2 Inv-loop μ-loop
-mul-larger-2 c = omega arith
-
-shared-slice-read-larger : tie.Need-shared-slice-read-larger Inv-loop μ-loop
-shared-slice-read-larger c = omega arith
+count-at-requires-2 : tie.Need-count-at-requires-2 Inv-loop μ-loop
+count-at-requires-2 c κs = omega arith
 
 larger-requires : tie.Need-larger-requires Inv-loop μ-loop
 larger-requires c κs = search needs
 
-mul-target : tie.Need-mul-target Inv-loop μ-loop
-mul-target c = omega arith
-
-slice-write-target : tie.Need-slice-write-target Inv-loop μ-loop
-slice-write-target c = omega arith
+set-count-requires : tie.Need-set-count-requires Inv-loop μ-loop
+set-count-requires c κs = omega arith
 
 add-i : tie.Need-add-i Inv-loop μ-loop
 add-i c = omega arith
@@ -55,21 +46,27 @@ loop-less c = omega arith
 loop-again : tie.Need-loop-again Inv-loop μ-loop
 unfolding join
 loop-again c =
-    let l = c .before .before .before .before in
+    let s = c .before .before in
+    let g = s .before in
+    let y = g .before .before in
+    let x = y .before in
+    let l = x .before .before .before in
     let a = l .before .before .before .args in
     let t = a .target .now in
-    let s = a .source .now in
+    let r = a .source .now in
     let i = l .loop .i in
     let m = l .loop .target in
-    let x = c .larger .result in
+    let n = g .larger .result .0 in
+    let d = s .set-count .ensures in
     let e = l .loop .inv .2 in
-    let q : x ≡ max (getD m i 0) (getD s i 0) = c .larger .ensures in
-    let f = join (clockAt t 0) (clockAt s 0) in
+    let q : n ≡ max (getD m i 0) (getD r i 0) =
+        g .larger .ensures ∙ ap₂ max (x .count-at .ensures) (y .count-at2 .ensures) in
+    let f = join (clockAt t 0) (clockAt r 0) in
     let z : 0 + i ≡ i = omega arith in (
       omega arith,
-      length-set m i x ∙ l .loop .inv .1,
-      rw z at (put-step t 0 i f m x e
-          (q ∙ rw (e, put-high t 0 i f i (omega arith), clock-at t i, clock-at s i))),
+      ap length d ∙ length-set m i n ∙ l .loop .inv .1,
+      d ∙ (rw z at (put-step t 0 i f m n e
+          (q ∙ rw (e, put-high t 0 i f i (omega arith), clock-at t i, clock-at r i)))),
     )
 
 same-length : tie.Need-same-length Inv-loop μ-loop
@@ -88,13 +85,10 @@ raise-spec =
     Inv-loop
     μ-loop
     loop-holds
-    mul-larger
-    slice-read-larger
-    mul-larger-2
-    shared-slice-read-larger
+    count-at-requires
+    count-at-requires-2
     larger-requires
-    mul-target
-    slice-write-target
+    set-count-requires
     add-i
     loop-less
     loop-again
