@@ -59,8 +59,9 @@ loop-again c =
     let n = g .larger .result .0 in
     let d = s .set-count .ensures in
     let e = l .loop .inv .2 in
-    let q : n ≡ max (getD m i 0) (getD r i 0) =
-        g .larger .ensures ∙ ap₂ max (x .count-at .ensures) (y .count-at2 .ensures) in
+    let u = x .count-at .ensures in
+    let v = y .count-at2 .ensures in
+    let q : n ≡ max (getD m i 0) (getD r i 0) = g .larger .ensures ∙ ap₂ max u v in
     let f = join (clockAt t 0) (clockAt r 0) in
     let z : 0 + i ≡ i = omega arith in (
       omega arith,
