@@ -1,7 +1,8 @@
 #!/usr/bin/env bash
 # A writer's count taken for an issue number, or the reverse, must not compile: the compiler refuses it before the prover
 # sees it, so it can't be a must-fail edit. Swaps the two in a copy, at each place where one is read, tested, stored or
-# handed on, and wants the compiler's refusal. So for an Input or Output of the program that no read or write gave.
+# handed on, and wants the compiler's refusal. Where rows are compared and merged no issue number is in reach: a plain word
+# or an index is put there. So for an Input or Output of the program that no read or write gave.
 # Each swap: crate, file, text, other text.
 set -u
 cd "$(dirname "$0")/.." || exit 2
@@ -26,10 +27,21 @@ P
   case $said in
     *"error[mismatched-types]: expected \`IssueNumber\`, found \`WriterCount\`"*) refused=$((refused + 1)) ;;
     *"error[mismatched-types]: expected \`WriterCount\`, found \`IssueNumber\`"*) refused=$((refused + 1)) ;;
+    *"error[mismatched-types]: expected \`WriterCount\`, found \`u32\`"*) refused=$((refused + 1)) ;;
+    *"error[mismatched-types]: expected \`WriterCount\`, found \`usize\`"*) refused=$((refused + 1)) ;;
     *"error[private-field]"* | *"error[unknown-method]"*) refused=$((refused + 1)) ;;
     *) echo "swapped: the compiler took it: $1/$2: $4"; printf '%s\n' "$said" | tail -n 5; failed=1 ;;
   esac
 }
+# compared and merged: rows
+swap clock lib.rt 'let x = count_at(p, a + i);' 'let x = p[a + i];'
+swap clock lib.rt 'let y = count_at(q, b + i);' 'let y = q[b + i];'
+swap clock lib.rt 'over | x.exceeds(y);' 'over | x.exceeds(b + i);'
+swap clock lib.rt 'under | y.exceeds(x);' 'under | (x.0 < y.0);'
+swap clock lib.rt 'let y = count_at(words, src + i);' 'let y = words[src + i];'
+swap clock lib.rt 'set_count(words, dst + i, x.larger(y));' 'set_count(words, dst + i, words[src + i]);'
+swap sheetdesk_c clocks.rt 'let y = count_at(source, i);' 'let y = source[i];'
+swap sheetdesk_c clocks.rt 'set_count(target, i, x.larger(y));' 'set_count(target, i, source[i]);'
 # raised
 swap numbers lib.rt 'issue: number,' 'issue: made,'
 swap issue lib.rt 'raised(old.issue, old.count)' 'raised(old.count, old.issue)'
@@ -38,24 +50,24 @@ swap issue lib.rt 'old.count.is_full()' 'old.issue.is_full()'
 # read
 swap issue lib.rt 'let issue = last_issue(words);' 'let issue = count_at(words, 4);'
 swap issue lib.rt 'let count = count_at(words, at);' 'let count = numbers::version_issue(words, at);'
-swap version merge.rt $'let old = version_issue(words, dst);\n    let new' $'let old = numbers::count_at(words, dst);\n    let new'
-swap version merge.rt 'let number = version_issue(words, s);' 'let number = numbers::count_at(words, s);'
-swap look lib.rt 'let issue = version_issue(words, version);' 'let issue = numbers::count_at(words, version);'
-swap version lib.rt 'let number = version_issue(words, version);' 'let number = numbers::count_at(words, version);'
-swap version merge.rt 'let new = old.later(number);' 'let new = old.later(numbers::count_at(words, dst));'
+swap version merge.rt $'let old = version_issue(words, dst);\n    let new' $'let old = clock::count::count_at(words, dst);\n    let new'
+swap version merge.rt 'let number = version_issue(words, s);' 'let number = clock::count::count_at(words, s);'
+swap look lib.rt 'let issue = version_issue(words, version);' 'let issue = clock::count::count_at(words, version);'
+swap version lib.rt 'let number = version_issue(words, version);' 'let number = clock::count::count_at(words, version);'
+swap version merge.rt 'let new = old.later(number);' 'let new = old.later(clock::count::count_at(words, dst));'
 swap version merge.rt $'let y = count_at(words, q + u);\n        let leads' $'let y = numbers::version_issue(words, q + u);\n        let leads'
 swap version merge.rt 'leads_on(m, x, n, y, u as u32)' 'leads_on(m, x, n, numbers::version_issue(words, p), u as u32)'
 swap issue lib.rt 'Tally { issue, count }' 'Tally { issue: count, count: issue }'
 # stored
 swap issue lib.rt 'set_last_issue(words, tally.issue);' 'set_last_issue(words, tally.count);'
-swap version merge.rt 'set_version_issue(words, dst, new);' 'numbers::set_count(words, dst, new);'
+swap version merge.rt 'set_version_issue(words, dst, new);' 'clock::count::set_count(words, dst, new);'
 swap issue past.rt 'set_count(words, row + w, new);' 'numbers::set_version_issue(words, row + w, new);'
 swap issue past.rt 'set_count(words, at, new);' 'numbers::set_version_issue(words, at, new);'
 # handed on
 swap issue lib.rt 'w, mask, tally.count);' 'w, mask, tally.issue);'
 swap issue lib.rt 'at, w, mask, tally.issue);' 'at, w, mask, tally.count);'
 # answered, or taken out of its type
-swap look row.rt $'store: &[u32],\n    issue: IssueNumber,' $'store: &[u32],\n    issue: numbers::WriterCount,'
+swap look row.rt $'store: &[u32],\n    issue: IssueNumber,' $'store: &[u32],\n    issue: clock::count::WriterCount,'
 swap issue lib.rt 'set_last_issue(words, tally.issue);' 'words[4] = tally.count.0;'
 # made up
 swap sheetdesk main.rt 'let input = Input::none();' 'let input = Input { all: 0, got: 0, room: 0, ended: true };'

@@ -1,5 +1,8 @@
 // Clocks in a buffer of words.
-use words::larger;
+pub mod count;
+
+use count::count_at;
+use count::set_count;
 ghost use mathlib.Core.Path.{_≡_};
 ghost use Prim.Native.Nat.{_+_, _≤_};
 ghost use lib.ListN.{length};
@@ -79,10 +82,10 @@ pub fn compare(p: &[u32], a: usize, q: &[u32], b: usize, w: usize) -> Standing
     let mut under = false;
     let mut i = 0;
     while i < w {
-        let x = p[a + i];
-        let y = q[b + i];
-        over = over | (y < x);
-        under = under | (x < y);
+        let x = count_at(p, a + i);
+        let y = count_at(q, b + i);
+        over = over | x.exceeds(y);
+        under = under | y.exceeds(x);
         i += 1;
     }
     standing_of(over, under)
@@ -111,7 +114,9 @@ pub fn merge_into(words: &mut [u32], dst: usize, src: usize, n: usize)
 {
     let mut i = 0;
     while i < n {
-        words[dst + i] = larger(words[dst + i], words[src + i]);
+        let x = count_at(words, dst + i);
+        let y = count_at(words, src + i);
+        set_count(words, dst + i, x.larger(y));
         i += 1;
     }
 }

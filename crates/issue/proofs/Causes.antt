@@ -13,10 +13,11 @@ use lib.Dec.{eqb, leb}
 use Rattle.words.specs.Tests.{allBelow}
 use Rattle.words.proofs.Bools.{test, or-none, leb-gt, gt-leb, eqb-ne}
 use Rattle.masks.specs.Mask.{testBit}
+use Rattle.clock.specs.Count.{maxWord}
 use Rattle.sizes.specs.declared.Counts.{Counts}
 use Rattle.model.specs.Store.{Store}
 use Rattle.model.specs.Outcome.{refuse, allowed, issueRow, runCause}
-use Rattle.model.specs.Issue.{maxWord, raiseCause, issueCause}
+use Rattle.model.specs.Issue.{raiseCause, issueCause}
 use Rattle.model.proofs.Outcomes.{no-cause, no-lack}
 use Rattle.layout.specs.Reading.{storeOf}
 use Rattle.form.specs.Parts.{FormWith}

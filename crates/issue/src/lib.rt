@@ -3,13 +3,13 @@ mod marks;
 mod past;
 
 use answers::Answered;
+use clock::count::count_at;
 use form::header::counts;
 use form::job::is_below;
 use marks::mark_sites;
 use masks::has;
 use numbers::IssueNumber;
 use numbers::Tally;
-use numbers::count_at;
 use numbers::last_issue;
 use numbers::raised;
 use numbers::set_last_issue;

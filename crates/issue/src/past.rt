@@ -1,9 +1,9 @@
 // A writer's past: it takes in what a run read, its rows get the new count, and the master's
 // versions are merged with it.
+use clock::count::WriterCount;
+use clock::count::set_count;
 use masks::has;
 use numbers::IssueNumber;
-use numbers::WriterCount;
-use numbers::set_count;
 use sizes::Counts;
 use version::merge::merge_version;
 use version::merge_past;

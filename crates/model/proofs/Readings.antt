@@ -11,6 +11,7 @@ use Rattle.words.specs.Tests.{only}
 use Rattle.words.specs.Lists.{putAt}
 use Rattle.masks.specs.Mask.{testBit, maskBelow}
 use Rattle.clock.specs.Clock.{Clock, standing, standingNumber, dominates, concurrent}
+use Rattle.clock.specs.Count.{maxWord}
 use Rattle.sizes.specs.Bounds.{countsOf}
 use Rattle.model.specs.Algebra.{Place, causalCut, overlappingCut}
 use Rattle.model.specs.Version.{Version, zeroPast, unheld, dependency, supersedes, merge, versions}
@@ -18,7 +19,6 @@ use Rattle.model.specs.Sets.{evictSet}
 use Rattle.model.specs.Store.{Store, Job, noJob, noJobs, noBranch, fresh, withLast, withMarks, withMaster, withCache, withWriter, withRun}
 use Rattle.model.specs.Form.{wellFormed}
 use Rattle.model.specs.Outcome.{answer}
-use Rattle.model.specs.Issue.{maxWord}
 use Rattle.model.specs.Look.{rowNumbers}
 use Rattle.model.specs.Calls.{StoreCall, openRun, fetch, step, issue, ask, look, ruleOf}
 use Rattle.model.proofs.Scripts.{ok₁, ok₃, broke, not-taken}

@@ -11,14 +11,11 @@ use Rattle.words.specs.Tests.{allBelow}
 use Rattle.words.specs.Numbers.{foldBelow}
 use Rattle.masks.specs.Mask.{testBit}
 use Rattle.clock.specs.Clock.{Clock, join}
+use Rattle.clock.specs.Count.{maxWord}
 use Rattle.model.specs.Algebra.{Place}
 use Rattle.model.specs.Version.{Version, merge}
 use Rattle.model.specs.Store.{Store, Writer, freeRun, withLast, withMarks, withMaster, withRun, withWriter}
 use Rattle.model.specs.Outcome.{Outcome, done, refuse, unless, issueRow, runCause}
-
--- The largest word.
-abbrev pub maxWord : ℕ
-maxWord = 4294967295
 
 -- "when the last issue number is 4,294,967,295" 9, "when the writer's count is" 10.
 unfoldable pub raiseCause : Store → ℕ → ℕ

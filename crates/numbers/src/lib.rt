@@ -1,28 +1,19 @@
-// Issue numbers and writers' counts: two types, so that one is never taken for the other. Only
-// this crate takes one out of a word or puts one into it.
+// Issue numbers: a type of their own, so that none is taken for a writer's count. Only this crate
+// takes one out of a word or puts one into it.
+use clock::count::MAX;
+use clock::count::WriterCount;
 use sizes::header::HeaderOffset;
 use words::larger;
 ghost use mathlib.Core.Path.{_≡_};
-ghost use Prim.Native.Nat.{_+_, _≤_, _<_, max};
-ghost use lib.Dec.{eqb, leb, ltb};
+ghost use Prim.Native.Nat.{_≤_, _<_, max};
+ghost use lib.Dec.{eqb, leb};
 ghost use lib.ListN.{length, getD, set};
+ghost use Rattle.clock.specs.Count.{maxWord};
 ghost use Rattle.sizes.specs.Bounds.{headerSize, lastOffset};
-ghost use Rattle.model.specs.Issue.{maxWord};
-ghost use Rattle.numbers.specs.Rising.{issueAfter, countAfter, risen};
+ghost use Rattle.numbers.specs.Rising.{issueAfter, risen};
 
 // The number of an issue; 0 where nothing is held.
 pub struct IssueNumber(u32);
-
-// How many issues a writer has made.
-pub struct WriterCount(u32);
-
-// The largest of each: no issue follows it.
-pub const MAX: u32 = 4294967295;
-
-// It is that of the definitions.
-pub fn limits()
-    ensures { λ _. do ⌜ (← ⟦MAX⟧ .entry) ≡ maxWord ⌝ }
-{}
 
 // What an issue raises: the last issue number and its writer's count.
 pub struct Tally {
@@ -75,44 +66,6 @@ impl IssueNumber {
     }
 }
 
-impl WriterCount {
-    // Whether it is larger than another.
-    pub fn exceeds(self, other: WriterCount) -> bool
-        ensures { λ r. ⌜ r ≡ ltb (other .0) (self .0) ⌝ }
-    {
-        other.0 < self.0
-    }
-
-    // Whether it is the same as another.
-    pub fn equals(self, other: WriterCount) -> bool
-        ensures { λ r. ⌜ r ≡ eqb (self .0) (other .0) ⌝ }
-    {
-        self.0 == other.0
-    }
-
-    // Whether the writer is present: its count isn't 0.
-    pub fn is_present(self) -> bool
-        ensures { λ r. ⌜ r ≡ leb 1 (self .0) ⌝ }
-    {
-        0 < self.0
-    }
-
-    // Whether the writer can make no further issue.
-    pub fn is_full(self) -> bool
-        ensures { λ r. ⌜ r ≡ eqb (self .0) maxWord ⌝ }
-    {
-        self.0 == MAX
-    }
-
-    // The count after one more issue.
-    pub fn next(self) -> WriterCount
-        requires { ⌜ self .0 < maxWord ⌝ }
-        ensures { λ r. ⌜ r ≡ countAfter self ⌝ }
-    {
-        WriterCount(self.0 + 1)
-    }
-}
-
 // Both after one more issue: "the issue number and the writer's count rise by 1".
 pub fn raised(issue: IssueNumber, count: WriterCount) -> Tally
     requires { ⌜ issue .0 < maxWord ⌝ }
@@ -151,21 +104,6 @@ pub fn version_issue(words: &[u32], at: usize) -> IssueNumber
 }
 
 pub fn set_version_issue(words: &mut [u32], at: usize, new: IssueNumber)
-    requires { ⌜ at < length (now words) ⌝ }
-    ensures { λ _. ⌜ now (words .exit) ≡ set (now (words .entry)) at (new .0) ⌝ }
-{
-    words[at] = new.0;
-}
-
-// The count at an index: a writer's, or one of a row.
-pub fn count_at(words: &[u32], at: usize) -> WriterCount
-    requires { ⌜ at < length (now words) ⌝ }
-    ensures { λ r. ⌜ r .0 ≡ getD (now (words .entry)) at 0 ⌝ }
-{
-    WriterCount(words[at])
-}
-
-pub fn set_count(words: &mut [u32], at: usize, new: WriterCount)
     requires { ⌜ at < length (now words) ⌝ }
     ensures { λ _. ⌜ now (words .exit) ≡ set (now (words .entry)) at (new .0) ⌝ }
 {

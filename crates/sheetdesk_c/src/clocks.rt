@@ -1,9 +1,10 @@
 // Clocks for C and Rust: each is lent as a slice of its counts.
 use clock::compare;
+use clock::count::count_at;
+use clock::count::set_count;
 use clock::covering;
 use clock::standing_number;
 use sizes::Sizes;
-use words::larger;
 ghost use mathlib.Core.Path.{_≡_};
 ghost use Prim.Native.Nat.{_≤_};
 ghost use lib.ListN.{length};
@@ -26,7 +27,9 @@ fn raise(target: &mut [u32], source: &[u32], w: usize)
 {
     let mut i = 0;
     while i < w {
-        target[i] = larger(target[i], source[i]);
+        let x = count_at(target, i);
+        let y = count_at(source, i);
+        set_count(target, i, x.larger(y));
         i += 1;
     }
 }

@@ -2,11 +2,11 @@
 use crate::leaders_of;
 use crate::merge_past;
 use crate::row_of;
+use clock::count::WriterCount;
+use clock::count::count_at;
 use masks::has;
 use masks::with_if;
 use numbers::IssueNumber;
-use numbers::WriterCount;
-use numbers::count_at;
 use numbers::set_version_issue;
 use numbers::version_issue;
 use sizes::Counts;

@@ -27,14 +27,19 @@ loop-holds c = (omega arith, refl, refl)
 loop-again : tie.Need-loop-again Inv-loop μ-loop
 unfolding clockAt
 loop-again c =
-    let l = c .before .before .before in
+    let b = c .before in
+    let y = b .before in
+    let x = y .before in
+    let l = x .before .before in
     let a = l .before .before .before .args in
     let p = clockAt (a .p .now) (a .a) in
     let q = clockAt (a .q .now) (a .b) in
-    let i = l .loop .i in (
+    let i = l .loop .i in
+    let m = x .count-at .ensures in
+    let n = y .count-at2 .ensures in (
       omega arith,
-      rw (exceeds-more p q i, ← l .loop .inv .1),
-      rw (exceeds-more q p i, ← l .loop .inv .2),
+      rw (exceeds-more p q i, ← l .loop .inv .1, b .exceeds .ensures, m, n),
+      rw (exceeds-more q p i, ← l .loop .inv .2, c .exceeds2 .ensures, m, n),
     )
 
 returns : tie.Need-returns Inv-loop μ-loop
@@ -53,11 +58,11 @@ compare-spec =
     μ-loop
     loop-holds
     (λ c. omega arith)
+    (λ c κs. omega arith)
     (λ c. omega arith)
-    (λ c. omega arith)
-    (λ c. omega arith)
-    (λ c. omega arith)
-    (λ c. omega arith)
+    (λ c κs. omega arith)
+    (λ c κs. search needs)
+    (λ c κs. search needs)
     (λ c. omega arith)
     (λ c. omega arith)
     loop-again

@@ -1,7 +1,7 @@
 -- `merge_into` stores the join of two clocks. The loop's invariant: the places passed hold it.
 -- Assumes nothing.
-use mathlib.Core.Path.{_≡_, refl, _∙_}
-use Prim.Native.Nat.{_+_, _≤_, _-_}
+use mathlib.Core.Path.{_≡_, refl, ap, ap₂, _∙_}
+use Prim.Native.Nat.{_+_, _≤_, _-_, max}
 use borrow.Author.Needs.{needs}
 use native.Mathlib.Omega.{arith}
 use lib.ListN.{length, length-set}
@@ -23,16 +23,22 @@ loop-holds c = (omega arith, refl, refl)
 
 loop-again : tie.Need-loop-again Inv-loop μ-loop
 loop-again c =
-    let l = c .before .before .before .before in
+    let s = c .before .before in
+    let g = s .before in
+    let y = g .before .before in
+    let x = y .before .before in
+    let l = x .before .before .before in
     let a = l .before .before .args in
     let i = l .loop .i in
     let m = l .loop .words in
-    let x = c .larger .result in
-    let P = l .before .before .pre in (
+    let n = g .larger .result .0 in
+    let e = s .set-count .ensures in (
       omega arith,
-      length-set m (a .dst + i) x ∙ l .loop .inv .1,
-      merge-step (a .words .now) (a .dst) (a .src) (a .n) i P (omega arith) m (l .loop .inv .2)
-          x (c .larger .ensures),
+      ap length e ∙ length-set m (a .dst + i) n ∙ l .loop .inv .1,
+      e
+          ∙ merge-step (a .words .now) (a .dst) (a .src) (a .n) i (l .before .before .pre)
+          (omega arith) m (l .loop .inv .2) n
+          (g .larger .ensures ∙ ap₂ max (x .count-at .ensures) (y .count-at2 .ensures)),
     )
 
 returns : tie.Need-returns Inv-loop μ-loop
@@ -49,15 +55,12 @@ merge-into-spec =
     μ-loop
     loop-holds
     (λ c. omega arith)
+    (λ c κs. omega arith)
     (λ c. omega arith)
-    (λ c. omega arith)
-    (λ c. omega arith)
-    (λ c. omega arith)
+    (λ c κs. omega arith)
     (λ c. omega arith)
     (λ c κs. search needs)
-    (λ c. omega arith)
-    (λ c. omega arith)
-    (λ c. omega arith)
+    (λ c κs. omega arith)
     (λ c. omega arith)
     (λ c. omega arith)
     loop-again

@@ -1,6 +1,6 @@
 -- `raise` stores the join of two clocks. The loop's invariant: the places passed hold it.
 -- Assumes nothing.
-use mathlib.Core.Path.{_≡_, refl, _∙_}
+use mathlib.Core.Path.{_≡_, refl, ap, ap₂, _∙_}
 use Prim.Native.Nat.{_+_, _≤_, _-_, max}
 use borrow.Author.Needs.{needs}
 use native.Mathlib.Omega.{arith}
@@ -28,21 +28,28 @@ loop-holds c = (omega arith, refl, refl)
 loop-again : tie.Need-loop-again Inv-loop μ-loop
 unfolding join
 loop-again c =
-    let l = c .before .before .before .before in
+    let s = c .before .before in
+    let g = s .before in
+    let y = g .before .before in
+    let x = y .before in
+    let l = x .before .before .before in
     let a = l .before .before .before .args in
     let t = a .target .now in
-    let s = a .source .now in
+    let r = a .source .now in
     let i = l .loop .i in
     let m = l .loop .target in
-    let x = c .larger .result in
+    let n = g .larger .result .0 in
+    let d = s .set-count .ensures in
     let e = l .loop .inv .2 in
-    let q : x ≡ max (getD m i 0) (getD s i 0) = c .larger .ensures in
-    let f = join (clockAt t 0) (clockAt s 0) in
+    let u = x .count-at .ensures in
+    let v = y .count-at2 .ensures in
+    let q : n ≡ max (getD m i 0) (getD r i 0) = g .larger .ensures ∙ ap₂ max u v in
+    let f = join (clockAt t 0) (clockAt r 0) in
     let z : 0 + i ≡ i = omega arith in (
       omega arith,
-      length-set m i x ∙ l .loop .inv .1,
-      rw z at (put-step t 0 i f m x e
-          (q ∙ rw (e, put-high t 0 i f i (omega arith), clock-at t i, clock-at s i))),
+      ap length d ∙ length-set m i n ∙ l .loop .inv .1,
+      d ∙ (rw z at (put-step t 0 i f m n e
+          (q ∙ rw (e, put-high t 0 i f i (omega arith), clock-at t i, clock-at r i)))),
     )
 
 returns : tie.Need-returns Inv-loop μ-loop
@@ -58,13 +65,10 @@ raise-spec =
     Inv-loop
     μ-loop
     loop-holds
-    (λ c. omega arith)
-    (λ c. omega arith)
-    (λ c. omega arith)
-    (λ c. omega arith)
+    (λ c κs. omega arith)
+    (λ c κs. omega arith)
     (λ c κs. search needs)
-    (λ c. omega arith)
-    (λ c. omega arith)
+    (λ c κs. omega arith)
     (λ c. omega arith)
     (λ c. omega arith)
     loop-again
