@@ -3,21 +3,13 @@
 # the pages). Usage, after `rt check` and `rt staticlib sheetdesk_c`: tests/history.sh [TRIAL..], all trials without one.
 set -u
 cd "$(dirname "$0")/.." || exit 2
-top=$PWD
-work=$(mktemp -d) || exit 2
-trap 'rm -rf "$work"' EXIT
-self=history
 . tests/trials.sh || exit 2
 library=(-L native=target/staticlib -l static=sheetdesk_c)
 
 build() {
-  . tools/history.sh || exit 2
-  history_is_built || compile_history -D warnings || bad "tools/history.rs"
+  build_tool
   rustc --edition 2021 -O -D warnings -o target/tools/shrink tests/shrink.rs "${library[@]}" || bad "tests/shrink.rs"
-  # tests/program.sh has built it, unless this runs alone.
-  [ -n "$(find reference -newer target/reference/generate 2>&1)" ] || return 0
-  mkdir -p target/reference
-  rustc --edition 2021 -C opt-level=3 -o target/reference/generate reference/generate.rs || bad "reference/generate.rs"
+  build_generate
 }
 
 trial_shrink() {
