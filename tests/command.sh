@@ -3,35 +3,15 @@
 # promises. Usage: tests/command.sh [TRIAL..], all trials without one.
 set -u
 cd "$(dirname "$0")/.." || exit 2
-work=$(mktemp -d) || exit 2
-trap 'rm -rf "$work"' EXIT
+. tests/trials.sh || exit 2
 printf 'new 2 2 2 1\n' >"$work/good"
 printf 'new 2 2 2 1\nnew\n' >"$work/unread"
-
-bad() {
-  echo "command: $1"
-  [ ! -s "$work/err" ] || head -n 5 "$work/err"
-  exit 1
-}
-
-# want STATUS WHAT COMMAND..: the exit status of a command; its output is in $work/out and $work/err.
-want() {
-  local due=$1 what=$2
-  shift 2
-  "$@" >"$work/out" 2>"$work/err"
-  local got=$?
-  [ "$got" -eq "$due" ] || bad "$what: exit $got, due $due"
-}
 
 same() {
   cmp -s "$work/out" "$1" || bad "$2: not the answers of $1"
 }
 
-# said TEXT: standard error has it. told TEXT: standard output has it.
-said() {
-  grep -q -e "$1" "$work/err" || bad "standard error doesn't say '$1'"
-}
-
+# told TEXT: standard output has it.
 told() {
   grep -q -e "$1" "$work/out" || bad "standard output doesn't say '$1'"
 }

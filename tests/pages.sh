@@ -4,20 +4,7 @@
 # without one.
 set -u
 cd "$(dirname "$0")/.." || exit 2
-top=$PWD
-work=$(mktemp -d) || exit 2
-trap 'rm -rf "$work"' EXIT
-self=pages
 . tests/trials.sh || exit 2
-
-build() {
-  . tools/history.sh || exit 2
-  history_is_built || compile_history -D warnings || bad "tools/history.rs"
-  # tests/program.sh has built it, unless this runs alone.
-  [ -n "$(find reference -newer target/reference/generate 2>&1)" ] || return 0
-  mkdir -p target/reference
-  rustc --edition 2021 -C opt-level=3 -o target/reference/generate reference/generate.rs || bad "reference/generate.rs"
-}
 
 # The page's words for what isn't ok are those of --echo.
 trial_words() {
@@ -85,7 +72,8 @@ trial_pages() {
 
 trials=("$@")
 [ $# -gt 0 ] || trials=(words sentences pages)
-build
+build_tool
+build_generate
 for trial in "${trials[@]}"; do
   (trial_"$trial") || exit 1
 done

@@ -3,15 +3,10 @@
 # `rt staticlib sheetdesk_c`: tests/record.sh [TRIAL..], all trials without one.
 set -u
 cd "$(dirname "$0")/.." || exit 2
-top=$PWD
-work=$(mktemp -d) || exit 2
-trap 'rm -rf "$work"' EXIT
-self=record
 . tests/trials.sh || exit 2
 
 build() {
-  . tools/history.sh || exit 2
-  history_is_built || compile_history -D warnings || bad "tools/history.rs"
+  build_tool
   rustc --edition 2021 -O -D warnings -o target/tools/record_rs tests/record.rs -L native=target/staticlib \
     -l static=sheetdesk_c || bad "tests/record.rs"
   gcc -std=c99 -O2 -Wall -Wextra -Werror -pedantic -o target/tools/record_c tests/record.c -L target/staticlib \

@@ -19,6 +19,7 @@ mod parts {
     pub mod log;
     pub mod replay;
     pub mod shrink;
+    pub mod trial;
 }
 
 use parts::log::{self, Entry, Log};

@@ -1,5 +1,9 @@
-# What the tests of the history share: sourced from the checkout's root, with the test's name in $self and a folder in $work.
+# What tests of the command and of the history share: sourced from the checkout's root. $work is a folder for what they write.
 export PYTHONDONTWRITEBYTECODE=1
+self=$(basename "$0" .sh)
+top=$PWD
+work=$(mktemp -d) || exit 2
+trap 'rm -rf "$work"' EXIT
 program=target/bin/sheetdesk
 tool=target/tools/history
 
@@ -25,6 +29,19 @@ want() {
 # said TEXT: standard error has it.
 said() {
   grep -q -e "$1" "$work/err" || bad "standard error doesn't say '$1'"
+}
+
+# Builds the tool of the history.
+build_tool() {
+  . tools/history.sh || exit 2
+  history_is_built || compile_history -D warnings || bad "tools/history.rs"
+}
+
+# Builds the generator of scripts. tests/program.sh has built it, unless a test runs alone.
+build_generate() {
+  [ -n "$(find reference -newer target/reference/generate 2>&1)" ] || return 0
+  mkdir -p target/reference
+  rustc --edition 2021 -C opt-level=3 -o target/reference/generate reference/generate.rs || bad "reference/generate.rs"
 }
 
 # have MODE FILE [LINE]: the tool on a file.

@@ -1,9 +1,11 @@
 //! The Rust wrapper's promises: the size of a desk before it is lent, names of refusals, standings and what a look shows, and
 //! answers printed as the program prints them, over the golden scripts. Prints what went wrong and exits 1, or what was tried.
 
+mod calls;
 #[path = "../embed/sheetdesk.rs"]
 mod sheetdesk;
 
+use calls::call;
 use sheetdesk::{compare, is_linked_right, words, Answer, Desk, Job, Look, Place, Refusal, Standing, MOST_WORDS};
 use std::{fs, process::exit};
 
@@ -61,31 +63,6 @@ fn looks() -> bool {
     }
     let rivals = Look { issue: 2, leaders: 5, clock: &[1, 0, 1], standing: Standing::Equal };
     none.iter().all(|answer| answer.look().is_none()) && desk.look(Place::Master, 0).look() == Some(rivals)
-}
-
-/// Makes the call of a line; nothing for a line that the wrapper has no form for.
-fn call(desk: &mut Desk, line: &str) -> Option<Answer> {
-    let (name, rest) = line.split_once(' ')?;
-    let numbers = rest.split(' ').map(|word| word.parse().ok()).collect::<Option<Vec<u32>>>()?;
-    Some(match (name, numbers.as_slice()) {
-        ("new", &[k, w, n, p]) => desk.new(k, w, n, p),
-        ("open", [run, list @ ..]) if list.len() % 3 == 0 => {
-            let job = |three: &[u32]| Job { office: three[0], reads: three[1], upstream: three[2] };
-            desk.open(*run, &list.chunks(3).map(job).collect::<Vec<Job>>())
-        }
-        ("fetch", &[office, sheet]) => desk.fetch(office, sheet),
-        ("evict", &[office, sheet]) => desk.evict(office, sheet),
-        ("prepare", &[run]) => desk.prepare(run),
-        ("step", &[run, job]) => desk.step(run, job),
-        ("explain", &[run, job]) => desk.explain(run, job),
-        ("issue", &[run, writer, mask]) => desk.issue(run, writer, mask),
-        ("drop", &[run]) => desk.drop(run),
-        ("stale", &[office]) => desk.stale(office),
-        ("look", &[0, 0, sheet]) => desk.look(Place::Master, sheet),
-        ("look", &[1, office, sheet]) => desk.look(Place::Shelf(office), sheet),
-        ("look", &[2, run, sheet]) => desk.look(Place::Card(run), sheet),
-        _ => return None,
-    })
 }
 
 /// How many lines of the golden scripts were answered, each as its file says.

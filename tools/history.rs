@@ -28,6 +28,7 @@ mod parts {
     pub mod shrink;
     pub mod story;
     pub mod told;
+    pub mod trial;
     pub mod versions;
     pub mod words;
 }

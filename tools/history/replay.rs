@@ -38,19 +38,36 @@ impl Replay {
         call_on(&mut self.words, call)
     }
 
-    /// How many writers the desk has.
-    pub fn writers(&self) -> usize {
-        self.words[1] as usize
-    }
-
     /// The desk's words, to go on from later.
     pub fn kept(&self) -> Vec<u32> {
-        self.words[..HEADER.max(self.words[TOTAL] as usize)].to_vec()
+        self.desk().to_vec()
+    }
+
+    fn desk(&self) -> &[u32] {
+        &self.words[..HEADER.max(self.words[TOTAL] as usize)]
+    }
+
+    /// A number for the desk's words: two desks have the same one if they are the same, and
+    /// else by a chance that needn't be reckoned with. In lanes, as the processor likes it.
+    pub fn hash(&self) -> u128 {
+        let mut lanes = [0x9e37_79b9_7f4a_7c15_u128; 4];
+        for words in self.desk().chunks(16) {
+            for (lane, four) in lanes.iter_mut().zip(words.chunks(4)) {
+                let word = four.iter().fold(1, |sum, word| sum << 32 | u128::from(*word));
+                *lane = mixed(*lane ^ word);
+            }
+        }
+        lanes.iter().fold(0, |sum, lane| mixed(sum ^ lane))
     }
 
     pub fn restore(&mut self, kept: &[u32]) {
         self.words[..kept.len()].copy_from_slice(kept);
     }
+}
+
+/// One to one: a product with an odd number, then the halves changed about.
+fn mixed(number: u128) -> u128 {
+    number.wrapping_mul(0x2360_ed05_1fc6_5da4_4385_df64_9fcc_f645).rotate_left(64)
 }
 
 /// One call of the library.

@@ -1,0 +1,29 @@
+//! A script's calls through the Rust wrapper, for `record.rs` and `wrapper.rs`.
+
+use crate::sheetdesk::{Answer, Desk, Job, Place};
+
+/// Makes the call of a line; nothing for a line that the wrapper has no form for.
+pub fn call(desk: &mut Desk, line: &str) -> Option<Answer> {
+    let (name, rest) = line.split_once(' ')?;
+    let number = |word: &str| word.parse().ok().filter(|_| !word.starts_with('+'));
+    let numbers = rest.split(' ').map(number).collect::<Option<Vec<u32>>>()?;
+    Some(match (name, numbers.as_slice()) {
+        ("new", &[k, w, n, p]) => desk.new(k, w, n, p),
+        ("open", [run, list @ ..]) if list.len() % 3 == 0 => {
+            let job = |three: &[u32]| Job { office: three[0], reads: three[1], upstream: three[2] };
+            desk.open(*run, &list.chunks(3).map(job).collect::<Vec<Job>>())
+        }
+        ("fetch", &[office, sheet]) => desk.fetch(office, sheet),
+        ("evict", &[office, sheet]) => desk.evict(office, sheet),
+        ("prepare", &[run]) => desk.prepare(run),
+        ("step", &[run, job]) => desk.step(run, job),
+        ("explain", &[run, job]) => desk.explain(run, job),
+        ("issue", &[run, writer, mask]) => desk.issue(run, writer, mask),
+        ("drop", &[run]) => desk.drop(run),
+        ("stale", &[office]) => desk.stale(office),
+        ("look", &[0, 0, sheet]) => desk.look(Place::Master, sheet),
+        ("look", &[1, office, sheet]) => desk.look(Place::Shelf(office), sheet),
+        ("look", &[2, run, sheet]) => desk.look(Place::Card(run), sheet),
+        _ => return None,
+    })
+}
