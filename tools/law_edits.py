@@ -5,18 +5,28 @@ Each edit (crates/CRATE/must-fail/LABEL.edit) is applied to a copy of the reposi
 all crates of the model and of demand 3 are checked. Prints the first error, or that all is still proved. Some seconds
 for each edit; not part of ./test, where the examples refuse the same edits in their own crates."""
 import os
+import pathlib
 import re
 import shutil
 import subprocess
 import sys
 import tempfile
 
-EXAMPLES = {
-    "reach": ["PathExamples"],
-    "model": ["Scripts", "Readings", "Leaders", "Looks", "Explanations", "Computed"],
-    "layout": ["Scripted"],
-    "history": ["Scripted"],
-}
+EXAMPLES = [("reach", "PathExamples"), ("model", "Scripts")]
+IMPORT = re.compile(r"^use Rattle·(\w+?)(?:·\w+)?\.proofs\.(\w+)", re.MULTILINE)
+
+
+def examples(root):
+    """The examples, and every module of proofs that imports one, straight or through others: a set of (crate, name)."""
+    imports = {}
+    for crate in os.listdir(os.path.join(root, "crates")):
+        for path in pathlib.Path(root, "crates", crate, "proofs").rglob("*.antt"):
+            imports[path] = (crate, path.stem), IMPORT.findall(path.read_text(encoding="utf-8"))
+    found, size = set(EXAMPLES), 0
+    while size < len(found):
+        size = len(found)
+        found |= {module for module, used in imports.values() if found & set(used)}
+    return found
 
 
 def read_edit(path):
@@ -32,15 +42,14 @@ def read_edit(path):
 
 
 def without_examples(root):
-    for crate, names in EXAMPLES.items():
+    gone = sorted(examples(root))
+    for crate, name in gone:
         proofs = os.path.join(root, "crates", crate, "proofs")
-        for name in names:
-            path = os.path.join(proofs, name + ".antt")
-            if os.path.exists(path):
-                os.remove(path)
+        os.remove(os.path.join(proofs, name + ".antt"))
         lib = os.path.join(proofs, "Lib.antt")
-        kept = [l for l in open(lib, encoding="utf-8") if l.strip() not in ["pub mod " + n for n in names]]
+        kept = [l for l in open(lib, encoding="utf-8") if l.strip() != "pub mod " + name]
         open(lib, "w", encoding="utf-8").writelines(kept)
+    print("without", ", ".join("%s/%s" % module for module in gone))
 
 
 def main():
