@@ -199,15 +199,15 @@ pub fn explain(store: &[u32], ready: bool, run: u32, job: u32, out: &mut [u32]) 
     narrow(n)
 }
 
-pub fn stale(store: &[u32], ready: bool, office: u32, out: &mut [u32]) -> u32
+pub fn stale(store: &[u32], ready: bool, site: u32, out: &mut [u32]) -> u32
     requires { ⌜ ready ≡ inForm (now store) ⌝ }
-    ensures { λ n. ⌜ Exported (on (ask (stale office)))
+    ensures { λ n. ⌜ Exported (on (ask (stale site)))
         (now (store .entry)) (now (store .entry)) (now (out .entry)) (now (out .exit)) n ⌝ }
 {
     if !admitted(ready, out) {
         return turn_down(out);
     }
-    let r = stale::stale(store, office);
+    let r = stale::stale(store, site);
     lay(out, r)
 }
 

@@ -110,11 +110,11 @@ pub extern "C" fn sheetdesk_explain(store: &[u32], run: u32, job: u32, out: &mut
 }
 
 #[no_mangle]
-pub extern "C" fn sheetdesk_stale(store: &[u32], office: u32, out: &mut [u32]) -> u32
-    ensures { λ n. ⌜ Exported (on (ask (stale office)))
+pub extern "C" fn sheetdesk_stale(store: &[u32], site: u32, out: &mut [u32]) -> u32
+    ensures { λ n. ⌜ Exported (on (ask (stale site)))
         (now (store .entry)) (now (store .entry)) (now (out .entry)) (now (out .exit)) n ⌝ }
 {
-    calls::stale(store, in_form(store), office, out)
+    calls::stale(store, in_form(store), site, out)
 }
 
 // The version of this interface: it rises when a call, its arguments or its answer change.

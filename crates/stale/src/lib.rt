@@ -9,14 +9,14 @@ ghost use Rattle.model.specs.Calls.{stale, ask};
 ghost use Rattle.layout.specs.Buffer.{inForm};
 ghost use Rattle.layout.specs.Calls.{on, callOn};
 
-// The mask of the stale keys of an office's cache, in a buffer that is in form.
-pub fn stale(words: &[u32], office: u32) -> Answered
+// The mask of the stale keys of a site's cache, in a buffer that is in form.
+pub fn stale(words: &[u32], site: u32) -> Answered
     requires { ⌜ So (inForm (now words)) ⌝ }
     ensures { λ r. ⌜ answeredWords r
-        ≡ answer (callOn (on (ask (stale office))) (now (words .entry))) ⌝ }
+        ≡ answer (callOn (on (ask (stale site))) (now (words .entry))) ⌝ }
 {
     let z = counts(words);
-    let o = office as usize;
+    let o = site as usize;
     if z.sites <= o {
         return Answered::Refused(3);
     }

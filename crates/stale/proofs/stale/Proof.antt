@@ -1,4 +1,4 @@
--- `stale` is refused for an office that there isn't, or reads its mark.
+-- `stale` is refused for a site that there isn't, or reads its mark.
 -- Assumes nothing.
 use Prim.Native.Nat.{_<_}
 use native.Mathlib.Omega.{arith}
@@ -26,20 +26,20 @@ returns : tie.Need-returns
 unfolding answeredWords
 returns c = stale-out _ _ (holds (c .before .before)) _ (c .if1 .taken)
 
--- The site of the office.
-office : (c : tie.Else1) → let n = c .before .before in
-    n .before .before .args .office < n .counts .result .sites
-office c = omega (arith, c .if1 .left)
+-- The site is one of the store.
+below : (c : tie.Else1) → let n = c .before .before in
+    n .before .before .args .site < n .counts .result .sites
+below c = omega (arith, c .if1 .left)
 
 site : (c : tie.Else1) → let n = c .before .before in
     let a = n .before .before .args in
-    SiteArea (length (a .words .now)) (n .counts .result) (siteAt (n .counts .result) (a .office))
+    SiteArea (length (a .words .now)) (n .counts .result) (siteAt (n .counts .result) (a .site))
 site c =
     let A = form-area _ _ (holds (c .before .before)) in
-    site-whole _ _ (A .ranged) (A .fits) _ (office c)
+    site-whole _ _ (A .ranged) (A .fits) _ (below c)
 
 site-at-requires : tie.Need-site-at-requires
-site-at-requires c κs = (site c .ranged, office c)
+site-at-requires c κs = (site c .ranged, below c)
 
 stale-at-requires : tie.Need-stale-at-requires
 stale-at-requires c κs =
@@ -61,7 +61,7 @@ unfolding answeredWords
 returns-2 c =
     let m = c .before .before in
     rw (c .before .stale-at .ensures, m .site-at .ensures)
-    (stale-done _ _ (holds (m .before .before .before)) _ (office (m .before)))
+    (stale-done _ _ (holds (m .before .before .before)) _ (below (m .before)))
 
 pub stale-spec : {M : Type 1} → statement M
 stale-spec =
