@@ -139,7 +139,7 @@ def _line(name, arguments):
     numbers = [a for a in arguments if isinstance(a, int)]
     if name == "open":
         numbers += arguments[1][: min(arguments[2].value, 27)]
-    return " ".join([name, *map(str, numbers)])
+    return " ".join([name, *("%d" % number for number in numbers)])
 
 
 def _library():

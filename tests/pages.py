@@ -48,6 +48,10 @@ FACTS = [
     ("merge-rivals", POINTS, [[1, 0, 1, 0], [2, 1, 1, 1], [3, 0, 1, 1], [4, 1, 1, 0]]),
     ("signs", "Array.from(document.querySelectorAll('.call code:first-child'), (c) => c.textContent)",
      ["new 1 1 1 1", "<script>throw 1</script>", '"&lt;']),
+    # Issues 68 to 400 are on the page; every other one is of one writer, and stands behind that writer's next.
+    ("long", "document.querySelectorAll('.row').length", 1000),
+    ("long", "(document.querySelector('.row[data-issue=\"400\"]').dispatchEvent(new Event('mouseenter')),"
+             " document.querySelectorAll('.over .after').length)", 166),
     # Issue 2 leaves sheet 0 behind at both offices. The break at line 13 undoes its fetch; that of line 16 stays.
     ("stale-break", STALE, [[10, 0, 1], [10, 1, 1], [16, 1, 0]]),
     ("stale-break", SENTENCES,

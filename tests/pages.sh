@@ -29,6 +29,25 @@ trial_sentences() {
   python3 tests/sentences.py "$program" "$tool" "$work/generated"/* || bad "tests/sentences.py"
 }
 
+# long_list: a new, 400 issues by two writers in turn, and a look that needs them all: 1,202 calls.
+long_list() {
+  local issue
+  echo 'new 3 2 2 1'
+  for issue in {1..400}; do printf 'open 0 0 0 0\nstep 0 0\nissue 0 %d 1\n' $((issue % 2)); done
+  echo 'look 0 0 0'
+}
+
+# Of a long list the page has the last 1,000 calls and says so, and behind an issue the last 100 issues.
+trial_long() {
+  long_list >"$work/long"
+  want 0 "the page of 1,202 calls" have page "$work/long" 1202
+  [ "$(grep -c 'class="row ' "$work/out")" -eq 1000 ] || bad "of 1,202 calls not 1,000 are on the page"
+  grep -q 'The page shows the last 1000 of these calls; --shrink prints the 202 before them too' "$work/out" ||
+    bad "the page doesn't say which calls it shows"
+  [ "$(grep 'Behind issue 400 stand 199 issues' "$work/out" | grep -o '<li>' | wc -l)" -eq 101 ] &&
+    grep -q '<li>and 99 earlier ones</li>' "$work/out" || bad "behind issue 400 not the last 100 are listed"
+}
+
 # browser: names a headless browser, and installs one if there is none.
 browser() {
   local name
@@ -66,12 +85,14 @@ trial_pages() {
   log_of scripts/explain-next.txt >"$work/log"
   want 0 "the page of a log" have page "$work/log"
   cp "$work/out" "$work/pages/log.html"
+  long_list >"$work/long"
+  have page "$work/long" 1202 >"$work/pages/long.html" 2>"$work/err"
   chromium=$(browser) || bad "no browser: chromium is missing, and apt-get can't install it"
   python3 tests/pages.py "$chromium" "$work/pages" || exit 1
 }
 
 trials=("$@")
-[ $# -gt 0 ] || trials=(words sentences pages)
+[ $# -gt 0 ] || trials=(words sentences long pages)
 build_tool
 build_generate
 for trial in "${trials[@]}"; do

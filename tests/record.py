@@ -7,12 +7,19 @@ import sheetdesk
 from sheetdesk import Desk, Job
 
 
+class Named(int):
+    """A number that prints as a name, as the members of an IntEnum do in some versions of Python."""
+
+    def __str__(self):
+        return "a name"
+
+
 def call(desk, line):
     """Makes the call of a line, if the module has a form for it."""
     name, *words = line.split(" ")
     if not all(word.isascii() and word.isdigit() and int(word) < 2**32 for word in words):
         return
-    numbers = [int(word) for word in words]
+    numbers = [Named(word) for word in words]
     counts = {"new": 4, "fetch": 2, "evict": 2, "prepare": 1, "step": 2, "explain": 2, "issue": 3, "drop": 1, "look": 3,
               "stale": 1}
     if name == "open" and len(numbers) % 3 == 1:

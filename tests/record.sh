@@ -48,7 +48,8 @@ trial_record() {
   due_log "$work/some.txt" >"$work/due"
   record_py <"$work/some.txt" >"$work/log" && cmp -s "$work/log" "$work/due" || bad "sheetdesk.py: golden scripts"
   for mode in "target/tools/record_c off" "target/tools/record_c null" "target/tools/record_rs off" "record_py off"; do
-    [ "$($mode <scripts/case-a.txt | wc -c)" -eq 0 ] || bad "$mode: something is recorded"
+    want 0 "$mode" $mode <scripts/case-a.txt
+    [ ! -s "$work/out" ] || bad "$mode: something is recorded"
   done
 }
 

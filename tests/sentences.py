@@ -1,32 +1,95 @@
 """The sentences of breaks against the program: `sentences.py PROGRAM TOOL SCRIPT..` makes a page of each script, and asks the
-program, in front of each step that breaks, what `explain` gives and what the card has. The sentence must name the last two
-sheets of that path, and the issue of the version that the run had read. Prints what is wrong and exits 1, or how many were
-held."""
+program, in front of each step that breaks, what `explain` gives and what the places have. The sentence must name the last two
+sheets of that path; for the first the last save of a leading writer, as shelf or master has it; the version of the second
+that this save needs, by what the cards had in front of each issue; and the version that the run had read. Prints what is
+wrong and exits 1, or how many were held."""
+import collections
 import re
 import subprocess
 import sys
 
+# How many issues its writer has by then; the saves that it knows of, its own too, as pairs of sheet and issue.
+Issue = collections.namedtuple("Issue", "writer count saves")
+
 ROW = re.compile(r'<li class="row broken".*? id="line(\d+)".*?<p class="sentence">(.*?)</p>', re.DOTALL)
-SENTENCE = re.compile(r"Sheet (\d+) of issue \d+ needs sheet (\d+) of .*; run (\d+) had read the older sheet (\d+) of "
-                      r"(?:issue|the rival issues) ([\d, and]*\d)(, a rival of it)?\.$")
+ISSUES = r"(?:issue|the rival issues) ([\d, and]*\d)"
+SENTENCE = re.compile(r"Sheet (\d+) of issue (\d+) needs sheet (\d+) of " + ISSUES +
+                      r"; run (\d+) had read the older sheet (\d+) of " + ISSUES + r"(, a rival of it)?\.$")
 
 
 def ran(command, script):
     return subprocess.run(command, input=script, stdout=subprocess.PIPE, stderr=subprocess.DEVNULL, check=False).stdout.decode()
 
 
+def told(program, lines):
+    """The issues since the last new, and each run's jobs."""
+    asked = []
+    for line in lines:
+        if line.startswith(b"issue "):
+            asked += [b"look 2 %s %d" % (line.split(b" ")[1], sheet) for sheet in range(32)]
+        asked.append(line)
+    issues, jobs, cards = [], {}, {}
+    for line, answer in zip(asked, ran([program], b"\n".join(asked)).split("\n")):
+        word, *numbers = line.split(b" ") if answer.startswith("ok") else [b""]
+        numbers = [int(number) for number in numbers]
+        if word == b"new":
+            issues, jobs = [], {}
+        elif word == b"open":
+            jobs[numbers[0]] = numbers[1:]
+        elif word == b"issue" and numbers[2]:
+            issues.append(issued(issues, numbers[1], numbers[2], [card for card in cards.values() if card[0] == numbers[0]]))
+        elif word == b"look" and numbers[0] == 2:
+            cards[numbers[1], numbers[2]] = numbers[1], numbers[2], row(answer)
+        cards = cards if line.startswith(b"look ") else {}
+    return issues, jobs
+
+
+def row(look):
+    return [int(number) for number in look.split(" ")[3:-1]]
+
+
+def issued(issues, writer, mask, reads):
+    """An issue of the sheets of the mask, by a run that had read these sheets with these counts."""
+    saves = {(sheet, len(issues) + 1) for sheet in range(32) if mask >> sheet & 1}
+    for number, issue in enumerate(issues, 1):
+        read = any((sheet, number) in issue.saves and counts[issue.writer] >= issue.count for _, sheet, counts in reads)
+        if issue.writer == writer or read:
+            saves |= issue.saves
+    return Issue(writer, 1 + sum(issue.writer == writer for issue in issues), saves)
+
+
+def leading(issues, sheet, saves):
+    """Of these saves of a sheet, by their issues, the last ones of writers that stand behind no other."""
+    last = {issues[number - 1].writer: number for number in sorted(saves)}
+    return {one for one in last.values() if not any((sheet, one) in issues[other - 1].saves for other in saves - {one})}
+
+
+def is_last(issue, look):
+    """Whether it is the last issue of a leading writer in what was looked at."""
+    return look.startswith("ok") and int(look.split(" ")[2]) >> issue.writer & 1 and row(look)[issue.writer] == issue.count
+
+
 def fault(program, lines, number, sentence):
     """What is wrong with the sentence of the step on the line."""
     said = SENTENCE.match(sentence)
     _, run, job = lines[number - 1].decode().split(" ")
-    if not said or said[3] != run or said[4] != said[2]:
+    if not said or said[5] != run or said[6] != said[3]:
         return "not a sentence of run %s: %s" % (run, sentence)
-    asked = "explain %s %s\nlook 2 %s %s\n" % (run, job, run, said[2])
-    path, look = ran([program], b"\n".join(lines[:number - 1] + [asked.encode()])).split("\n")[-3:-1]
-    issues = re.findall(r"\d+", said[5])
-    if not path.endswith(" %s %s" % (said[1], said[2])) or look.split(" ")[1] != max(issues, key=int):
-        return "%s: %s; %s" % (sentence, path, look)
-    return None
+    before, (first, second) = lines[:number - 1], (int(said[1]), int(said[3]))
+    issues, jobs = told(program, before)
+    asked = "explain %s %s\nlook 2 %s %d\n" % (run, job, run, second) + \
+            "look 1 %d %d\nlook 0 0 %d\n" % (jobs[int(run)][3 * int(job)], first, first)
+    path, card, shelf, master = ran([program], b"\n".join(before + [asked.encode()])).split("\n")[-5:-1]
+    source = issues[int(said[2]) - 1]
+    needed, had = ({int(issue) for issue in re.findall(r"\d+", said[group])} for group in (4, 7))
+    good = [
+        path.endswith(" %d %d" % (first, second)),
+        (first, int(said[2])) in source.saves and (is_last(source, shelf) or is_last(source, master)),
+        needed == leading(issues, second, {issue for sheet, issue in source.saves if sheet == second}),
+        int(card.split(" ")[1]) == max(had) and bin(int(card.split(" ")[2])).count("1") == len(had),
+        all(is_last(issues[issue - 1], card) for issue in had),
+    ]
+    return None if all(good) else "%s: %s; %s; %s; %s: %s" % (sentence, path, card, shelf, master, good)
 
 
 def main():

@@ -10,6 +10,7 @@
     return (row.getAttribute("data-" + name) || "").split(" ").filter(Boolean);
   }
 
+  // The row of an issue; of a long list only the last rows are on the page.
   function rowOf(part, issue) {
     return part.querySelector(`.row[data-issue="${issue}"]`);
   }
@@ -42,6 +43,7 @@
       const to = spot(part, later, "master");
       ring(part, to, "");
       for (const earlier of numbers(later, "after")) {
+        if (!rowOf(part, earlier)) continue;
         const from = spot(part, rowOf(part, earlier), "master");
         const side = from.x - Math.min(110, 30 + (to.y - from.y) / 8);
         const low = from.y + 13, high = to.y - 14;
@@ -61,7 +63,7 @@
     let from = spot(part, row, lane);
     let x = from.x - 8, y = from.y + 8;
     path.forEach(function (issue, place) {
-      if (issue === path[place - 1]) return;
+      if (issue === path[place - 1] || !rowOf(part, issue)) return;
       const at = spot(part, rowOf(part, issue), "master");
       const side = at.x + 20 + (6 * place) % 24;
       const same = sheets.filter((sheet, other) => other >= place &&

@@ -5,6 +5,11 @@ use super::story::{Chain, Lane, Part, Row};
 use super::versions::{Issue, Version};
 use super::words::{counted, issue_list, listed, numbers, sentence, sheet_list, version};
 
+/// The most calls that a page shows: of more, the last ones.
+const MOST: usize = 1000;
+/// The most issues that are listed behind one: of more, the last ones.
+const LISTED: usize = 100;
+
 /// What stands on top of the page.
 pub struct Head<'a> {
     /// What the script is called.
@@ -27,17 +32,22 @@ pub fn page(head: &Head, parts: &[Part]) -> String {
          <style>\n{}</style>\n</head>\n<body>\n<h1>{title}</h1>\n",
         include_str!("page.css")
     );
-    page.push_str(&summary(head, parts));
+    let mut hidden = parts.iter().map(|part| part.rows.len()).sum::<usize>().saturating_sub(MOST);
+    page.push_str(&summary(head, parts, hidden));
     page.push_str(include_str!("legend.html"));
     for part in parts {
-        page.push_str(&part_of_page(part));
+        let first = hidden.min(part.rows.len());
+        hidden -= first;
+        if first < part.rows.len() {
+            page.push_str(&part_of_page(part, first));
+        }
     }
     page.push_str(&format!("<script>\n{}</script>\n</body>\n</html>\n", include_str!("page.js")));
     page
 }
 
-/// How many calls, what was left out, and where the breaks are.
-fn summary(head: &Head, parts: &[Part]) -> String {
+/// How many calls, what was left out, how many of them aren't shown, and where the breaks are.
+fn summary(head: &Head, parts: &[Part], hidden: usize) -> String {
     let rows = parts.iter().flat_map(|part| &part.rows);
     let count = |word: &str| rows.clone().filter(|row| row.answer.starts_with(word)).count();
     let mut text = format!(
@@ -50,7 +60,13 @@ fn summary(head: &Head, parts: &[Part]) -> String {
     if let Some(shrunk) = &head.shrunk {
         text.push_str(&format!("<p class=\"shrunk\">{}</p>\n", escaped(shrunk)));
     }
-    let breaks = rows.filter(|row| row.answer.starts_with("broken"));
+    if hidden > 0 {
+        text.push_str(&format!(
+            "<p class=\"last\">The page shows the last {MOST} of these calls; --shrink prints the \
+             {hidden} before them too.</p>\n"
+        ));
+    }
+    let breaks = rows.skip(hidden).filter(|row| row.answer.starts_with("broken"));
     let links = breaks.map(|row| format!("<a href=\"#line{0}\">line {0}</a>", row.line));
     let links = links.collect::<Vec<String>>();
     if !links.is_empty() {
@@ -59,8 +75,8 @@ fn summary(head: &Head, parts: &[Part]) -> String {
     text
 }
 
-/// The calls of one desk.
-fn part_of_page(part: &Part) -> String {
+/// The calls of one desk, from the first that is shown.
+fn part_of_page(part: &Part, first: usize) -> String {
     let [k, w, n, p] = part.sizes.unwrap_or_default();
     let lanes = part.sizes.map(|_| Lanes::of(n, p));
     let title = match part.sizes {
@@ -78,7 +94,7 @@ fn part_of_page(part: &Part) -> String {
         text.push_str(&format!("<div class=\"top\">{}</div>\n", lanes.head()));
     }
     text.push_str("<ol class=\"rows\">\n");
-    for (place, row) in part.rows.iter().enumerate() {
+    for (place, row) in part.rows.iter().enumerate().skip(first) {
         let before = place.checked_sub(1).and_then(|place| part.rows.get(place));
         text.push_str(&row_of_page(part, lanes.as_ref(), row, before));
     }
@@ -190,7 +206,7 @@ fn behind(part: &Part, issue: &Issue) -> String {
         if issue.behind.len() == 1 { "s" } else { "" },
         counted(issue.behind.len(), "issue")
     );
-    for number in issue.behind.iter().rev() {
+    for number in issue.behind.iter().rev().take(LISTED) {
         let Some(other) = part.issues.get(*number as usize - 1) else {
             continue;
         };
@@ -200,6 +216,9 @@ fn behind(part: &Part, issue: &Issue) -> String {
             sheet_list(other.sheets),
             escaped(&why(part, issue, *number))
         ));
+    }
+    if issue.behind.len() > LISTED {
+        text.push_str(&format!("<li>and {} earlier ones</li>", issue.behind.len() - LISTED));
     }
     text.push_str("</ul></details>");
     text
@@ -219,7 +238,8 @@ fn why(part: &Part, issue: &Issue, earlier: u32) -> String {
     let direct = issue.reads.iter().flat_map(|read| read.issues.clone()).chain(issue.own);
     let mut over = direct
         .filter(|number| {
-            part.issues.get(*number as usize - 1).is_some_and(|d| d.behind.contains(&earlier))
+            let direct = part.issues.get(*number as usize - 1);
+            direct.is_some_and(|issue| issue.behind.binary_search(&earlier).is_ok())
         })
         .collect::<Vec<u32>>();
     over.sort_unstable();

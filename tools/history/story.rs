@@ -102,12 +102,12 @@ pub enum State {
 pub fn tell(entries: &[Entry]) -> Vec<Part> {
     let mut replay = Replay::fresh();
     let mut parts = vec![Part::default()];
-    let mut told = None;
+    let mut told = None::<Told>;
     for entry in entries {
         let path = path_of(&mut replay, entry);
         let answer = replay.make(entry);
         if let (Some(Call::New(sizes)), Some(Answer::Ok(_))) = (&entry.call, &answer) {
-            told = Some(Told::new(*sizes));
+            enter_issues(&mut parts, told.replace(Told::new(*sizes)));
             let sizes = Some(sizes.map(|count| count as usize));
             parts.push(Part { sizes, ..Part::default() });
         }
@@ -116,11 +116,18 @@ pub fn tell(entries: &[Entry]) -> Vec<Part> {
         if let Some(part) = parts.last_mut() {
             mark_stale(&mut replay, &mut row, part.rows.last());
             part.rows.push(row);
-            part.issues = told.as_ref().map_or(Vec::new(), |told| told.issues.all.clone());
         }
     }
+    enter_issues(&mut parts, told);
     parts.retain(|part| !part.rows.is_empty());
     parts
+}
+
+/// The last part is told: its issues.
+fn enter_issues(parts: &mut [Part], told: Option<Told>) {
+    if let (Some(part), Some(told)) = (parts.last_mut(), told) {
+        part.issues = told.issues.all;
+    }
 }
 
 /// The path that explain gives for the job that the entry steps or explains.

@@ -57,12 +57,13 @@ impl Told {
     /// The lane that a call is about, if there is one.
     fn lane_of(&self, call: &Call) -> Option<Lane> {
         let (number, offices) = match call {
-            Call::New(_) => return None,
             Call::Look(0, ..) => return Some(Lane::Master),
+            Call::Look(1, office, _) => (*office, true),
+            Call::Look(2, run, _) => (*run, false),
+            Call::New(_) | Call::Look(..) => return None,
             Call::Fetch(office, _) | Call::Evict(office, _) | Call::Stale(office) => {
                 (*office, true)
             }
-            Call::Look(place, number, _) => (*number, *place == 1),
             Call::Open(run, _) | Call::Prepare(run) | Call::Drop(run) => (*run, false),
             Call::Step(run, _) | Call::Explain(run, _) | Call::Issue(run, ..) => (*run, false),
         };
@@ -102,15 +103,7 @@ impl Told {
                 self.set_run(*run as usize, State::Free);
                 row.words = format!("Run {run} is dropped: it ends and saves nothing.");
             }
-            Call::Stale(office) => {
-                row.words = match numbers[0] {
-                    0 => format!("No sheet on the shelf of office {office} is stale."),
-                    stale => {
-                        let stale = words::sheet_list(stale);
-                        format!("Stale on the shelf of office {office}: {stale}.")
-                    }
-                };
-            }
+            Call::Stale(office) => row.words = words::stale(*office, numbers[0]),
             Call::Explain(..) => {}
         }
         self.book.feed(call, true);

@@ -12,7 +12,6 @@ pub struct Version {
 }
 
 /// An issue and what stands behind it.
-#[derive(Clone)]
 pub struct Issue {
     pub number: u32,
     pub writer: usize,
@@ -21,7 +20,7 @@ pub struct Issue {
     pub own: Option<u32>,
     /// What its run had read.
     pub reads: Vec<Version>,
-    /// All issues that stand behind it.
+    /// All issues that stand behind it, in order.
     pub behind: Vec<u32>,
 }
 

@@ -37,6 +37,14 @@ pub fn sheet_list(mask: u32) -> String {
     format!("{noun} {}", listed(&items))
 }
 
+/// What stale answers.
+pub fn stale(office: u32, sheets: u32) -> String {
+    match sheets {
+        0 => format!("No sheet on the shelf of office {office} is stale."),
+        _ => format!("Stale on the shelf of office {office}: {}.", sheet_list(sheets)),
+    }
+}
+
 /// "1 and 2".
 pub fn numbers(issues: &[u32]) -> String {
     listed(&issues.iter().map(u32::to_string).collect::<Vec<String>>())
