@@ -1,14 +1,14 @@
 -- Words laid over the front of a list.
 -- over-one, -two, -four: some of them stored one by one. over-more: further words behind them;
 -- over-last: one.
--- over-length, over-front, over-behind: the list after it.
+-- over-length, over-front: the list after it.
 -- Assumes nothing.
 use mathlib.Core.Path.{_≡_, refl, sym, ap, ap₂, _∙_}
 use mathlib.Core.List.{List, [], _∷_, _++_}
 use Prim.Native.Nat.{ℕ, _+_, _≤_, _<_}
 use native.Mathlib.Omega.{arith}
 use lib.ListN.{length, take, drop, set, length-append, length-drop}
-use lib.Seq.{sets, sets-eq, take-append-seam, drop-append-seam, drop-append-add, drop-drop}
+use lib.Seq.{sets, sets-eq, take-append-seam, drop-append-add, drop-drop}
 use Rattle.answers.specs.Answers.{over}
 
 pub over-one : (l : List ℕ) (a : ℕ) → 1 ≤ length l → set l 0 a ≡ over (a ∷ []) l
@@ -41,10 +41,6 @@ over-length ws l h =
 pub over-front : (ws l : List ℕ) → take (length ws) (over ws l) ≡ ws
 unfolding over
 over-front ws l = take-append-seam ws (drop (length ws) l)
-
-pub over-behind : (ws l : List ℕ) → drop (length ws) (over ws l) ≡ drop (length ws) l
-unfolding over
-over-behind ws l = drop-append-seam ws (drop (length ws) l)
 
 pub over-more : (ws vs l : List ℕ) → length ws + length vs ≤ length l
     → sets (over ws l) (length ws) vs ≡ over (ws ++ vs) l

@@ -2,10 +2,10 @@
 -- does-it, does-not, not-made: what a call that was made, or refused, comes to. few-..: how many
 -- words. call-form, made-form: in form stays in form, and an accepted call leaves it in form.
 -- Assumes nothing.
-use mathlib.Core.Path.{_≡_, refl, sym, ap, subst, _∙_}
+use mathlib.Core.Path.{_≡_, refl, sym, subst, _∙_}
 use mathlib.Core.Bool.{Bool, false, So, _&&_, _||_}
 use mathlib.Core.Logic.{⊎-elim}
-use mathlib.Core.List.{List, [], _∷_, _++_}
+use mathlib.Core.List.{List, [], _∷_}
 use mathlib.Core.Option.{Option, none, some}
 use Prim.Native.Nat.{ℕ, suc, _≤_, _<_}
 use native.Mathlib.Omega.{arith}
@@ -25,7 +25,7 @@ use Rattle.layout.specs.Buffer.{inForm}
 use Rattle.layout.specs.Calls.{Call, new, on, newCause, callOn, leaves, isOk}
 use Rattle.layout.proofs.Follow.{fine-form}
 use Rattle.layout.proofs.Forms.{no-form, form-kept}
-use Rattle.layout.proofs.Rules.{new-fine, new-done, new-leaves, new-refused}
+use Rattle.layout.proofs.Rules.{new-fine, new-done, new-refused}
 use Rattle.step.specs.declared.Stepped.{Stepped}
 use Rattle.step.specs.Answers.{steppedWords}
 use Rattle.explain.specs.declared.Finding.{Finding}
@@ -160,8 +160,3 @@ made-form none l m a b n (e, f, g) = rw (g, e) (or-false-right (inForm l))
 made-form (some c) l m a b n d =
     rw (d .changes, d .answers .count, d .answers .laid, first-ok (callOn c l) a)
     (call-form c l)
-
-pub made-few : (o : Option Call) (l m a b : List ℕ) (n : ℕ) → Made o l m a b n → n ≤ maxAnswer
-unfolding Made
-made-few none l m a b n (e, f, g) = omega (arith, g)
-made-few (some c) l m a b n d = d .few

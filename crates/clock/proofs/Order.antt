@@ -2,17 +2,17 @@
 -- covers-standing, rivals-standing: what document 01 says of both. dominates-..: an order.
 -- join-..: the least upper bound. present-..: who is in a clock.
 -- Assumes nothing.
-use mathlib.Core.Path.{_≡_, refl, sym, ap, _∙_, fun-ext}
+use mathlib.Core.Path.{_≡_, refl, sym, _∙_, fun-ext}
 use mathlib.Core.Bool.{Bool, true, false, not, _&&_, _||_, So}
 use mathlib.Core.Logic.{_↔_, _⊎_, inl, inr}
 use Prim.Native.Nat.{ℕ, _≤_, _<_, max}
 use native.Mathlib.Omega.{arith}
 use lib.Bits.{bitOr, or-zero-l, or-comm, or-add-and, and-le-l}
 use lib.Dec.{leb}
-use Rattle.words.proofs.Bools.{test, clash, not-intro, not-elim, leb-le, le-leb, leb-gt, gt-leb}
-use Rattle.words.proofs.Tests.{any-intro, any-some, any-no, any-same}
+use Rattle.words.proofs.Bools.{test, clash, not-intro, not-elim, leb-le, le-leb, leb-gt}
+use Rattle.words.proofs.Tests.{any-intro, any-some, any-same}
 use Rattle.clock.specs.Clock.{Clock, exceeds, standingOf, standing, covering, dominates, Dominates, rivalling, concurrent, present, join}
-use Rattle.clock.proofs.Standings.{exceeds-none, exceeds-no, standing-same}
+use Rattle.clock.proofs.Standings.{exceeds-none, exceeds-no}
 
 -- ---- covering and rivals, by what document 01 says of them
 
@@ -57,13 +57,6 @@ dominates-trans W p q r a b w l = omega (arith, a w l, b w l)
 pub dominates-antisym : (W : ℕ) (p q : Clock) → Dominates W p q → Dominates W q p
     → (w : ℕ) → w < W → p w ≡ q w
 dominates-antisym W p q a b w l = omega (arith, a w l, b w l)
-
--- Only counts below W matter.
-pub dominates-same : (W : ℕ) (p p′ q q′ : Clock)
-    → ((w : ℕ) → w < W → p w ≡ p′ w) → ((w : ℕ) → w < W → q w ≡ q′ w)
-    → dominates W p q ≡ dominates W p′ q′
-unfolding dominates
-dominates-same W p p′ q q′ h k = ap covering (standing-same W p p′ q q′ h k)
 
 -- ---- join, the least upper bound
 
@@ -126,16 +119,12 @@ pub present-same : (W : ℕ) (p q : Clock) → ((w : ℕ) → w < W → p w ≡ 
 unfolding present
 present-same W p q h = any-same W (λ w. leb 1 (p w)) (λ w. leb 1 (q w)) (λ w l. rw (h w l))
 
--- A clock in which nobody is present is zero, and a zero clock has nobody.
+-- A clock in which nobody is present is zero.
 pub absent : (W : ℕ) (p : Clock) → present W p ≡ false → (w : ℕ) → w < W → p w ≡ 0
 absent W p n w l =
     test (leb 1 (p w))
     (λ y. clash (present-intro W p w l (leb-le 1 (p w) y)) n)
     (λ y. omega (arith, leb-gt 1 (p w) y))
-
-pub present-no : (W : ℕ) (p : Clock) → ((w : ℕ) → w < W → p w ≡ 0) → present W p ≡ false
-unfolding present
-present-no W p h = any-no W (λ w. leb 1 (p w)) (λ w l. gt-leb 1 (p w) (omega (arith, h w l)))
 
 pub join-present : (W : ℕ) (p q : Clock) → So (present W (join p q))
     → So (present W p) ⊎ So (present W q)

@@ -1,6 +1,6 @@
 -- The four ways in which two clocks stand.
 -- exceeds-..: some count is larger. standing-view: what holds in each of the four.
--- standing-equal, -below, -newer, -self, -flip, -same.
+-- standing-equal, -below, -newer, -self, -flip, -same. differing-not: what isn't differing.
 -- Assumes nothing.
 use mathlib.Core.Path.{_≡_, refl, ap₂}
 use mathlib.Core.Bool.{Bool, true, false, _||_, So}
@@ -8,11 +8,11 @@ use mathlib.Core.Logic.{_↔_, _⊎_, inl, inr}
 use Prim.Native.Nat.{ℕ, _+_, _<_}
 use native.Mathlib.Omega.{arith}
 use lib.Dec.{ltb}
-use Rattle.words.proofs.Bools.{ltb-lt, lt-ltb, ltb-ge, ge-ltb}
+use Rattle.words.proofs.Bools.{clash, ltb-lt, lt-ltb, ltb-ge, ge-ltb}
 use Rattle.words.proofs.Tests.{any-intro, any-some, any-none, any-no, any-same, any-more}
 use Rattle.clock.specs.declared.Standing.{Standing}
 use Rattle.clock.specs.declared.Standing.the-variants.{Equal, Older, Newer, Rival}
-use Rattle.clock.specs.Clock.{Clock, exceeds, standingOf, standing, Dominates}
+use Rattle.clock.specs.Clock.{Clock, exceeds, standingOf, standing, Dominates, differing}
 
 -- ---- some count is larger
 
@@ -142,3 +142,10 @@ standing-same W p p′ q q′ h k =
     ap₂ standingOf
     (any-same W (λ w. ltb (q w) (p w)) (λ w. ltb (q′ w) (p′ w)) (λ w l. rw (h w l, k w l)))
     (any-same W (λ w. ltb (p w) (q w)) (λ w. ltb (p′ w) (q′ w)) (λ w l. rw (h w l, k w l)))
+
+-- A standing that isn't differing is equal.
+pub differing-not : (x : Standing) → differing x ≡ false → x ≡ Equal
+differing-not Equal e = refl
+differing-not Older e = clash refl e
+differing-not Newer e = clash refl e
+differing-not Rival e = clash refl e

@@ -2,9 +2,8 @@
 -- EveryRow: a claim about all of them. every-row: by the copies that they count.
 -- master-dominates: the master's own row of a key has all that is known of the key; so no copy is
 -- ahead of it (caches-behind, snapshots-behind).
--- count-bound: no row runs ahead of a writer's count.
 -- Assumes nothing.
-use Prim.Native.Nat.{ℕ, _≤_, _<_}
+use Prim.Native.Nat.{ℕ, _<_}
 use Rattle.clock.specs.Clock.{Clock, Dominates}
 use Rattle.clock.proofs.Standings.{standing-below}
 use Rattle.model.specs.Store.{Store}
@@ -12,7 +11,7 @@ use Rattle.history.specs.History.{saved}
 use Rattle.history.specs.Copies.{Copy, reaches, byWriter, counted}
 use Rattle.history.specs.Book.{Book}
 use Rattle.history.proofs.Past.{past-laws}
-use Rattle.history.proofs.Tally.{tally-dominates, tally-total}
+use Rattle.history.proofs.Tally.{tally-dominates}
 use Rattle.history.proofs.Reached.{reaches-intro, reaches-saved, reaches-session}
 use Rattle.history.proofs.Counted.{counted-row}
 use Rattle.consistency.specs.Claim.{NotAhead}
@@ -71,11 +70,3 @@ module _ {s : Store} {b : Book} (F : Follows s b) where
       → NotAhead (s .counts .writers) (s .counts .keys) (s .master) (s .run r .branch .snapshot)
   snapshots-behind r l k h =
       standing-below (s .counts .writers) _ _ .0 (master-dominates .snapshot r k k l h h)
-
-  -- No count in a row is larger than its writer's.
-  pub count-bound : EveryRow s (λ d p. (u : ℕ) → u < s .counts .writers → p u ≤ s .writer u .count)
-  count-bound =
-      let K = s .counts .keys in
-      let h = b .history in
-      every-row _ (λ d c u l.
-      rw (F .writer u l .count, counted-row K h c d) (tally-total K h (reaches K h c d) u))

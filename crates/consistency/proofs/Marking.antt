@@ -2,29 +2,28 @@
 -- marks-true: each is the mask. marks-copies: it names the copies that are behind the master's.
 -- copies-equal: two copies of a key are one exactly if their own rows are equal.
 -- Assumes nothing.
-use mathlib.Core.Path.{_≡_, refl, sym, ap, _∙_, fun-ext}
-use mathlib.Core.Bool.{Bool, true, false, So, _&&_}
+use mathlib.Core.Path.{_≡_, sym, ap, _∙_, fun-ext}
+use mathlib.Core.Bool.{So}
 use mathlib.Core.Logic.{_↔_}
 use Prim.Native.Nat.{ℕ, _<_}
 use native.Mathlib.Omega.{arith}
 use lib.ListN.{length}
-use Rattle.words.specs.Tests.{Items, Within}
-use Rattle.words.proofs.Bools.{test, clash, same-test, _∙˙_, and-intro, and-left, and-right}
+use Rattle.words.proofs.Bools.{test, clash, same-test, and-intro, and-left, and-right}
 use Rattle.masks.specs.Mask.{testBit}
-use Rattle.masks.proofs.Sets.{item-of}
 use Rattle.clock.specs.declared.Standing.{Standing}
-use Rattle.clock.specs.declared.Standing.the-variants.{Equal, Older, Newer, Rival}
+use Rattle.clock.specs.declared.Standing.the-variants.{Equal}
 use Rattle.clock.specs.Clock.{Clock, standing, differing}
-use Rattle.clock.proofs.Standings.{standing-equal, standing-self}
+use Rattle.clock.proofs.Standings.{standing-equal, standing-self, differing-not}
 use Rattle.model.specs.Version.{Version, held}
 use Rattle.model.specs.Marks.{isStale, staleMask}
 use Rattle.model.specs.Store.{Store}
 use Rattle.model.proofs.Formed.{well-out}
+use Rattle.model.proofs.Marked.{mark-stale}
 use Rattle.layout.proofs.Follow.{Fine}
 use Rattle.history.specs.History.{History, writerOf, saved}
 use Rattle.history.specs.Copies.{Copy, heldCopy, reaches}
 use Rattle.history.specs.Book.{Book}
-use Rattle.history.proofs.Notions.{PastLaws, Good}
+use Rattle.history.proofs.Notions.{PastLaws}
 use Rattle.history.proofs.Past.{past-laws}
 use Rattle.history.proofs.Tally.{tally, tally-dominates}
 use Rattle.history.proofs.Reached.{reaches-own, reaches-saved, reaches-session, copy-held}
@@ -37,17 +36,6 @@ use Rattle.consistency.proofs.Following.{master-related, cache-related}
 pub marks-true : (s : Store) → Fine s → (o : ℕ) → o < s .counts .sites
     → s .site o .stale ≡ staleMask (s .counts) (s .master) (s .site o .cache)
 marks-true s fine = well-out s (fine .formed) .mark
-
--- ---- a standing that isn't equal
-
-equal-not : (x : Standing) → x ≡ Equal → differing x ≡ false
-equal-not x e = rw e
-
-not-equal : (x : Standing) → differing x ≡ false → x ≡ Equal
-not-equal Equal e = refl
-not-equal Older e = clash refl e
-not-equal Newer e = clash refl e
-not-equal Rival e = clash refl e
 
 -- ---- two versions of key k and the copies that they stand for
 
@@ -93,28 +81,23 @@ module _ {W K : ℕ} {h : History} (laws : PastLaws K h)
 
 module _ {s : Store} {b : Book} (F : Follows s b) (fine : Fine s) (o k : ℕ)
     (ho : o < s .counts .sites) (hk : k < s .counts .keys) where
-  mark-stale : testBit (s .site o .stale) k
-      ≡ isStale (s .counts .writers) k (s .site o .cache k) (s .master k)
-  unfolding staleMask
-  mark-stale = item-of (s .counts .keys) _ _ (marks-true s fine o ho) k hk
-
   pub marks-copies : So (testBit (s .site o .stale) k) ↔ IsBehind (b .cache o k) (b .master k)
   unfolding isStale
   marks-copies = (
     λ p.
-        let q = sym mark-stale ∙ p in
+        let q = sym (mark-stale s (fine .formed) o k ho hk) ∙ p in
         let here = and-left (held v) (differing st) q in
         let some = copy-held K (b .history) c .0 (sym holds ∙ here) in
         record {
           some = (some .0, some .2);
-          other = λ e. clash (and-right (held v) (differing st) q) (equal-not st (same .1 e));
+          other = λ e. clash (and-right (held v) (differing st) q) (ap differing (same .1 e));
         },
     λ t.
         let i = t .some .0 in
         let has = copy-held K (b .history) c .1 (i, r .good .writes i (t .some .1) .0, t .some .1)
         in
-        mark-stale ∙ and-intro (holds ∙ has)
-        (test (differing st) (λ y. y) (λ n. absurd (t .other (same .0 (not-equal st n))))),
+        mark-stale s (fine .formed) o k ho hk ∙ and-intro (holds ∙ has)
+        (test (differing st) (λ y. y) (λ n. absurd (t .other (same .0 (differing-not st n))))),
   )
     where
       K : ℕ

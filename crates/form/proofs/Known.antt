@@ -4,7 +4,7 @@
 -- master is. Ends: what a call answers and leaves; ends-..: by what the call comes to.
 -- Assumes nothing.
 use mathlib.Core.Path.{_≡_, refl, sym, ap, _∙_}
-use mathlib.Core.Bool.{false, So}
+use mathlib.Core.Bool.{So}
 use mathlib.Core.Logic.{_≢_}
 use mathlib.Core.List.{List, [], _∷_}
 use Prim.Native.Nat.{ℕ, _≤_, _<_}
@@ -33,7 +33,7 @@ use Rattle.version.specs.Places.{putMark}
 use Rattle.version.proofs.Stores.{place-beside, site-apart, site-master}
 use Rattle.layout.proofs.Readings.{counts-in, master-in, cache-in}
 use Rattle.layout.proofs.Follow.{form-fine}
-use Rattle.layout.proofs.Forms.{no-form, form-refused, form-done}
+use Rattle.layout.proofs.Forms.{form-refused, form-done}
 use Rattle.form.specs.Parts.{StoreArea, FormWith}
 use Rattle.form.proofs.Stores.{shaped-area, shaped-long}
 
@@ -108,10 +108,6 @@ module _ (c : StoreCall) (l : List ℕ) where
   pub ends : (y : Outcome) (w m : List ℕ) → callOn (on c) l ≡ y → w ≡ answer y → m ≡ leaves y l
       → Ends w m
   ends y w m out p q = (rw out p, rw out q)
-
-  pub ends-unformed : inForm l ≡ false → Ends (2 ∷ 1 ∷ []) l
-  unfolding answer leaves
-  ends-unformed e = ends (refused 1) (2 ∷ 1 ∷ []) l (no-form c l e) refl refl
 
   -- A rule with a cause n and an act x.
   pub ends-refused : (n : ℕ) (x : Outcome) → So (inForm l) → ruleOf c (storeOf l) ≡ unless n x

@@ -3,7 +3,7 @@
 -- counted, master-back: what is read of the store. marks-stored: what the loop over the sites
 -- leaves.
 -- Assumes nothing.
-use mathlib.Core.Path.{_≡_, refl, sym, ap, _∙_, fun-ext}
+use mathlib.Core.Path.{_≡_, sym, ap, _∙_, fun-ext}
 use mathlib.Core.Bool.{cond}
 use mathlib.Core.List.{List}
 use Prim.Native.Nat.{ℕ, zero, suc, _≤_, _<_}
@@ -19,7 +19,7 @@ use Rattle.model.specs.Store.{Site, Store, siteWith, withSites, withCaches, wit
 use Rattle.layout.specs.Reading.{readPlace, countsIn}
 use Rattle.layout.specs.Buffer.{written}
 use Rattle.layout.proofs.Whole.{FitStore, counts-back, store-back}
-use Rattle.layout.proofs.Fit.{fit-sites, fit-marks}
+use Rattle.layout.proofs.Fit.{fit-sites, marks-beyond}
 use Rattle.layout.proofs.Readings.{master-in, cache-in}
 use Rattle.layout.proofs.Updates.{put-mark}
 use Rattle.issue.specs.Saves.{markAt}
@@ -36,11 +36,6 @@ abbrev marksTo : Store → ℕ → Store
 marksTo s n = withSites s (siteTo s n)
 
 module _ (s : Store) (F : FitStore s) where
-  -- Beyond the sites nothing is marked.
-  remarked-beyond : (o : ℕ) → s .counts .sites ≤ o → remarked s o ≡ s .site o
-  unfolding withMarks withCaches withSites
-  remarked-beyond o h = fit-marks s F .site .rest o h ∙ sym (F .site .rest o h)
-
   marks-none : marksTo s 0 ≡ s
   unfolding withSites
   marks-none =
@@ -51,7 +46,7 @@ module _ (s : Store) (F : FitStore s) where
   marks-all =
       let N = s .counts .sites in
       ap (withSites s) (fun-ext (λ o. test (ltb o N) (λ t. rw t)
-      (λ t. rw t (sym (remarked-beyond o (ltb-ge o N t))))))
+      (λ t. rw t (sym (marks-beyond s F o (ltb-ge o N t))))))
 
   marks-fit : (n : ℕ) → FitStore (marksTo s n)
   unfolding siteWith
@@ -60,7 +55,7 @@ module _ (s : Store) (F : FitStore s) where
         each = λ o h. test (ltb o n) (λ t. rw t (record { cache = F .site .each o h .cache }))
             (λ t. rw t (F .site .each o h));
         rest = λ o h. test (ltb o n)
-            (λ t. rw t (remarked-beyond o h ∙ F .site .rest o h)) (λ t. rw t (F .site .rest o h));
+            (λ t. rw t (marks-beyond s F o h ∙ F .site .rest o h)) (λ t. rw t (F .site .rest o h));
       })
 
   -- One site more.

@@ -1,7 +1,7 @@
 -- A changed part keeps the store in range.
 -- fit-..: of a part, and of a store with one part changed.
 -- Assumes nothing.
-use mathlib.Core.Path.{_≡_, refl, ap, ap₂, _∙_, fun-ext}
+use mathlib.Core.Path.{_≡_, refl, sym, ap, ap₂, _∙_, fun-ext}
 use mathlib.Core.Bool.{Bool, cond}
 use mathlib.Core.Logic.{_⊎_, inl, inr, ⊎-elim}
 use Prim.Native.Nat.{ℕ, _≤_, _<_}
@@ -198,6 +198,12 @@ module _ (s : Store) (F : FitStore s) where
     each = λ o h. F .site .each o h .cache;
     rest = λ o h. ap (λ (x : Site). x .cache) (F .site .rest o h);
   })
+
+  -- Beyond the sites a mark set again is as it was.
+  pub marks-beyond : (o : ℕ) → s .counts .sites ≤ o
+      → siteWith s (s .site o) (s .site o .cache) ≡ s .site o
+  unfolding withMarks withCaches withSites
+  marks-beyond o h = fit-marks .site .rest o h ∙ sym (F .site .rest o h)
 
   pub fit-writer : (w : ℕ) (x : Writer) → w < s .counts .writers → FitWriter (s .counts) x
       → FitStore (withWriter s w x)

@@ -1,10 +1,9 @@
--- The stores of a loop as one, and merged places.
+-- The stores of a loop as one, and versions that are not held.
 -- put-table, put-window, put-part: the stores of a loop as one store.
--- unheld-is, formed-blank: versions that are not held. merge-place: keys merged from another
--- place.
+-- unheld-is: a version of zero words.
 -- Assumes nothing.
-use mathlib.Core.Path.{_≡_, refl, sym, ap, ap₂, _∙_, fun-ext}
-use mathlib.Core.Bool.{Bool, false, cond, not, So}
+use mathlib.Core.Path.{_≡_, refl, sym, ap, _∙_, fun-ext}
+use mathlib.Core.Bool.{Bool, false, not, So}
 use mathlib.Core.Logic.{_⊎_, inl, inr, ⊎-elim}
 use mathlib.Core.List.{List, [], _∷_, _++_}
 use Prim.Native.Nat.{ℕ, zero, suc, _+_, _≤_, _<_}
@@ -14,8 +13,6 @@ use native.Mathlib.Omega.{arith}
 use lib.Dec.{eqb}
 use lib.ListN.{length, getD, set, length-append}
 use lib.Seq.{sets}
-use Rattle.words.specs.Tests.{Items}
-use Rattle.words.specs.Numbers.{foldBelow}
 use Rattle.words.specs.Words.{put}
 use Rattle.words.specs.Lists.{window}
 use Rattle.words.proofs.Bools.{and-left, and-right, not-elim, eqb-eq}
@@ -25,17 +22,12 @@ use Rattle.words.proofs.Words.{put-in, put-same}
 use Rattle.clock.specs.Clock.{present}
 use Rattle.clock.proofs.Order.{absent}
 use Rattle.sizes.specs.declared.Counts.{Counts}
-use Rattle.sizes.specs.Bounds.{placeSize, keyAt}
-use Rattle.model.specs.Version.{Version, unheld, held, merge}
-use Rattle.model.specs.Form.{zeroRows, zeroVersion, versionFormed}
-use Rattle.model.proofs.Merges.{version-path, unheld-issue, Blank}
-use Rattle.layout.specs.Reading.{readVersion, readPlace}
+use Rattle.model.specs.Version.{Version, unheld, held}
+use Rattle.model.specs.Form.{zeroRows, zeroVersion}
+use Rattle.model.proofs.Merges.{version-path, unheld-issue}
 use Rattle.layout.proofs.Codec.{Laws}
 use Rattle.layout.proofs.Parts.{FitVersion}
 use Rattle.layout.proofs.Fit.{past-out}
-use Rattle.model.proofs.Formed.{VersionFormed}
-use Rattle.layout.proofs.Places.{keyStep, place-run, key-back, key-beside}
-use Rattle.layout.specs.Stored.{putPlace}
 
 -- ---- the stores of a loop as one
 
@@ -87,7 +79,7 @@ put-part {A} {v} {words} {read} {Fit} L l at f h =
 
 -- ---- versions that are not held
 
--- A version of zero words is unheld,
+-- A version of zero words is unheld.
 pub unheld-is : (z : Counts) (v : Version) → FitVersion z v → held v ≡ false
     → So (zeroVersion z v) → v ≡ unheld
 unfolding zeroVersion zeroRows
@@ -107,28 +99,3 @@ unheld-is z v F h r =
         ⊎-elim (λ l. ⊎-elim (λ k. absent (z .writers) (v .past d) (row d l) w k)
         (λ k. past-out z (v .past) (F .past) d w (inr k)) (below-or-not w (z .writers)))
         (λ l. past-out z (v .past) (F .past) d w (inl l)) (below-or-not d (z .keys))
-
--- and one in form that isn't held is one.
-pub formed-blank : (z : Counts) (k : ℕ) (v : Version) → FitVersion z v → VersionFormed z k v
-    → Blank v
-unfolding versionFormed
-formed-blank z k v F f h = unheld-is z v F h (rw h at f)
-
--- ---- places
-
--- Each key of a set merged from another place that lies beside.
-pub merge-place : (z : Counts) (l : List ℕ) (at from : ℕ) (b : Items)
-    → at + placeSize z ≤ length l → (from + placeSize z ≤ at) ⊎ (at + placeSize z ≤ from)
-    → foldBelow (z .keys) (keyStep z at b
-    (λ k m. merge (z .writers) k (readVersion z m (keyAt z at k))
-    (readVersion z m (keyAt z from k)))) l
-    ≡ putPlace z l at
-    (λ k. cond (b k) (merge (z .writers) k (readPlace z l at k) (readPlace z l from k))
-    (readPlace z l at k))
-merge-place z l at from b h d =
-    place-run z l at b
-    (λ k m. merge (z .writers) k (readVersion z m (keyAt z at k))
-    (readVersion z m (keyAt z from k)))
-    (λ k. merge (z .writers) k (readPlace z l at k) (readPlace z l from k)) h
-    (λ k q i F e. ap₂ (merge (z .writers) k) (key-back z l at q k h F i ∙ e)
-    (key-beside z l at from q k d i))

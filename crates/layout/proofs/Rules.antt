@@ -13,8 +13,7 @@ use Rattle.model.specs.Store.{Store, fresh}
 use Rattle.model.specs.Outcome.{refused, done}
 use Rattle.model.specs.Calls.{StoreCall, openRun, fetch, evict, prepare, step, issue, dropRun, ask, replyOf, ruleOf}
 use Rattle.model.proofs.Outcomes.{no-lack, unless-done, unless-refused}
-use Rattle.layout.specs.Buffer.{written}
-use Rattle.layout.specs.Calls.{new, newCause, newOn, callOn, leaves}
+use Rattle.layout.specs.Calls.{newCause, newOn}
 use Rattle.layout.proofs.Follow.{Fine}
 use Rattle.layout.proofs.Kept.{Kept, fresh-fine, kept-replied, drop-kept, fetch-kept, evict-kept}
 use Rattle.layout.proofs.Rules.Open.{open-kept}
@@ -49,11 +48,6 @@ pub new-done : (l : List ℕ) (z : Counts) → newCause l z ≡ 0
     → newOn l z ≡ done (totalOf z ∷ []) (fresh z)
 unfolding newOn
 new-done l z e = unless-done (newCause l z) _ e
-
-pub new-leaves : (l : List ℕ) (k w n p : ℕ) → newCause l (countsOf k w n p) ≡ 0
-    → leaves (callOn (new k w n p) l) l ≡ written (fresh (countsOf k w n p)) l
-unfolding leaves callOn
-new-leaves l k w n p e = rw (new-done l (countsOf k w n p) e)
 
 pub new-refused : (l : List ℕ) (z : Counts) → newCause l z ≢ 0
     → newOn l z ≡ refused (newCause l z)

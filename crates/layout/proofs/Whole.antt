@@ -8,7 +8,7 @@ use mathlib.Core.List.{List, _++_}
 use Prim.Native.Nat.{ℕ, _+_, _≤_}
 use native.Mathlib.Nat.{zero-add}
 use native.Mathlib.Omega.{arith}
-use lib.ListN.{length, getD, drop, length-append, length-drop}
+use lib.ListN.{length, getD, drop, length-append}
 use lib.Seq.{drop-at}
 use Rattle.words.specs.Lists.{window}
 use Rattle.words.proofs.Lists.{append-same, window-add, window-all, window-front}
@@ -199,11 +199,6 @@ store-back s l F =
     (words-back s l)
 
 -- ---- what a written store leaves
-
-pub written-length : (s : Store) (l : List ℕ) → totalOf (s .counts) ≤ length l
-    → length (written s l) ≡ length l
-unfolding written
-written-length s l h = rw (length-append, store-long s, length-drop) (omega arith)
 
 -- The words past the total are as they were.
 pub written-past : (s : Store) (l : List ℕ)

@@ -123,9 +123,3 @@ pub test-union : (n : ℕ) (f : ℕ → ℕ) (j : ℕ)
 unfolding unionBelow anyBelow
 test-union zero f j = test-none j
 test-union (suc n) f j = test-or (unionBelow n f) (f n) j ∙ rw (test-union n f j)
-
-pub union-same : (n : ℕ) (f g : ℕ → ℕ) → ((t : ℕ) → t < n → f t ≡ g t)
-    → unionBelow n f ≡ unionBelow n g
-unfolding unionBelow
-union-same zero f g h = refl
-union-same (suc n) f g h = rw (union-same n f g (λ t l. h t (omega arith)), h n (omega arith))

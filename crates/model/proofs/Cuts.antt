@@ -48,13 +48,6 @@ module _ {A : Type 0} (alg : Algebra A) (K : ℕ) where
   unfolding causalCut
   causalCut-at p s k d lk ld = needsMet-at everything p s k d lk ld refl refl
 
-  pub causalCut-intro : (p : Place A)
-      → ((k d : ℕ) → k < K → d < K → So (alg .held (p k)) → So (alg .needs k (p k) d)
-      → So (alg .meets d (p d) (p k)))
-      → So (causalCut alg K p)
-  unfolding causalCut
-  causalCut-intro p f = needsMet-intro everything p (λ k d lk ld _ _. f k d lk ld)
-
   -- Only keys of the set are held.
   pub overlappingCut-within : (S : Items) (p : Place A) → So (overlappingCut alg K S p)
       → (k : ℕ) → k < K → So (alg .held (p k)) → So (S k)

@@ -1,7 +1,7 @@
 -- Laws of the sets T, E and C and of the places that they leave, for every algebra.
 -- lacking-iff, draws-iff: the parts of these tests. drawSet-..: what is in T and C, and why.
 -- drawn-same: their masks.
--- fetchSet-.., evictSet-.., pullSet-..: T, E and C. fetched-, evicted-, pulled- with in: at a
+-- fetchSet-.., pullSet-..: T and C. fetched-, evicted-, pulled- with in: at a
 -- member of the set; with out: at another key; with cases: at either.
 -- Assumes nothing.
 use mathlib.Core.Path.{_≡_}
@@ -143,11 +143,6 @@ module _ {A : Type 0} (alg : Algebra A) (K : ℕ) where
   -- ---- E
 
   module _ (cache : Place A) (start : Items) where
-    pub evictSet-start : (k : ℕ) → So (start k) → So (evictSet alg K cache start k)
-    unfolding evictSet
-    evictSet-start =
-        closure-start K (λ t d. alg .held (cache d) && alg .needs d (cache d) t) start
-
     pub evicted-in : (k : ℕ) → So (evictSet alg K cache start k)
         → evicted alg K cache start k ≡ alg .nothing
     unfolding evicted

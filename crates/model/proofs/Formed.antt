@@ -81,12 +81,6 @@ version-zero z k v F n d l =
     let none = all-at (z .keys) (λ d. not (present (z .writers) (v .past d))) rows d l in
     absent (z .writers) (v .past d) (not-elim none)
 
-pub version-nobody : (z : Counts) (k : ℕ) (v : Version) → VersionFormed z k v → held v ≡ false
-    → v .leaders ≡ 0
-unfolding versionFormed zeroVersion
-version-nobody z k v F n =
-    eqb-eq (v .leaders) 0 (and-left (eqb (v .leaders) 0) (zeroRows z v) (rw n at F))
-
 pub version-merge : (z : Counts) (k : ℕ) (a b : Version)
     → VersionFormed z k a → VersionFormed z k b → VersionFormed z k (merge (z .writers) k a b)
 unfolding larger

@@ -1,18 +1,19 @@
 -- The stale mark of a shelf and a look there.
+-- mark-stale: a bit of the mark is the test of that key.
 -- stale-look: a bit of the mark is set exactly if the look is answered and doesn't end in 0.
 -- Assumes nothing.
 use mathlib.Core.Path.{_≡_, refl, sym, ap, _∙_}
-use mathlib.Core.Bool.{Bool, true, false, not, So, _&&_}
+use mathlib.Core.Bool.{not, So}
 use mathlib.Core.Logic.{_↔_, _≢_}
 use Prim.Native.Nat.{ℕ, _<_}
 use native.Mathlib.Omega.{arith}
-use lib.Dec.{leb}
 use Rattle.words.proofs.Bools.{test, clash, and-intro, and-left, and-right, gt-leb}
 use Rattle.masks.specs.Mask.{testBit}
 use Rattle.masks.proofs.Sets.{item-of}
 use Rattle.clock.specs.declared.Standing.{Standing}
 use Rattle.clock.specs.declared.Standing.the-variants.{Equal, Older, Newer, Rival}
-use Rattle.clock.specs.Clock.{standing, standingNumber, differing}
+use Rattle.clock.specs.Clock.{standingNumber, differing}
+use Rattle.clock.proofs.Standings.{differing-not}
 use Rattle.model.specs.Version.{Version, held}
 use Rattle.model.specs.Marks.{isStale, staleMask}
 use Rattle.model.specs.Store.{Store}
@@ -28,12 +29,6 @@ differs Older p e = absurd (omega (arith, e))
 differs Newer p e = absurd (omega (arith, e))
 differs Rival p e = absurd (omega (arith, e))
 
-differs-back : (x : Standing) → standingNumber x ≢ 0 → So (differing x)
-differs-back Equal n = absurd (n refl)
-differs-back Older n = refl
-differs-back Newer n = refl
-differs-back Rival n = refl
-
 module _ (s : Store) (F : So (wellFormed s)) (o k : ℕ) (ho : o < s .counts .sites)
     (hk : k < s .counts .keys) where
   -- The version looked at, and its standing.
@@ -43,9 +38,10 @@ module _ (s : Store) (F : So (wellFormed s)) (o k : ℕ) (ho : o < s .counts .si
   abbrev st : Standing
   st = lookStanding (s .counts .writers) k v (s .master k)
 
-  mark-at : testBit (s .site o .stale) k ≡ held v && differing st
-  unfolding staleMask isStale lookPlace lookStanding
-  mark-at = item-of (s .counts .keys) _ _ (well-out s F .mark o ho) k hk
+  pub mark-stale : testBit (s .site o .stale) k
+      ≡ isStale (s .counts .writers) k (s .site o .cache k) (s .master k)
+  unfolding staleMask
+  mark-stale = item-of (s .counts .keys) _ _ (well-out s F .mark o ho) k hk
 
   -- In range, a look is refused only where the sheet isn't held.
   cause-at : lookCause s 1 o k ≡ refuse (not (held v)) 8 0
@@ -54,15 +50,16 @@ module _ (s : Store) (F : So (wellFormed s)) (o k : ℕ) (ho : o < s .counts .si
 
   pub stale-look : So (testBit (s .site o .stale) k)
       ↔ ((lookCause s 1 o k ≡ 0) × (standingNumber st ≢ 0))
-  unfolding refuse
+  unfolding isStale lookPlace lookStanding refuse
   stale-look = (
     λ p.
-        let q = sym mark-at ∙ p in
+        let q = sym mark-stale ∙ p in
         let h = and-left (held v) (differing st) q in
         (cause-at ∙ rw h refl, differs st (and-right (held v) (differing st) q)),
     λ t.
         let h = test (held v) (λ y. y) (λ n. absurd (eight (sym (cause-at ∙ rw n refl) ∙ t .0))) in
-        mark-at ∙ and-intro h (differs-back st (t .1)),
+        mark-stale ∙ and-intro h (test (differing st) (λ y. y)
+        (λ n. absurd (t .1 (ap standingNumber (differing-not st n))))),
   )
     where
       eight : _≡_ {A = ℕ} 8 0 → ⊥

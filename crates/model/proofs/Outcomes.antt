@@ -89,6 +89,3 @@ pub replied-cases {ℓ} : (P : Outcome → Type ℓ) (a : Reply) → P (told (a 
     → P (refused (a .cause)) → P (replied a)
 unfolding replied
 replied-cases P a f g = unless-cases P (a .cause) _ (λ _. f) (λ _. g)
-
-pub replied-next : (a : Reply) (s : Store) → nextStore (replied a) s ≡ s
-replied-next a s = replied-cases (λ x. nextStore x s ≡ s) a refl refl

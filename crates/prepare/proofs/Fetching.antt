@@ -23,14 +23,14 @@ use Rattle.sizes.specs.Bounds.{masterAt, siteAt}
 use Rattle.model.specs.Algebra.{Algebra, Place, lacking}
 use Rattle.model.specs.Version.{Version, versions}
 use Rattle.model.specs.Sets.{fetched, unfetchable}
-use Rattle.model.specs.Store.{Store, siteWith, withCaches, withMarks, withSites, withCache}
+use Rattle.model.specs.Store.{Store, siteWith, withCaches, withSites, withCache}
 use Rattle.model.specs.Prepare.{jobStart, fetchReads, preparedCaches, siteCaches}
 use Rattle.model.proofs.Formed.{well-out, formed-cache}
 use Rattle.layout.specs.Reading.{readPlace, storeOf}
 use Rattle.layout.specs.Stored.{putPlace}
 use Rattle.layout.specs.Buffer.{written}
 use Rattle.layout.proofs.Parts.{FitPlace, place-laws}
-use Rattle.layout.proofs.Fit.{fit-cache, fit-marks}
+use Rattle.layout.proofs.Fit.{fit-cache, marks-beyond}
 use Rattle.layout.proofs.Updates.{marked}
 use Rattle.layout.proofs.Readings.{master-in, cache-in}
 use Rattle.layout.proofs.Follow.{Fine, form-fine}
@@ -56,12 +56,11 @@ lacking-bits alg K p m h =
 
 -- A site of a fine store is as it is with its mark set again.
 site-again : (s : Store) → Fine s → (o : ℕ) → siteWith s (s .site o) (s .site o .cache) ≡ s .site o
-unfolding siteWith withMarks withCaches withSites
+unfolding siteWith
 site-again s F o =
     ⊎-elim
     (λ h. ap (λ (m : ℕ). marked (s .site o) m) (sym (well-out s (F .formed) .mark o h)))
-    (λ h. fit-marks s (F .fits) .site .rest o h ∙ sym (F .fits .site .rest o h))
-    (below-or-not o (s .counts .sites))
+    (marks-beyond s (F .fits) o) (below-or-not o (s .counts .sites))
 
 -- The cache of job j of run r after its fetch.
 abbrev jobCache : Store → ℕ → ℕ → Place Version

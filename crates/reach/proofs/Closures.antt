@@ -160,14 +160,6 @@ closure-iff n edge start d l = (
       (closure-closed n edge start) d,
 )
 
--- A closed set that holds the start and has nothing that is not reached is the closure.
-pub closure-unique : (n : ℕ) (edge : ℕ → Items) (start m : Items) → Within n start m
-    → Closed n edge m → ((d : ℕ) → d < n → So (m d) → Reach n edge start d)
-    → (d : ℕ) → d < n → m d ≡ closure n edge start d
-closure-unique n edge start m s c r d l =
-    same-test (λ p. closure-iff n edge start d l .1 (r d l p))
-    (closure-least n edge start m s c d l)
-
 -- Where the start has an item, one round less is enough.
 pub closure-soon : (n : ℕ) (edge : ℕ → Items) (start : Items) (k : ℕ) → k < n → So (start k)
     → Within n (closure n edge start) (rounds (n - 1) n edge start)

@@ -14,10 +14,6 @@ pub test {ℓ} : {X : Type ℓ} (b : Bool) → (So b → X) → (b ≡ false →
 test true f g = f refl
 test false f g = g refl
 
-pub so-or-not : (b : Bool) → So b ⊎ (b ≡ false)
-so-or-not true = inl refl
-so-or-not false = inr refl
-
 pub clash {ℓ} : {X : Type ℓ} {b : Bool} → So b → b ≡ false → X
 clash p q = absurd (true≢false (sym p ∙ q))
 

@@ -3,6 +3,5 @@ pub mod Tests
 pub mod Numbers
 pub mod Slots
 pub mod Words
-pub mod Frames
 pub mod Lists
 pub mod Stores

@@ -1,14 +1,12 @@
 -- Laws of values under a test, of counts, of the largest value and of steps in turn.
 -- Assumes nothing.
-use mathlib.Core.Path.{_≡_, refl, _∙_}
+use mathlib.Core.Path.{_≡_, refl}
 use mathlib.Core.Bool.{Bool, true, false, _||_, So}
-use mathlib.Core.List.{List}
 use Prim.Native.Nat.{ℕ, zero, suc, _+_, _≤_, _<_, max}
 use native.Mathlib.Omega.{arith}
 use native.Mathlib.Nat.{not-suc-le-zero}
 use native.Mathlib.Numerals.{add-one}
 use native.Mathlib.Decide.{decLe}
-use lib.ListN.{length}
 use Rattle.words.specs.Tests.{Items, Within}
 use Rattle.words.specs.Numbers.{when, countBelow, largest, foldBelow}
 use Rattle.words.proofs.Bools.{clash}
@@ -48,10 +46,6 @@ when-mono true false x f = clash (f refl) refl
 when-mono false b x f = omega arith
 
 -- ---- counts
-
-pub count-more : (p : Items) (n : ℕ) → countBelow (n + 1) p ≡ countBelow n p + when (p n) 1
-unfolding countBelow
-count-more p n = rw add-one
 
 pub count-one : (p : Items) (n : ℕ) → So (p n) → countBelow (suc n) p ≡ suc (countBelow n p)
 unfolding countBelow
@@ -104,10 +98,6 @@ count-between m n i p h l a =
     omega (arith, count-mono m i p h, count-mono (suc i) n p l, count-one p i a)
 
 -- ---- the largest value
-
-pub largest-more : (f : ℕ → ℕ) (n : ℕ) → largest (n + 1) f ≡ max (largest n f) (f n)
-unfolding largest
-largest-more f n = rw add-one
 
 pub largest-at : (n : ℕ) (f : ℕ → ℕ) (i : ℕ) → i < n → f i ≤ largest n f
 unfolding largest
@@ -166,9 +156,3 @@ unfolding foldBelow
 fold-keeps P zero f h x p = p
 fold-keeps P (suc n) f h x p =
     h n (foldBelow n f x) (omega arith) (fold-keeps P n f (λ i y l. h i y (omega arith)) x p)
-
-pub length-fold : (n : ℕ) (f : ℕ → List ℕ → List ℕ)
-    → ((i : ℕ) (m : List ℕ) → length (f i m) ≡ length m) → (l : List ℕ)
-    → length (foldBelow n f l) ≡ length l
-length-fold n f h l =
-    fold-keeps (λ (m : List ℕ). length m ≡ length l) n f (λ i m _ e. h i m ∙ e) l refl

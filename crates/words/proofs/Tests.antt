@@ -1,7 +1,7 @@
 -- Laws of tests of every number below a bound.
 -- Assumes nothing.
 use mathlib.Core.Path.{_≡_, refl, sym, ap, _∙_}
-use mathlib.Core.Bool.{Bool, true, false, not, _&&_, _||_, So, false≢true, true≢false}
+use mathlib.Core.Bool.{Bool, true, false, not, _&&_, _||_, So, false≢true}
 use mathlib.Core.Logic.{_⊎_, inl, inr}
 use Prim.Native.Nat.{ℕ, zero, suc, _+_, _*_, _≤_, _<_}
 use native.Mathlib.Omega.{arith}
@@ -9,7 +9,7 @@ use native.Mathlib.Nat.{not-suc-le-zero}
 use native.Mathlib.Numerals.{add-one}
 use native.Mathlib.Decide.{decLt, ℕ-discrete}
 use Rattle.words.specs.Tests.{Items, anyBelow, allBelow}
-use Rattle.words.proofs.Bools.{and-intro, and-left, and-right, and-cases, and-false-right, or-left, or-right, or-cases, or-none, or-false-right}
+use Rattle.words.proofs.Bools.{and-intro, and-left, and-right, and-false-right, or-left, or-right, or-cases, or-none, or-false-right}
 
 -- Below `suc n`: the last one, or below n.
 pub below-cases {ℓ} : {X : Type ℓ} (i n : ℕ) → i < suc n → (i ≡ n → X) → (i < n → X) → X
@@ -78,16 +78,6 @@ all-no (suc n) p i k e =
     below-cases i n k
     (λ q. ap (λ (j : ℕ). allBelow n p && p j) (sym q) ∙ rw (e, and-false-right))
     (λ m. rw (all-no n p i m e))
-
--- Where not every number passes, one fails.
-pub all-fails : (n : ℕ) (p : Items) → allBelow n p ≡ false → (i : ℕ) × (i < n) × (p i ≡ false)
-unfolding allBelow
-all-fails zero p h = absurd (true≢false h)
-all-fails (suc n) p h =
-    elim (and-cases (allBelow n p) (p n) h) [
-      | inl a ↦ let u = all-fails n p a in (u .0, omega arith, u .2)
-      | inr b ↦ (n, omega arith, b)
-    ]
 
 pub all-same : (n : ℕ) (p q : Items) → ((i : ℕ) → i < n → p i ≡ q i) → allBelow n p ≡ allBelow n q
 unfolding allBelow

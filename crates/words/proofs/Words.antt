@@ -1,6 +1,6 @@
--- Laws of `put` and `Same`: what a store of words leaves, and what it leaves alone.
+-- Laws of `put`: what a store of words leaves, and what it leaves alone.
 -- Assumes nothing.
-use mathlib.Core.Path.{_≡_, refl, sym, _∙_}
+use mathlib.Core.Path.{_≡_, refl, _∙_}
 use mathlib.Core.List.{List}
 use mathlib.Core.Logic.{_⊎_, ⊎-elim}
 use Prim.Native.Nat.{ℕ, zero, suc, _+_, _≤_, _<_}
@@ -9,7 +9,7 @@ use native.Mathlib.Nat.{not-suc-le-zero}
 use native.Mathlib.Numerals.{add-one}
 use lib.ListN.{length, getD, set, length-set}
 use lib.Seq.{getD-set-same, getD-set-other}
-use Rattle.words.specs.Words.{put, Same, Apart}
+use Rattle.words.specs.Words.{put, Apart}
 use Rattle.words.proofs.Tests.{below-cases}
 
 -- ---- one store after the other
@@ -69,24 +69,3 @@ pub put-read : (l : List ℕ) (dst src n i : ℕ) (f : ℕ → ℕ) → Apart (l
 put-read l dst src n i f A h =
     ⊎-elim (λ k. put-high l dst i f (src + i) (omega arith))
     (λ k. put-low l dst i f (src + i) (omega arith)) (A .apart)
-
--- ---- windows
-
-pub same-refl : {l : List ℕ} {a n : ℕ} → Same l l a n
-same-refl = record { word = λ i h. refl }
-
-pub same-sym : {l m : List ℕ} {a n : ℕ} → Same l m a n → Same m l a n
-same-sym p = record { word = λ i h. sym (p .word i h) }
-
-pub same-trans : {l m o : List ℕ} {a n : ℕ} → Same l m a n → Same m o a n → Same l o a n
-same-trans p q = record { word = λ i h. p .word i h ∙ q .word i h }
-
--- Words beside those that are stored.
-pub put-frame : (l : List ℕ) (at n : ℕ) (f : ℕ → ℕ) (a k : ℕ) → (a + k ≤ at) ⊎ (at + n ≤ a)
-    → Same (put l at n f) l a k
-put-frame l at n f a k d =
-    record {
-      word = λ i h.
-          ⊎-elim (λ b. put-low l at n f (a + i) (omega arith))
-          (λ b. put-high l at n f (a + i) (omega arith)) d;
-    }

@@ -1,21 +1,16 @@
 -- Words of a buffer, as a list.
--- put: words stored from an index on. Same: two buffers agree in a window.
+-- put: words stored from an index on.
 -- Apart: where some words may be stored from others of the same buffer, going up.
 -- Assumes nothing.
-use mathlib.Core.Path.{_≡_}
 use mathlib.Core.List.{List}
 use mathlib.Core.Logic.{_⊎_}
-use Prim.Native.Nat.{ℕ, zero, suc, _+_, _≤_, _<_}
-use lib.ListN.{getD, set}
+use Prim.Native.Nat.{ℕ, zero, suc, _+_, _≤_}
+use lib.ListN.{set}
 
 -- The words l with f 0, f 1, .. f (n - 1) from index at on.
 unfoldable pub put : List ℕ → ℕ → ℕ → (ℕ → ℕ) → List ℕ
 put l at zero f = l
 put l at (suc n) f = set (put l at n f) (at + n) (f n)
-
--- Two buffers have the same n words from index a on.
-pub record Same (l m : List ℕ) (a n : ℕ) : Type 0 where
-  pub word : (i : ℕ) → i < n → getD l (a + i) 0 ≡ getD m (a + i) 0
 
 -- n words at dst and n at src lie in a buffer of len words. They are one place or do not overlap,
 -- or overlap such that a loop that counts up reads each word at src before it stores to it.
