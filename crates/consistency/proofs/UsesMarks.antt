@@ -1,7 +1,7 @@
 -- What a reader takes out of the claim on stale marks (CR 4); nothing here knows how it is proved.
 -- mark-is: every mark is the mask. marked-..: what a set bit says. behind-marked: a copy that is
--- behind is marked. look-marked: a bit is set exactly if the look there doesn't end in 0.
--- empty-fails, same-fails: what is not behind.
+-- behind is marked. in-master: what a shelf has, the master has. look-marked: a bit is set exactly
+-- if the look there doesn't end in 0. empty-fails, same-fails: what is not behind.
 -- Assumes nothing.
 use mathlib.Core.Path.{_≡_, refl}
 use mathlib.Core.Bool.{false, So}
@@ -50,6 +50,9 @@ module _ (t : Trace) (H : HoldsAt t) (o : ℕ) (ho : o < storeOf (t .buffer) .co
         → ¬ ((i : ℕ) → t .book .cache o k i ≡ t .book .master k i)
         → So (testBit (s .site o .stale) k)
     behind-marked i p n = H .holds .marks-copies o k ho hk .1 (record { some = (i, p); other = n })
+
+    pub in-master : (i : ℕ) → So (t .book .cache o k i) → So (t .book .master k i)
+    in-master i p = H .holds .caches-part o k i ho hk p
 
     pub look-marked : So (testBit (s .site o .stale) k)
         ↔ ((lookCause s 1 o k ≡ 0) × (standingNumber (lookStanding (s .counts .writers) k

@@ -208,8 +208,7 @@ pub record Holds (s : Store) (b : Book) (finished : ℕ → List ReadSet) : Type
   pub caches-part : (o k i : ℕ) → o < s .counts .sites → k < s .counts .keys
       → So (b .cache o k i) → So (b .master k i)
   -- CR 4: each shelf's mark is "the mask of held sheets whose own row isn't equal to the
-  -- master's",
-  -- and names the copies that are behind.
+  -- master's", and names the copies that are behind.
   pub marks-true : (o : ℕ) → o < s .counts .sites
       → s .site o .stale ≡ staleMask (s .counts) (s .master) (s .site o .cache)
   pub marks-copies : (o k : ℕ) → o < s .counts .sites → k < s .counts .keys
