@@ -1,5 +1,5 @@
--- A desk saved in an older layout isn't in form: its shelves begin elsewhere.
--- base-refused: the base's layout, whose versions had no mask.
+-- A desk saved in the base's layout, whose versions had no mask, isn't in form: its shelves begin
+-- elsewhere (base-refused).
 -- Assumes nothing.
 use mathlib.Core.Path.{_≡_, sym, ap, _∙_}
 use mathlib.Core.Bool.{false, So}

@@ -55,7 +55,7 @@ pub record Areas (len : ℕ) (z : Counts) (dst src : ℕ) : Type 0 where
   pub source : Area len z src
   pub apart : (dst ≡ src) ⊎ ((dst + placeSize z ≤ src) ⊎ (src + placeSize z ≤ dst))
 
--- The version at an index, and a past that is its own or lies beside it.
+-- The version at an index, and a past that begins no earlier than its own or ends before it.
 pub record Merges (len : ℕ) (z : Counts) (dst past : ℕ) : Type 0 where
   pub ranged : Ranged z
   pub low : dst < versionLimit

@@ -58,7 +58,7 @@ fn named(words: &[u32], w: usize, m: u32, p: usize, n: u32, q: usize) -> u32
 }
 
 // The writers with a count in one of the rows at p and q.
-fn counted(words: &[u32], w: usize, p: usize, q: usize) -> u32
+fn present_writers(words: &[u32], w: usize, p: usize, q: usize) -> u32
     requires { ⌜ (w ≤ maxWriters) × (p + w ≤ length (now words)) × (q + w ≤ length (now words)) ⌝ }
     ensures { λ r. ⌜ r ≡ maskBelow w (λ u. leb 1
         (join (clockAt (now (words .entry)) p) (clockAt (now (words .entry)) q) u)) ⌝ }
@@ -82,7 +82,7 @@ fn merged_leaders(words: &[u32], w: usize, m: u32, p: usize, n: u32, q: usize) -
 {
     let leading = named(words, w, m, p, n, q);
     if leading == 0 {
-        return counted(words, w, p, q);
+        return present_writers(words, w, p, q);
     }
     leading
 }
@@ -135,7 +135,8 @@ fn merge_held(
 }
 
 // Merges a version into the one of key k at dst: an issue number, a mask of leading writers, and
-// the past at an index. No other word changes, and none at all where the version is the target's.
+// the past at an index. No other word changes, and none at all where it is the target's own
+// version and in form.
 pub fn merge_version(
     words: &mut [u32],
     z: Counts,
@@ -183,7 +184,7 @@ fn merge_if(words: &mut [u32], z: Counts, dst: usize, src: usize, mask: u32, k: 
 }
 
 // Merges the keys of the mask from the place at src into the place at dst. No other word changes,
-// and none at all where the two are one place.
+// and none at all where the two are one place that is in form.
 pub fn merge_keys(words: &mut [u32], z: Counts, dst: usize, src: usize, mask: u32)
     requires { ⌜ Areas (length (now words)) z dst src ⌝ }
     ensures merges { λ _. ⌜ now (words .exit) ≡ putPlace z (now (words .entry)) dst

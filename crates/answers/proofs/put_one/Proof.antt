@@ -7,12 +7,6 @@ use Rattle.answers.proofs.Fronts.{over-one}
 use Rattle.answers.proofs.put_one.Statement.{statement}
 use Rattle.answers.proofs.put_one.Tie as tie
 
-slice-write-answer : tie.Need-slice-write-answer
-slice-write-answer c = search needs
-
-same-length : tie.Need-same-length
-same-length c = search needs
-
 returns : tie.Need-returns
 returns c =
     let a = c .args in
@@ -22,4 +16,4 @@ returns c =
     }
 
 pub put-one-spec : {M : Type 1} → statement M
-put-one-spec = tie.close (tie.spec slice-write-answer same-length returns)
+put-one-spec = tie.close (tie.spec (λ c. search needs) (λ c. search needs) returns)

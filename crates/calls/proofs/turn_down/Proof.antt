@@ -12,12 +12,6 @@ returns c = record {
   short = λ _. (refl, refl);
 }
 
-put-two-requires : tie.Need-put-two-requires
-put-two-requires c κs = search needs
-
-same-length : tie.Need-same-length
-same-length c = search needs
-
 returns-2 : tie.Need-returns-2
 returns-2 c = record {
   laid = λ _. record { laid = c .before .before .put-two .ensures .laid; count = refl };
@@ -25,4 +19,4 @@ returns-2 c = record {
 }
 
 pub turn-down-spec : {M : Type 1} → statement M
-turn-down-spec = tie.close (tie.spec returns put-two-requires same-length returns-2)
+turn-down-spec = tie.close (tie.spec returns (λ c κs. search needs) (λ c. search needs) returns-2)

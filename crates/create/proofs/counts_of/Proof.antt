@@ -5,18 +5,6 @@ use Rattle.sizes.specs.Bounds.{countsOf}
 use Rattle.create.proofs.counts_of.Statement.{statement}
 use Rattle.create.proofs.counts_of.Tie as tie
 
-wide-requires : tie.Need-wide-requires
-wide-requires c κs = search needs
-
-wide-requires-2 : tie.Need-wide-requires-2
-wide-requires-2 c κs = search needs
-
-wide-requires-3 : tie.Need-wide-requires-3
-wide-requires-3 c κs = search needs
-
-wide-requires-4 : tie.Need-wide-requires-4
-wide-requires-4 c κs = search needs
-
 returns : tie.Need-returns
 returns c =
     let w₃ = c .before in
@@ -27,4 +15,10 @@ returns c =
 
 pub counts-of-spec : {M : Type 1} → statement M
 counts-of-spec =
-    tie.close (tie.spec wide-requires wide-requires-2 wide-requires-3 wide-requires-4 returns)
+    tie.close
+    (tie.spec
+    (λ c κs. search needs)
+    (λ c κs. search needs)
+    (λ c κs. search needs)
+    (λ c κs. search needs)
+    returns)

@@ -12,15 +12,9 @@ use Rattle.explain.proofs.Drawings.{drawn-short, path-words}
 use Rattle.explain.proofs.judge.Statement.{statement}
 use Rattle.explain.proofs.judge.Tie as tie
 
-alone-requires : tie.Need-alone-requires
-alone-requires c κs = search needs
-
 returns : tie.Need-returns
 unfolding explainedWords foundWords Fits drawnWords
 returns c = rw (c .alone .ensures, eq-eqb _ 0 (c .before .if1 .taken)) (refl, tt)
-
-path-of-requires : tie.Need-path-of-requires
-path-of-requires c κs = search needs
 
 returns-2 : tie.Need-returns-2
 unfolding explainedWords foundWords Fits drawnWords
@@ -35,4 +29,4 @@ returns-2 c =
     (rw (ne-eqb _ 0 (i .if1 .left)) (ap (λ (t : List ℕ). pathWord ∷ t) (w .0)), (w .1, w .2))
 
 pub judge-spec : {M : Type 1} → statement M
-judge-spec = tie.close (tie.spec alone-requires returns path-of-requires returns-2)
+judge-spec = tie.close (tie.spec (λ c κs. search needs) returns (λ c κs. search needs) returns-2)

@@ -10,9 +10,6 @@ use Rattle.issue.proofs.Causes.{raise-free}
 use Rattle.issue.proofs.next_numbers.Statement.{statement}
 use Rattle.issue.proofs.next_numbers.Tie as tie
 
-numbers-of-requires : tie.Need-numbers-of-requires
-numbers-of-requires c κs = search needs
-
 raised-requires : tie.Need-raised-requires
 raised-requires c κs =
     let s = c .before .before in
@@ -34,4 +31,4 @@ returns c =
     )
 
 pub next-numbers-spec : {M : Type 1} → statement M
-next-numbers-spec = tie.close (tie.spec numbers-of-requires raised-requires returns)
+next-numbers-spec = tie.close (tie.spec (λ c κs. search needs) raised-requires returns)

@@ -8,11 +8,8 @@ use Rattle.lines.proofs.has_count.Tie as tie
 returns : tie.Need-returns
 returns c = uncounted (c .before .args .number) (c .before .args .n) (c .if1 .taken)
 
-row-at-requires : tie.Need-row-at-requires
-row-at-requires c κs = search needs
-
 returns-2 : tie.Need-returns-2
 returns-2 c = counted _ _ _ (c .before .before .row-at .ensures)
 
 pub has-count-spec : {M : Type 1} → statement M
-has-count-spec = tie.close (tie.spec returns row-at-requires returns-2)
+has-count-spec = tie.close (tie.spec returns (λ c κs. search needs) returns-2)

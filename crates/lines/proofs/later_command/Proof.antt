@@ -7,12 +7,6 @@ use Rattle.lines.proofs.Tables.{in-table, next, not-past}
 use Rattle.lines.proofs.later_command.Statement.{statement}
 use Rattle.lines.proofs.later_command.Tie as tie
 
-number-at-requires : tie.Need-number-at-requires
-number-at-requires c κs = search needs
-
-number-at-requires-2 : tie.Need-number-at-requires-2
-number-at-requires-2 c κs = search needs
-
 returns : tie.Need-returns
 unfolding calling formAt
 returns c =
@@ -34,4 +28,4 @@ returns-3 c =
 
 pub later-command-spec : {M : Type 1} → statement M
 later-command-spec =
-    tie.close (tie.spec number-at-requires number-at-requires-2 returns returns-2 returns-3)
+    tie.close (tie.spec (λ c κs. search needs) (λ c κs. search needs) returns returns-2 returns-3)

@@ -6,12 +6,9 @@ use Rattle.masks.specs.Mask.{testBit}
 use Rattle.masks.proofs.has.Statement.{statement}
 use Rattle.masks.proofs.has.Tie as tie
 
-shr-result : tie.Need-shr-result
-shr-result c = search needs
-
 returns : tie.Need-returns
 unfolding testBit
 returns c = refl
 
 pub has-spec : {M : Type 1} → statement M
-has-spec = tie.close (tie.spec shr-result returns)
+has-spec = tie.close (tie.spec (λ c. search needs) returns)

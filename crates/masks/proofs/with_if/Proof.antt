@@ -5,9 +5,6 @@ use Rattle.masks.specs.Mask.{withIf}
 use Rattle.masks.proofs.with_if.Statement.{statement}
 use Rattle.masks.proofs.with_if.Tie as tie
 
-with-item-requires : tie.Need-with-item-requires
-with-item-requires c κs = search needs
-
 returns : tie.Need-returns
 unfolding withIf
 returns c = rw (c .before .if1 .taken) (c .with-item .ensures)
@@ -17,4 +14,4 @@ unfolding withIf
 returns-2 c = rw (c .if1 .left)
 
 pub with-if-spec : {M : Type 1} → statement M
-with-if-spec = tie.close (tie.spec with-item-requires returns returns-2)
+with-if-spec = tie.close (tie.spec (λ c κs. search needs) returns returns-2)

@@ -6,12 +6,9 @@ use Rattle.masks.proofs.Bits.{shifted-one}
 use Rattle.masks.proofs.with_item.Statement.{statement}
 use Rattle.masks.proofs.with_item.Tie as tie
 
-shl-result : tie.Need-shl-result
-shl-result c = search needs
-
 returns : tie.Need-returns
 unfolding withBit
 returns c = rw (shifted-one (c .args .k) 32 (c .pre))
 
 pub with-item-spec : {M : Type 1} → statement M
-with-item-spec = tie.close (tie.spec shl-result returns)
+with-item-spec = tie.close (tie.spec (λ c. search needs) returns)

@@ -11,9 +11,6 @@ use Rattle.runs.proofs.Opens.{cause-run, cause-list}
 use Rattle.runs.proofs.open_cause.Statement.{statement}
 use Rattle.runs.proofs.open_cause.Tie as tie
 
-run-cause-requires : tie.Need-run-cause-requires
-run-cause-requires c κs = search needs
-
 returns : tie.Need-returns
 returns c =
     let a = c .before .before .before .before .args in
@@ -46,4 +43,4 @@ returns-3 c = ap (λ (t : Bool). refuse t 5 0) (sym (c .if2 .left)) ∙ told (c 
 
 pub open-cause-spec : {M : Type 1} → statement M
 open-cause-spec =
-    tie.close (tie.spec run-cause-requires returns list-valid-requires returns-2 returns-3)
+    tie.close (tie.spec (λ c κs. search needs) returns list-valid-requires returns-2 returns-3)

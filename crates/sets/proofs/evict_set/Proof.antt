@@ -9,9 +9,6 @@ use Rattle.sets.proofs.Leads.{evict-grown}
 use Rattle.sets.proofs.evict_set.Statement.{statement}
 use Rattle.sets.proofs.evict_set.Tie as tie
 
-held-mask-requires : tie.Need-held-mask-requires
-held-mask-requires c κs = search needs
-
 grow-requires : tie.Need-grow-requires
 unfolding RuleArea
 grow-requires c κs =
@@ -29,4 +26,4 @@ returns c =
     (h .held-mask .ensures)
 
 pub evict-set-spec : {M : Type 1} → statement M
-evict-set-spec = tie.close (tie.spec held-mask-requires grow-requires returns)
+evict-set-spec = tie.close (tie.spec (λ c κs. search needs) grow-requires returns)

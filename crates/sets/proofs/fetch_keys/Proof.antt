@@ -13,18 +13,6 @@ use Rattle.sets.proofs.Views.{chosen}
 use Rattle.sets.proofs.fetch_keys.Statement.{statement}
 use Rattle.sets.proofs.fetch_keys.Tie as tie
 
-fetch-set-requires : tie.Need-fetch-set-requires
-fetch-set-requires c κs = search needs
-
-copy-keys-requires : tie.Need-copy-keys-requires
-copy-keys-requires c κs = search needs
-
-mark-site-requires : tie.Need-mark-site-requires
-mark-site-requires c κs = search needs
-
-same-length : tie.Need-same-length
-same-length c = search needs
-
 returns : tie.Need-returns
 unfolding fetched
 returns c =
@@ -46,4 +34,9 @@ returns c =
 pub fetch-keys-spec : {M : Type 1} → statement M
 fetch-keys-spec =
     tie.close
-    (tie.spec fetch-set-requires copy-keys-requires mark-site-requires same-length returns)
+    (tie.spec
+    (λ c κs. search needs)
+    (λ c κs. search needs)
+    (λ c κs. search needs)
+    (λ c. search needs)
+    returns)

@@ -6,15 +6,9 @@ use Rattle.sizes.specs.Bounds.{jobAt}
 use Rattle.sizes.proofs.job_at.Statement.{statement}
 use Rattle.sizes.proofs.job_at.Tie as tie
 
-mul-result : tie.Need-mul-result
-mul-result c = search needs
-
-add-result : tie.Need-add-result
-add-result c = search needs
-
 returns : tie.Need-returns
 unfolding jobAt
 returns c = refl
 
 pub job-at-spec : {M : Type 1} → statement M
-job-at-spec = tie.close (tie.spec mul-result add-result returns)
+job-at-spec = tie.close (tie.spec (λ c. search needs) (λ c. search needs) returns)

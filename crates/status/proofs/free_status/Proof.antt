@@ -6,18 +6,6 @@ use Rattle.status.specs.Lent.{putStatus, freed}
 use Rattle.status.proofs.free_status.Statement.{statement}
 use Rattle.status.proofs.free_status.Tie as tie
 
-status-at-requires : tie.Need-status-at-requires
-status-at-requires c κs = search needs
-
-freed-requires : tie.Need-freed-requires
-freed-requires c κs = search needs
-
-put-status-requires : tie.Need-put-status-requires
-put-status-requires c κs = search needs
-
-same-length : tie.Need-same-length
-same-length c = search needs
-
 returns : tie.Need-returns
 returns c =
     let p = c .before .before in
@@ -29,4 +17,10 @@ returns c =
 
 pub free-status-spec : {M : Type 1} → statement M
 free-status-spec =
-    tie.close (tie.spec status-at-requires freed-requires put-status-requires same-length returns)
+    tie.close
+    (tie.spec
+    (λ c κs. search needs)
+    (λ c κs. search needs)
+    (λ c κs. search needs)
+    (λ c. search needs)
+    returns)

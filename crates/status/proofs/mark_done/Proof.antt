@@ -7,18 +7,6 @@ use Rattle.status.specs.Lent.{putStatus, marked}
 use Rattle.status.proofs.mark_done.Statement.{statement}
 use Rattle.status.proofs.mark_done.Tie as tie
 
-status-at-requires : tie.Need-status-at-requires
-status-at-requires c κs = search needs
-
-marked-requires : tie.Need-marked-requires
-marked-requires c κs = search needs
-
-put-status-requires : tie.Need-put-status-requires
-put-status-requires c κs = search needs
-
-same-length : tie.Need-same-length
-same-length c = search needs
-
 returns : tie.Need-returns
 returns c =
     let p = c .before .before in
@@ -31,4 +19,10 @@ returns c =
 
 pub mark-done-spec : {M : Type 1} → statement M
 mark-done-spec =
-    tie.close (tie.spec status-at-requires marked-requires put-status-requires same-length returns)
+    tie.close
+    (tie.spec
+    (λ c κs. search needs)
+    (λ c κs. search needs)
+    (λ c κs. search needs)
+    (λ c. search needs)
+    returns)

@@ -5,15 +5,6 @@ use Rattle.version.proofs.Versions.{clear-version}
 use Rattle.version.proofs.clear_version.Statement.{statement}
 use Rattle.version.proofs.clear_version.Tie as tie
 
-version-size-requires : tie.Need-version-size-requires
-version-size-requires c κs = search needs
-
-zero-requires : tie.Need-zero-requires
-zero-requires c κs = search needs
-
-same-length : tie.Need-same-length
-same-length c = search needs
-
 returns : tie.Need-returns
 returns c =
     let b = c .before .before .before .before in
@@ -23,4 +14,4 @@ returns c =
 
 pub clear-version-spec : {M : Type 1} → statement M
 clear-version-spec =
-    tie.close (tie.spec version-size-requires zero-requires same-length returns)
+    tie.close (tie.spec (λ c κs. search needs) (λ c κs. search needs) (λ c. search needs) returns)

@@ -5,14 +5,8 @@ use Rattle.version.proofs.Versions.{copy-version}
 use Rattle.version.proofs.copy_version.Statement.{statement}
 use Rattle.version.proofs.copy_version.Tie as tie
 
-version-size-requires : tie.Need-version-size-requires
-version-size-requires c κs = search needs
-
 copy-requires : tie.Need-copy-requires
 copy-requires c κs = let b = c .before in rw (b .version-size .ensures) (b .before .before .pre .1)
-
-same-length : tie.Need-same-length
-same-length c = search needs
 
 returns : tie.Need-returns
 returns c =
@@ -24,4 +18,4 @@ returns c =
 
 pub copy-version-spec : {M : Type 1} → statement M
 copy-version-spec =
-    tie.close (tie.spec version-size-requires copy-requires same-length returns)
+    tie.close (tie.spec (λ c κs. search needs) copy-requires (λ c. search needs) returns)

@@ -13,9 +13,6 @@ returns : tie.Need-returns
 unfolding dependency
 returns c = rw (eq-eqb _ _ (c .if1 .taken))
 
-row-of-requires : tie.Need-row-of-requires
-row-of-requires c κs = search needs
-
 present-requires : tie.Need-present-requires
 present-requires c κs =
     let s = c .before .before .before in
@@ -37,4 +34,4 @@ returns-2 c =
     (c .present .ensures)
 
 pub needs-spec : {M : Type 1} → statement M
-needs-spec = tie.close (tie.spec returns row-of-requires present-requires returns-2)
+needs-spec = tie.close (tie.spec returns (λ c κs. search needs) present-requires returns-2)

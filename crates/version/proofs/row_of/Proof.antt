@@ -6,9 +6,6 @@ use Rattle.sizes.proofs.Offsets.{largest, key-lies}
 use Rattle.version.proofs.row_of.Statement.{statement}
 use Rattle.version.proofs.row_of.Tie as tie
 
-key-at-requires : tie.Need-key-at-requires
-key-at-requires c κs = search needs
-
 row-at-requires : tie.Need-row-at-requires
 row-at-requires c κs =
     let s = c .before in
@@ -21,4 +18,4 @@ returns : tie.Need-returns
 returns c = rw (← c .before .key-at .ensures) (c .row-at .ensures)
 
 pub row-of-spec : {M : Type 1} → statement M
-row-of-spec = tie.close (tie.spec key-at-requires row-at-requires returns)
+row-of-spec = tie.close (tie.spec (λ c κs. search needs) row-at-requires returns)

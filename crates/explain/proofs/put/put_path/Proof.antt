@@ -17,18 +17,6 @@ use Rattle.answers.proofs.Fronts.{over-more}
 use Rattle.explain.proofs.put.put_path.Statement.{statement}
 use Rattle.explain.proofs.put.put_path.Tie as tie
 
-put-one-requires : tie.Need-put-one-requires
-put-one-requires c κs = search needs
-
-put-keys-requires : tie.Need-put-keys-requires
-put-keys-requires c κs = search needs
-
-add-result : tie.Need-add-result
-add-result c = search needs
-
-same-length : tie.Need-same-length
-same-length c = search needs
-
 returns : tie.Need-returns
 returns c =
     let p = c .before .before .before .before .before .before in
@@ -51,4 +39,10 @@ returns c =
 
 pub put-path-spec : {M : Type 1} → statement M
 put-path-spec =
-    tie.close (tie.spec put-one-requires put-keys-requires add-result same-length returns)
+    tie.close
+    (tie.spec
+    (λ c κs. search needs)
+    (λ c κs. search needs)
+    (λ c. search needs)
+    (λ c. search needs)
+    returns)

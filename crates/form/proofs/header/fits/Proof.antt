@@ -5,12 +5,9 @@ use Rattle.sizes.specs.Bounds.{sizesOf}
 use Rattle.form.proofs.header.fits.Statement.{statement}
 use Rattle.form.proofs.header.fits.Tie as tie
 
-areas-requires : tie.Need-areas-requires
-areas-requires c κs = search needs
-
 returns : tie.Need-returns
 unfolding sizesOf
 returns c = rw (c .areas .ensures)
 
 pub fits-spec : {M : Type 1} → statement M
-fits-spec = tie.close (tie.spec areas-requires returns)
+fits-spec = tie.close (tie.spec (λ c κs. search needs) returns)

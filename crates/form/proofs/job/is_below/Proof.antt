@@ -6,16 +6,10 @@ use Rattle.masks.proofs.Bits.{shifted-one}
 use Rattle.form.proofs.job.is_below.Statement.{statement}
 use Rattle.form.proofs.job.is_below.Tie as tie
 
-wide-requires : tie.Need-wide-requires
-wide-requires c κs = search needs
-
-shl-result : tie.Need-shl-result
-shl-result c = search needs
-
 returns : tie.Need-returns
 returns c =
     let a = c .before .args in
     rw (c .wide .ensures, shifted-one (a .n) 64 (omega arith))
 
 pub is-below-spec : {M : Type 1} → statement M
-is-below-spec = tie.close (tie.spec wide-requires shl-result returns)
+is-below-spec = tie.close (tie.spec (λ c κs. search needs) (λ c. search needs) returns)

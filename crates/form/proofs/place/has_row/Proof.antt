@@ -6,9 +6,6 @@ use Rattle.version.proofs.Areas.{row-in}
 use Rattle.form.proofs.place.has_row.Statement.{statement}
 use Rattle.form.proofs.place.has_row.Tie as tie
 
-row-of-requires : tie.Need-row-of-requires
-row-of-requires c κs = search needs
-
 present-requires : tie.Need-present-requires
 present-requires c κs =
     let s = c .before .before in
@@ -27,4 +24,4 @@ returns c =
     ) (c .present .ensures)
 
 pub has-row-spec : {M : Type 1} → statement M
-has-row-spec = tie.close (tie.spec row-of-requires present-requires returns)
+has-row-spec = tie.close (tie.spec (λ c κs. search needs) present-requires returns)

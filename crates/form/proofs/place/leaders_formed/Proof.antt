@@ -5,12 +5,9 @@ use Rattle.model.specs.Form.{leadersFormed}
 use Rattle.form.proofs.place.leaders_formed.Statement.{statement}
 use Rattle.form.proofs.place.leaders_formed.Tie as tie
 
-is-below-requires : tie.Need-is-below-requires
-is-below-requires c κs = search needs
-
 returns : tie.Need-returns
 unfolding leadersFormed
 returns c = rw (c .is-below .ensures)
 
 pub leaders-formed-spec : {M : Type 1} → statement M
-leaders-formed-spec = tie.close (tie.spec is-below-requires returns)
+leaders-formed-spec = tie.close (tie.spec (λ c κs. search needs) returns)

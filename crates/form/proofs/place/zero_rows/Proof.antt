@@ -11,9 +11,6 @@ row-of-requires c κs =
     let s = c .before in
     (s .pre .0 .ranged, (s .pre .0 .low, s .pre .1, omega (arith, s .pre .1)))
 
-past-size-requires : tie.Need-past-size-requires
-past-size-requires c κs = search needs
-
 present-requires : tie.Need-present-requires
 present-requires c κs =
     let s = c .before .before .before in
@@ -31,4 +28,4 @@ returns c =
 
 pub zero-rows-spec : {M : Type 1} → statement M
 zero-rows-spec =
-    tie.close (tie.spec row-of-requires past-size-requires present-requires returns)
+    tie.close (tie.spec row-of-requires (λ c κs. search needs) present-requires returns)

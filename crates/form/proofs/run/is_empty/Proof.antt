@@ -6,12 +6,6 @@ use Rattle.form.proofs.Snapshots.{empty-test}
 use Rattle.form.proofs.run.is_empty.Statement.{statement}
 use Rattle.form.proofs.run.is_empty.Tie as tie
 
-place-formed-requires : tie.Need-place-formed-requires
-place-formed-requires c κs = search needs
-
-held-mask-requires : tie.Need-held-mask-requires
-held-mask-requires c κs = search needs
-
 returns : tie.Need-returns
 returns c =
     let a = c .before .before .before .args in
@@ -19,4 +13,4 @@ returns c =
     (empty-test (a .z) (readPlace (a .z) (a .words .now) (a .at)))
 
 pub is-empty-spec : {M : Type 1} → statement M
-is-empty-spec = tie.close (tie.spec place-formed-requires held-mask-requires returns)
+is-empty-spec = tie.close (tie.spec (λ c κs. search needs) (λ c κs. search needs) returns)

@@ -8,9 +8,6 @@ use Rattle.prepare.proofs.Fetching.{start-low, lacked-as}
 use Rattle.prepare.proofs.fetches.is_lacked.Statement.{statement}
 use Rattle.prepare.proofs.fetches.is_lacked.Tie as tie
 
-job-start-requires : tie.Need-job-start-requires
-job-start-requires c κs = search needs
-
 areas-requires : tie.Need-areas-requires
 areas-requires c κs = form-area _ _ (c .before .before .pre .0 .form) .ranged
 
@@ -38,4 +35,4 @@ returns c =
 
 pub is-lacked-spec : {M : Type 1} → statement M
 is-lacked-spec =
-    tie.close (tie.spec job-start-requires areas-requires is-unfetchable-requires returns)
+    tie.close (tie.spec (λ c κs. search needs) areas-requires is-unfetchable-requires returns)

@@ -18,9 +18,6 @@ cast-has c = omega (arith, ranged (c .before))
 has-requires : tie.Need-has-requires
 has-requires c κs = omega (arith, ranged (c .before))
 
-led-from-requires : tie.Need-led-from-requires
-led-from-requires c κs = search needs
-
 returns : tie.Need-returns
 unfolding when
 returns c =
@@ -32,4 +29,4 @@ unfolding when
 returns-2 c = rw (← c .before .has .ensures, c .if1 .left)
 
 pub led-if-spec : {M : Type 1} → statement M
-led-if-spec = tie.close (tie.spec cast-has has-requires led-from-requires returns returns-2)
+led-if-spec = tie.close (tie.spec cast-has has-requires (λ c κs. search needs) returns returns-2)

@@ -7,9 +7,6 @@ use Rattle.sets.proofs.Lacks.{lacking-some}
 use Rattle.sets.proofs.missing.is_unfetchable.Statement.{statement}
 use Rattle.sets.proofs.missing.is_unfetchable.Tie as tie
 
-lacking-requires : tie.Need-lacking-requires
-lacking-requires c κs = search needs
-
 returns : tie.Need-returns
 returns c =
     let a = c .before .before .args in
@@ -17,4 +14,4 @@ returns c =
     (readPlace (a .z) (a .words .now) (a .master)) (a .start) _ (c .lacking .ensures)
 
 pub is-unfetchable-spec : {M : Type 1} → statement M
-is-unfetchable-spec = tie.close (tie.spec lacking-requires returns)
+is-unfetchable-spec = tie.close (tie.spec (λ c κs. search needs) returns)

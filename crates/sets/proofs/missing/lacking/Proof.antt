@@ -7,12 +7,6 @@ use Rattle.sets.proofs.Lacks.{lacking-mask}
 use Rattle.sets.proofs.missing.lacking.Statement.{statement}
 use Rattle.sets.proofs.missing.lacking.Tie as tie
 
-held-mask-requires : tie.Need-held-mask-requires
-held-mask-requires c κs = search needs
-
-without-requires : tie.Need-without-requires
-without-requires c κs = search needs
-
 returns : tie.Need-returns
 returns c =
     let h = c .before in
@@ -22,4 +16,4 @@ returns c =
     (a .mask) _ _ (s .pre .1) (h .held-mask .ensures) (c .without .ensures)
 
 pub lacking-spec : {M : Type 1} → statement M
-lacking-spec = tie.close (tie.spec held-mask-requires without-requires returns)
+lacking-spec = tie.close (tie.spec (λ c κs. search needs) (λ c κs. search needs) returns)

@@ -8,9 +8,6 @@ use Rattle.sizes.proofs.Offsets.{largest, key-lies}
 use Rattle.sizes.proofs.Counts.key_at.Statement.{statement}
 use Rattle.sizes.proofs.Counts.key_at.Tie as tie
 
-version-size-requires : tie.Need-version-size-requires
-version-size-requires c κs = search needs
-
 nth-requires : tie.Need-nth-requires
 unfolding keyAt
 nth-requires c κs =
@@ -24,4 +21,4 @@ unfolding keyAt
 returns c = c .nth .ensures ∙ rw (c .before .version-size .ensures)
 
 pub key-at-spec : {M : Type 1} → statement M
-key-at-spec = tie.close (tie.spec version-size-requires nth-requires returns)
+key-at-spec = tie.close (tie.spec (λ c κs. search needs) nth-requires returns)

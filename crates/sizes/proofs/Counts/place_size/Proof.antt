@@ -7,9 +7,6 @@ use Rattle.sizes.proofs.Offsets.{largest}
 use Rattle.sizes.proofs.Counts.place_size.Statement.{statement}
 use Rattle.sizes.proofs.Counts.place_size.Tie as tie
 
-version-size-requires : tie.Need-version-size-requires
-version-size-requires c κs = search needs
-
 mul-result : tie.Need-mul-result
 unfolding placeSize
 mul-result c =
@@ -21,4 +18,4 @@ unfolding placeSize
 returns c = rw (c .before .version-size .ensures)
 
 pub place-size-spec : {M : Type 1} → statement M
-place-size-spec = tie.close (tie.spec version-size-requires mul-result returns)
+place-size-spec = tie.close (tie.spec (λ c κs. search needs) mul-result returns)

@@ -7,9 +7,6 @@ use Rattle.sizes.proofs.Offsets.{largest}
 use Rattle.sizes.proofs.Counts.run_size.Statement.{statement}
 use Rattle.sizes.proofs.Counts.run_size.Tie as tie
 
-place-size-requires : tie.Need-place-size-requires
-place-size-requires c κs = search needs
-
 add-result : tie.Need-add-result
 unfolding runSize
 add-result c =
@@ -21,4 +18,4 @@ unfolding runSize
 returns c = rw (c .place-size .ensures)
 
 pub run-size-spec : {M : Type 1} → statement M
-run-size-spec = tie.close (tie.spec place-size-requires add-result returns)
+run-size-spec = tie.close (tie.spec (λ c κs. search needs) add-result returns)

@@ -8,9 +8,6 @@ use Rattle.sizes.proofs.Offsets.{largest}
 use Rattle.sizes.proofs.Counts.site_size.Statement.{statement}
 use Rattle.sizes.proofs.Counts.site_size.Tie as tie
 
-place-size-requires : tie.Need-place-size-requires
-place-size-requires c κs = search needs
-
 add-result : tie.Need-add-result
 add-result c =
     let s = c .before in
@@ -21,4 +18,4 @@ unfolding siteSize
 returns c = rw (c .place-size .ensures)
 
 pub site-size-spec : {M : Type 1} → statement M
-site-size-spec = tie.close (tie.spec place-size-requires add-result returns)
+site-size-spec = tie.close (tie.spec (λ c κs. search needs) add-result returns)

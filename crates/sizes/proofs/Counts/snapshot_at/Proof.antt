@@ -7,9 +7,6 @@ use Rattle.sizes.proofs.Offsets.{ordered, run-lies}
 use Rattle.sizes.proofs.Counts.snapshot_at.Statement.{statement}
 use Rattle.sizes.proofs.Counts.snapshot_at.Tie as tie
 
-run-at-requires : tie.Need-run-at-requires
-run-at-requires c κs = search needs
-
 add-result : tie.Need-add-result
 add-result c =
     let s = c .before in
@@ -22,4 +19,4 @@ unfolding snapshotAt
 returns c = rw (c .run-at .ensures)
 
 pub snapshot-at-spec : {M : Type 1} → statement M
-snapshot-at-spec = tie.close (tie.spec run-at-requires add-result returns)
+snapshot-at-spec = tie.close (tie.spec (λ c κs. search needs) add-result returns)

@@ -8,9 +8,6 @@ use Rattle.sizes.proofs.Offsets.{largest}
 use Rattle.sizes.proofs.Counts.stale_at.Statement.{statement}
 use Rattle.sizes.proofs.Counts.stale_at.Tie as tie
 
-place-size-requires : tie.Need-place-size-requires
-place-size-requires c κs = search needs
-
 add-result : tie.Need-add-result
 add-result c =
     let s = c .before in
@@ -21,4 +18,4 @@ unfolding staleAt
 returns c = rw (c .place-size .ensures)
 
 pub stale-at-spec : {M : Type 1} → statement M
-stale-at-spec = tie.close (tie.spec place-size-requires add-result returns)
+stale-at-spec = tie.close (tie.spec (λ c κs. search needs) add-result returns)

@@ -7,9 +7,6 @@ use Rattle.sizes.proofs.Offsets.{largest}
 use Rattle.sizes.proofs.Counts.version_size.Statement.{statement}
 use Rattle.sizes.proofs.Counts.version_size.Tie as tie
 
-past-size-requires : tie.Need-past-size-requires
-past-size-requires c κs = search needs
-
 add-result : tie.Need-add-result
 unfolding versionSize
 add-result c =
@@ -21,4 +18,4 @@ unfolding versionSize
 returns c = rw (c .past-size .ensures)
 
 pub version-size-spec : {M : Type 1} → statement M
-version-size-spec = tie.close (tie.spec past-size-requires add-result returns)
+version-size-spec = tie.close (tie.spec (λ c κs. search needs) add-result returns)

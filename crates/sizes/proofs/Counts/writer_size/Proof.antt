@@ -7,9 +7,6 @@ use Rattle.sizes.proofs.Offsets.{largest}
 use Rattle.sizes.proofs.Counts.writer_size.Statement.{statement}
 use Rattle.sizes.proofs.Counts.writer_size.Tie as tie
 
-past-size-requires : tie.Need-past-size-requires
-past-size-requires c κs = search needs
-
 add-result : tie.Need-add-result
 unfolding writerSize
 add-result c =
@@ -21,4 +18,4 @@ unfolding writerSize
 returns c = rw (c .past-size .ensures)
 
 pub writer-size-spec : {M : Type 1} → statement M
-writer-size-spec = tie.close (tie.spec past-size-requires add-result returns)
+writer-size-spec = tie.close (tie.spec (λ c κs. search needs) add-result returns)

@@ -9,12 +9,6 @@ use Rattle.trial.proofs.Masks.{upstream-some}
 use Rattle.trial.proofs.causes.is_unready.Statement.{statement}
 use Rattle.trial.proofs.causes.is_unready.Tie as tie
 
-has-requires : tie.Need-has-requires
-has-requires c κs = search needs
-
-without-requires : tie.Need-without-requires
-without-requires c κs = search needs
-
 returns : tie.Need-returns
 unfolding notReady
 returns c =
@@ -25,4 +19,4 @@ returns c =
     (upstream-some (a .done) (a .upstream) (s .pre .1)))
 
 pub is-unready-spec : {M : Type 1} → statement M
-is-unready-spec = tie.close (tie.spec has-requires without-requires returns)
+is-unready-spec = tie.close (tie.spec (λ c κs. search needs) (λ c κs. search needs) returns)

@@ -6,9 +6,6 @@ use Rattle.model.specs.Step.{jobLimit}
 use Rattle.trial.proofs.causes.job_limit.Statement.{statement}
 use Rattle.trial.proofs.causes.job_limit.Tie as tie
 
-wide-requires : tie.Need-wide-requires
-wide-requires c κs = search needs
-
 returns : tie.Need-returns
 unfolding jobLimit
 returns c = rw (eq-eqb (c .before .args .state) 0 (c .if1 .taken))
@@ -19,4 +16,4 @@ returns-2 c =
     rw (ne-eqb (c .before .before .args .state) 0 (c .before .if1 .left)) (c .wide .ensures)
 
 pub job-limit-spec : {M : Type 1} → statement M
-job-limit-spec = tie.close (tie.spec wide-requires returns returns-2)
+job-limit-spec = tie.close (tie.spec (λ c κs. search needs) returns returns-2)

@@ -10,8 +10,8 @@ use Rattle.words.proofs.Bools.{test, leb-le, le-leb, leb-gt}
 use Rattle.masks.specs.Mask.{maskBelow}
 use Rattle.masks.proofs.Sets.{mask-more}
 use Rattle.clock.specs.Clock.{clockAt, join}
-use Rattle.version.proofs.merge.counted.Statement.{statement}
-use Rattle.version.proofs.merge.counted.Tie as tie
+use Rattle.version.proofs.merge.present_writers.Statement.{statement}
+use Rattle.version.proofs.merge.present_writers.Tie as tie
 
 either : (x y : ℕ) → leb 1 x || leb 1 y ≡ leb 1 (max x y)
 either x y =
@@ -60,8 +60,8 @@ returns c =
     l .loop .inv .1
     ∙ ap (λ (i : ℕ). maskBelow i (λ u. leb 1 (join (clockAt o (a .p)) (clockAt o (a .q)) u))) e
 
-pub counted-spec : {M : Type 1} → statement M
-counted-spec =
+pub present-writers-spec : {M : Type 1} → statement M
+present-writers-spec =
     tie.close
     (tie.spec
     Inv-loop
