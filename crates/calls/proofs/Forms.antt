@@ -1,6 +1,6 @@
 -- A call that is made, or refused, and the form of the buffer after it.
--- does-it, does-not, not-made: what a call that was made, or refused, comes to. few-..: how many
--- words. call-form, made-form: in form stays in form, and an accepted call leaves it in form.
+-- does-it, does-not, not-made: what a call that was made, or refused, comes to. few-answered: how
+-- many words. call-form, made-form: in form stays in form, and an accepted call leaves it in form.
 -- Assumes nothing.
 use mathlib.Core.Path.{_≡_, refl, sym, subst, _∙_}
 use mathlib.Core.Bool.{Bool, false, So, _&&_, _||_}
@@ -10,12 +10,9 @@ use mathlib.Core.Option.{Option, none, some}
 use Prim.Native.Nat.{ℕ, suc, _≤_, _<_}
 use native.Mathlib.Omega.{arith}
 use lib.Dec.{eqb, leb, ltb}
-use lib.ListN.{length, getD, take, length-append}
+use lib.ListN.{length, getD, take}
 use borrow.Author.Tests.{lt-ltb, le-leb}
-use Rattle.words.specs.Lists.{window}
 use Rattle.words.proofs.Bools.{clash, test, and-left, and-right, and-cases, or-true-right, or-false-right, leb-le, eqb-eq, eqb-ne}
-use Rattle.words.proofs.Lists.{length-window}
-use Rattle.clock.specs.Clock.{standingNumber}
 use Rattle.sizes.specs.Bounds.{countsOf}
 use Rattle.answers.specs.declared.Answered.{Answered}
 use Rattle.answers.specs.Answers.{maxAnswer, answerRoom, over, Lays, answeredWords}
@@ -26,13 +23,6 @@ use Rattle.layout.specs.Calls.{Call, new, on, newCause, callOn, leaves, isOk}
 use Rattle.layout.proofs.Follow.{fine-form}
 use Rattle.layout.proofs.Forms.{no-form, form-kept}
 use Rattle.layout.proofs.Rules.{new-fine, new-done, new-refused}
-use Rattle.step.specs.declared.Stepped.{Stepped}
-use Rattle.step.specs.Answers.{steppedWords}
-use Rattle.explain.specs.declared.Finding.{Finding}
-use Rattle.explain.specs.declared.Explained.{Explained}
-use Rattle.explain.specs.Answers.{foundWords, explainedWords, Fits, Listed}
-use Rattle.look.specs.declared.Looked.{Looked}
-use Rattle.look.specs.Answer.{seen, shown, RowIn}
 use Rattle.calls.specs.Performs.{Does, Exported, TurnedDown, Made}
 
 -- ---- one call
@@ -104,29 +94,6 @@ pub few-answered : (r : Answered) → length (answeredWords r) ≤ maxAnswer
 unfolding answeredWords
 few-answered (Answered.Done n) = omega arith
 few-answered (Answered.Refused n) = omega arith
-
-pub few-stepped : (r : Stepped) → length (steppedWords r) ≤ maxAnswer
-unfolding steppedWords
-few-stepped (Stepped.Done a b c) = omega arith
-few-stepped (Stepped.Broken m) = omega arith
-few-stepped (Stepped.Refused n) = omega arith
-
-pub few-shown : (l : List ℕ) (r : Looked) → RowIn l r → length (shown l r) ≤ maxAnswer
-unfolding seen shown RowIn
-few-shown l (Looked.Done i m at n s) h =
-    let last : List ℕ = standingNumber s ∷ [] in
-    omega (arith, length-append (window l at n) last, length-window l at n, h .1)
-few-shown l (Looked.Refused n) h = omega arith
-
-few-found : (f : Finding) (keys : List ℕ) → Fits f keys → length (foundWords f keys) ≤ maxAnswer
-unfolding foundWords Fits
-few-found Finding.Clear keys h = omega arith
-few-found (Finding.Path n) keys h = omega (arith, length-window keys 0 n, h .1)
-few-found (Finding.Refused n) keys h = omega arith
-
-pub few-explained : (r : Explained) → Listed r → length (explainedWords r) ≤ maxAnswer
-unfolding explainedWords
-few-explained r h = few-found (r .finding) (r .keys) h
 
 -- ---- the form of the buffer after a call
 

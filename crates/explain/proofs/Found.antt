@@ -1,12 +1,12 @@
 -- What a trial found draws as the model has it.
 -- drawn-edge, drawn-start: by the store. draws-found: what path_of asks for. path-found: the path.
--- words-found, words-refused: the answer.
+-- words-found, words-refused: the answer. few-explained: how many words.
 -- Assumes nothing.
 use mathlib.Core.Path.{_≡_, refl, sym, ap, ap₂, _∙_}
 use mathlib.Core.Bool.{Bool, true, false, So, cond, not, _&&_}
 use mathlib.Core.Logic.{_≢_}
 use mathlib.Core.List.{List, [], _∷_}
-use Prim.Native.Nat.{ℕ, _<_}
+use Prim.Native.Nat.{ℕ, _<_, _≤_}
 use native.Mathlib.Omega.{arith}
 use lib.Bits.{bitAnd}
 use lib.Dec.{eqb}
@@ -41,6 +41,12 @@ use Rattle.trial.proofs.Known.{jobs-known}
 use Rattle.trial.proofs.Trials.{visit-known, old-reads, old-plan, branch-own}
 use Rattle.trial.proofs.Finds.{found-counts, found-run, found-taken, found-pulled, found-read, found-master, found-cache, found-snapshot, found-snapshot-at, moved-some, moved-none}
 use Rattle.explain.specs.Drawing.{sourceOf, drawnEdge, drawnStart, drawnPath, Draws, drawnWords}
+use lib.ListN.{length}
+use Rattle.words.proofs.Lists.{length-window}
+use Rattle.answers.specs.Answers.{maxAnswer}
+use Rattle.explain.specs.declared.Finding.{Finding}
+use Rattle.explain.specs.declared.Explained.{Explained}
+use Rattle.explain.specs.Answers.{foundWords, explainedWords, Fits, Listed}
 
 module _ (l : List ℕ) (z : Counts) (r j : ℕ) (v : Visit) (t : Trial)
     (F : Finds l z r j v t) where
@@ -163,3 +169,14 @@ words-refused l r j n F e h =
     let no : callOn (on (ask (explain r j))) l ≡ refused n =
     rw e (ask-refused (explain r j) l F (rw e at h)) in
     rw no refl
+
+-- How many words the answer has.
+few-found : (f : Finding) (keys : List ℕ) → Fits f keys → length (foundWords f keys) ≤ maxAnswer
+unfolding foundWords Fits
+few-found Finding.Clear keys h = omega arith
+few-found (Finding.Path n) keys h = omega (arith, length-window keys 0 n, h .1)
+few-found (Finding.Refused n) keys h = omega arith
+
+pub few-explained : (r : Explained) → Listed r → length (explainedWords r) ≤ maxAnswer
+unfolding explainedWords
+few-explained r h = few-found (r .finding) (r .keys) h

@@ -1,16 +1,16 @@
 -- What a look comes to on a buffer.
 -- area-in, held-in, cause-in: what the tests rest on. Found, found: the version is there.
 -- standing-in: how it stands. Says: what the answer shows, and which row it has; look-refused,
--- look-done. row-lies.
+-- look-done. row-lies. few-shown: how many words.
 -- Assumes nothing.
 use mathlib.Core.Path.{_≡_, refl, sym, ap, _∙_}
 use mathlib.Core.Bool.{not, So}
 use mathlib.Core.Logic.{_≢_}
 use mathlib.Core.List.{List, [], _∷_, _++_}
-use Prim.Native.Nat.{ℕ, _<_}
+use Prim.Native.Nat.{ℕ, _<_, _≤_}
 use native.Mathlib.Omega.{arith}
 use lib.Dec.{eqb, leb}
-use lib.ListN.{length, getD}
+use lib.ListN.{length, getD, length-append}
 use Rattle.words.specs.Lists.{window}
 use Rattle.words.proofs.Bools.{test, leb-gt, eqb-eq, eqb-ne}
 use Rattle.clock.specs.declared.Standing.{Standing}
@@ -37,6 +37,8 @@ use Rattle.look.specs.declared.Looked.the-variants.{Done, Refused}
 use Rattle.look.specs.Places.{placeAt, ownRowAt}
 use Rattle.look.specs.Answer.{seen, shown, OwnRow, RowIn}
 use Rattle.look.proofs.Places.{place-in, place-area, row-window}
+use Rattle.words.proofs.Lists.{length-window}
+use Rattle.answers.specs.Answers.{maxAnswer}
 
 -- ---- the tests
 
@@ -146,3 +148,11 @@ module _ (l : List ℕ) (p i k : ℕ) where
       (λ t. let no = refused-by F (eqb-ne x 0 t) in
       let two : 0 ∷ n .0 ∷ m ∷ (window l at c ++ standingNumber s ∷ []) ≡ 2 ∷ x ∷ [] = e ∙ rw no in
       absurd (omega (arith, ap (λ (t : List ℕ). getD t 0 0) two)))
+
+-- How many words the answer has.
+pub few-shown : (l : List ℕ) (r : Looked) → RowIn l r → length (shown l r) ≤ maxAnswer
+unfolding seen shown RowIn
+few-shown l (Looked.Done i m at n s) h =
+    let last : List ℕ = standingNumber s ∷ [] in
+    omega (arith, length-append (window l at n) last, length-window l at n, h .1)
+few-shown l (Looked.Refused n) h = omega arith

@@ -3,13 +3,12 @@
 -- numbers from place i on, one by one. answer-parts: an answer's text put in three parts.
 -- Assumes nothing.
 use mathlib.Core.Path.{_≡_, refl, sym}
-use mathlib.Core.List.{List, [], _∷_, _++_, append-assoc, append-nil}
-use Prim.Native.Nat.{ℕ, zero, suc, _+_, _<_, _≤_}
+use mathlib.Core.List.{List, [], _∷_, _++_, map, append-assoc, append-nil}
+use Prim.Native.Nat.{ℕ, zero, suc, _+_, _-_, _<_, _≤_}
 use native.Mathlib.Numerals.{add-one}
 use native.Mathlib.Omega.{arith}
-use lib.ListN.{length, getD, drop, drop-of-length-le, List·getD-map, List·getD-eq-default}
+use lib.ListN.{length, getD, drop, replicate, drop-of-length-le, List·getD-map, List·getD-eq-default}
 use lib.Seq.{drop-cons}
-use Rattle.text.specs.Bytes.{bytesOf}
 use Rattle.text.specs.Decimal.{decimalOf}
 use Rattle.text.specs.Fields.{inFirst, fieldsOf, firstOf}
 use Rattle.text.proofs.Puts.{put-both}
@@ -17,20 +16,18 @@ use Rattle.print.specs.declared.Word.{Word}
 use Rattle.print.specs.Print.{answerWords, answerWord, numbersText, answerText}
 
 -- The code's table: spaces fill what a word leaves of its row.
+abbrev row : List ℕ → Word
+row w = record { bytes = w ++ replicate (8 - length w) 32 }
+
 abbrev rows : List Word
-rows =
-    record { bytes = bytesOf "ok      " } ∷
-    record { bytes = bytesOf "broken  " } ∷
-    record { bytes = bytesOf "refused " } ∷
-    record { bytes = bytesOf "clear   " } ∷
-    record { bytes = bytesOf "path    " } ∷ []
+rows = map row answerWords
 
 pub table-word : (t : ℕ) → firstOf (getD rows t (record { bytes = [] }) .bytes) ≡ answerWord t
 unfolding answerWord firstOf fieldsOf inFirst
 table-word t =
     sym (List·getD-map (λ (w : Word). firstOf (w .bytes)) rows t (record { bytes = [] }))
 
-pub no-word : (m : List ℕ) (t : ℕ) → 5 ≤ t → m ≡ m ++ answerWord t
+pub no-word : (m : List ℕ) (t : ℕ) → length answerWords ≤ t → m ≡ m ++ answerWord t
 unfolding answerWord
 no-word m t h = rw (List·getD-eq-default answerWords [] h, append-nil)
 

@@ -1,12 +1,13 @@
 -- What step comes to on a buffer in form: step-refused, by its cause; step-broken; step-done.
+-- few-stepped: how many words its answer has.
 -- Assumes nothing.
 use mathlib.Core.Path.{_≡_, refl, sym, ap, _∙_}
 use mathlib.Core.Bool.{cond, So, _&&_}
 use mathlib.Core.Logic.{_≢_}
 use mathlib.Core.List.{List, [], _∷_}
-use Prim.Native.Nat.{ℕ, _<_, _^_}
+use Prim.Native.Nat.{ℕ, _<_, _^_, _≤_}
 use lib.Bits.{bitAnd}
-use lib.ListN.{set}
+use lib.ListN.{set, length}
 use Rattle.words.specs.Tests.{anyBelow}
 use Rattle.masks.specs.Mask.{testBit, maskBelow, without}
 use Rattle.sizes.specs.declared.Counts.{Counts}
@@ -26,6 +27,10 @@ use Rattle.trial.specs.Trials.{Finds}
 use Rattle.trial.proofs.Trials.{visit-known}
 use Rattle.trial.proofs.Finds.{found-counts, found-run, found-taken, found-pulled, found-read, found-reads, moved-mask, moved-some, moved-none}
 use Rattle.step.proofs.Divisions.{from-snapshot, from-cache, from-master}
+use native.Mathlib.Omega.{arith}
+use Rattle.answers.specs.Answers.{maxAnswer}
+use Rattle.step.specs.declared.Stepped.{Stepped}
+use Rattle.step.specs.Answers.{steppedWords}
 
 -- What is done where there is no cause.
 abbrev act : Store → ℕ → ℕ → Outcome
@@ -110,3 +115,10 @@ module _ (l : List ℕ) (z : Counts) (r j : ℕ) (v : Visit) (t : Trial)
       step-rule r j s ∙ rw (moved, none) in
       ends-done (step r j) l (stepCause s r j) (stepDone s r j) (F .form .form) rule (F .free) _ m
       divided e
+
+-- How many words the answer has.
+pub few-stepped : (r : Stepped) → length (steppedWords r) ≤ maxAnswer
+unfolding steppedWords
+few-stepped (Stepped.Done a b c) = omega arith
+few-stepped (Stepped.Broken m) = omega arith
+few-stepped (Stepped.Refused n) = omega arith

@@ -4,8 +4,9 @@ use borrow.Author.Needs.{needs}
 use native.Mathlib.Omega.{arith}
 use mathlib.Core.Path.{sym}
 use borrow.Author.Tests.{not-true, not-false}
+use Rattle.explain.proofs.Found.{few-explained}
 use Rattle.layout.proofs.Forms.{ask-leaves}
-use Rattle.calls.proofs.Forms.{admitted-form, admitted-room, export-not, export-done, few-explained}
+use Rattle.calls.proofs.Forms.{admitted-form, admitted-room, export-not, export-done}
 use Rattle.calls.proofs.explain.Statement.{statement}
 use Rattle.calls.proofs.explain.Tie as tie
 

@@ -5,8 +5,8 @@ use native.Mathlib.Omega.{arith}
 use mathlib.Core.Path.{sym}
 use borrow.Author.Tests.{not-true, not-false}
 use Rattle.layout.proofs.Forms.{ask-leaves}
-use Rattle.look.proofs.Answers.{row-lies}
-use Rattle.calls.proofs.Forms.{admitted-form, admitted-room, export-not, export-done, few-shown}
+use Rattle.look.proofs.Answers.{row-lies, few-shown}
+use Rattle.calls.proofs.Forms.{admitted-form, admitted-room, export-not, export-done}
 use Rattle.calls.proofs.look.Statement.{statement}
 use Rattle.calls.proofs.look.Tie as tie
 

@@ -3,7 +3,8 @@
 use borrow.Author.Needs.{needs}
 use native.Mathlib.Omega.{arith}
 use borrow.Author.Tests.{not-true, not-false}
-use Rattle.calls.proofs.Forms.{admitted-form, admitted-room, export-not, export-done, few-stepped}
+use Rattle.step.proofs.Steps.{few-stepped}
+use Rattle.calls.proofs.Forms.{admitted-form, admitted-room, export-not, export-done}
 use Rattle.calls.proofs.step.Statement.{statement}
 use Rattle.calls.proofs.step.Tie as tie
 
