@@ -9,7 +9,7 @@ cd "$(dirname "$0")/.." || exit 2
 copy=$(mktemp -d) || exit 2
 trap 'rm -rf "$copy"' EXIT
 cp -r crates crates.txt "$copy/" || exit 2
-[ ! -d target ] || cp -r target "$copy/" || exit 2
+[ ! -d target/stamp ] || { mkdir "$copy/target" && cp -r target/rlib target/stamp "$copy/target/"; } || exit 2
 cd "$copy" && git init -q . || exit 2
 failed=0 refused=0
 swap() { # CRATE FILE OLD NEW
