@@ -1,5 +1,4 @@
 pub mod Rows
-pub mod Explaining
 pub mod Uses
 pub mod UsesRuns
 pub mod UsesLeads

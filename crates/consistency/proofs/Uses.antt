@@ -16,9 +16,8 @@ use Rattle.sizes.specs.declared.Counts.{Counts}
 use Rattle.model.specs.Version.{Version, held, dependency, supersedes, versions}
 use Rattle.model.specs.Store.{Store, planned}
 use Rattle.model.specs.Outcome.{refused, broken, done, answer}
-use Rattle.model.specs.Look.{lookPlace, lookLimit, rowNumbers, lookStanding, lookNumbers}
-use Rattle.model.specs.Explain.{clearWord, pathWord, Answers}
-use Rattle.model.specs.Calls.{step, explain, ask}
+use Rattle.model.specs.Calls.Look.{lookPlace, lookLimit, rowNumbers, lookStanding, lookNumbers}
+use Rattle.model.specs.Calls.{step}
 use Rattle.model.proofs.Cuts.{causalCut-at, overlappingCut-within, overlappingCut-at}
 use Rattle.layout.specs.Reading.{storeOf}
 use Rattle.layout.specs.Buffer.{inForm}
@@ -27,7 +26,6 @@ use Rattle.history.specs.History.{History, HappensBefore, saved, inPast}
 use Rattle.history.specs.Copies.{CopyCount, CountedAs, counted}
 use Rattle.consistency.specs.Trace.{ReadSet, Trace, start, follow}
 use Rattle.consistency.specs.Claim.{Among, Choice, isRefused, isBroken, HoldsAt, Consistent, Demand3}
-use Rattle.consistency.proofs.Explaining.{path-broken, clear-ok}
 use Rattle.consistency.proofs.Rows.{after-append, follow-append, follow-buffer}
 
 -- ---- an outcome is refused, broken or done, and one of them alone
@@ -176,25 +174,6 @@ module _ (t : Trace) (H : HoldsAt t) where
   pub none-broken : (r j : ℕ) → isRefused (callOn (on (step r j)) (t .buffer)) ≡ false
       → ¬ (Choice s r j) → So (isBroken (callOn (on (step r j)) (t .buffer)))
   none-broken r j n g = H .breaks r j .exactly n .1 g
-
-  -- Explain of that job: where the step isn't refused, a path exactly if there is no choice,
-  pub path-none : (r j : ℕ) → isRefused (callOn (on (step r j)) (t .buffer)) ≡ false
-      → Answers (callOn (on (ask (explain r j))) (t .buffer)) pathWord ↔ ¬ (Choice s r j)
-  path-none r j n =
-      let p = path-broken (t .buffer) r j form in
-      let b = H .breaks r j .exactly n in
-      (λ a. b .0 (p .0 a), λ g. p .1 (b .1 g))
-
-  -- clear exactly if the step would be ok,
-  pub clear-exactly : (r j : ℕ)
-      → (answer (callOn (on (ask (explain r j))) (t .buffer)) ≡ clearWord ∷ [])
-      ↔ So (isOk (callOn (on (step r j)) (t .buffer)))
-  clear-exactly r j = clear-ok (t .buffer) r j form
-
-  -- and then a choice works.
-  pub clear-works : (r j : ℕ)
-      → answer (callOn (on (ask (explain r j))) (t .buffer)) ≡ clearWord ∷ [] → Choice s r j
-  clear-works r j e = H .breaks r j .works (clear-exactly r j .0 e)
 
 -- ---- lists
 

@@ -12,7 +12,7 @@ use Rattle.masks.specs.Mask.{testBit}
 use Rattle.clock.specs.Clock.{standingNumber}
 use Rattle.model.specs.Marks.{staleMask}
 use Rattle.model.specs.Form.{wellFormed}
-use Rattle.model.specs.Look.{lookPlace, lookStanding, lookCause}
+use Rattle.model.specs.Calls.Look.{lookPlace, lookStanding, lookCause}
 use Rattle.model.specs.Store.{Store}
 use Rattle.model.proofs.Marked.{stale-look}
 use Rattle.layout.specs.Reading.{storeOf}

@@ -16,12 +16,12 @@ use Rattle.words.proofs.Words.{put-in, length-put}
 use Rattle.masks.specs.Mask.{testBit, maskBelow}
 use Rattle.masks.proofs.Sets.{test-mask, item-of}
 use Rattle.reach.specs.Closure.{closure}
-use Rattle.reach.specs.Path.{shortestPath}
-use Rattle.reach.specs.declared.path.ItemPath.{ItemPath}
-use Rattle.reach.specs.Rows.{leadsBy, RowsOf, noItems, itemPath}
-use Rattle.reach.proofs.Items.{items-back}
-use Rattle.reach.proofs.ShortestPaths.{path-long}
-use Rattle.reach.proofs.SamePaths.{path-same}
+use Rattle.paths.specs.Path.{shortestPath}
+use Rattle.paths.specs.declared.ItemPath.{ItemPath}
+use Rattle.paths.specs.Rows.{leadsBy, RowsOf, noItems, itemPath}
+use Rattle.paths.proofs.Items.{items-back}
+use Rattle.paths.proofs.ShortestPaths.{path-long}
+use Rattle.paths.proofs.SamePaths.{path-same}
 use Rattle.sizes.specs.declared.Counts.{Counts}
 use Rattle.trial.specs.declared.Visit.{Visit}
 use Rattle.trial.specs.declared.Trial.{Trial}

@@ -15,9 +15,9 @@ use Rattle.words.proofs.Bools.{test, eqb-eq, eqb-ne}
 use Rattle.masks.specs.Mask.{testBit, maskBelow}
 use Rattle.masks.proofs.Sets.{mask-lt, mask-same, item-of}
 use Rattle.reach.specs.Closure.{closure}
-use Rattle.reach.specs.Path.{shortestPath}
+use Rattle.paths.specs.Path.{shortestPath}
 use Rattle.reach.proofs.Closures.{closure-same}
-use Rattle.reach.proofs.SamePaths.{path-same}
+use Rattle.paths.proofs.SamePaths.{path-same}
 use Rattle.sizes.specs.declared.Counts.{Counts}
 use Rattle.sizes.specs.Bounds.{snapshotAt}
 use Rattle.model.specs.Algebra.{Place}
@@ -26,7 +26,7 @@ use Rattle.model.specs.Sets.{draws, drawSet, pullSet, fetched}
 use Rattle.model.specs.Store.{Store}
 use Rattle.model.specs.Outcome.{refused, answer}
 use Rattle.model.specs.Step.{stepSite, stepReads, stepFetch, stepCache, stepPlan, stepPull, stepMoved, stepCause}
-use Rattle.model.specs.Explain.{clearWord, pathWord, explainStart, explainEdge, explainGoal, explainPath, breaks, explainReply}
+use Rattle.model.specs.Calls.Explain.{clearWord, pathWord, explainStart, explainEdge, explainGoal, explainPath, breaks, explainReply}
 use Rattle.model.specs.Calls.{explain, ask, replyOf}
 use Rattle.layout.specs.Reading.{storeOf}
 use Rattle.layout.specs.Buffer.{inForm}

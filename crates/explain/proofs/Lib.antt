@@ -1,2 +1,4 @@
 pub mod Drawings
 pub mod Found
+pub mod Explains
+pub mod Explaining

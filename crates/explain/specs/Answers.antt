@@ -5,7 +5,7 @@ use mathlib.Core.List.{List, [], _∷_}
 use Prim.Native.Nat.{ℕ, _≤_}
 use lib.ListN.{length}
 use Rattle.words.specs.Lists.{window}
-use Rattle.model.specs.Explain.{clearWord, pathWord}
+use Rattle.model.specs.Calls.Explain.{clearWord, pathWord}
 use Rattle.explain.specs.declared.Finding.{Finding}
 use Rattle.explain.specs.declared.Explained.{Explained}
 

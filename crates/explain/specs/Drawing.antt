@@ -12,11 +12,11 @@ use lib.ListN.{length}
 use Rattle.words.specs.Tests.{Items}
 use Rattle.masks.specs.Mask.{testBit, maskBelow}
 use Rattle.reach.specs.Closure.{closure}
-use Rattle.reach.specs.Path.{shortestPath}
+use Rattle.paths.specs.Path.{shortestPath}
 use Rattle.sizes.specs.declared.Counts.{Counts}
 use Rattle.model.specs.Algebra.{lacking}
 use Rattle.model.specs.Version.{versions}
-use Rattle.model.specs.Explain.{clearWord, pathWord}
+use Rattle.model.specs.Calls.Explain.{clearWord, pathWord}
 use Rattle.layout.specs.Reading.{readPlace}
 use Rattle.sets.specs.declared.View.{View}
 use Rattle.sets.specs.declared.growth.Rule.{Rule}

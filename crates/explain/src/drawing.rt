@@ -1,6 +1,6 @@
 // The path of keys, by what each key of C draws in.
-use reach::path::ItemPath;
-use reach::path::shortest_path;
+use paths::ItemPath;
+use paths::shortest_path;
 use sets::View;
 use sets::growth::Rule;
 use sets::growth::led_if;
@@ -13,7 +13,7 @@ ghost use lib.ListN.{length};
 ghost use Rattle.words.specs.Numbers.{when};
 ghost use Rattle.words.specs.Words.{put};
 ghost use Rattle.masks.specs.Mask.{testBit, maskBelow};
-ghost use Rattle.reach.specs.Rows.{noItems, itemPath};
+ghost use Rattle.paths.specs.Rows.{noItems, itemPath};
 ghost use Rattle.sets.specs.Leads.{RuleArea, leadsTo};
 ghost use Rattle.explain.specs.Drawing.{drawnPath, Draws};
 

@@ -13,7 +13,7 @@ use trial::Visit;
 use trial::try_job;
 ghost use mathlib.Core.Path.{_≡_};
 ghost use mathlib.Core.Bool.{So};
-ghost use Rattle.reach.specs.Rows.{noItems};
+ghost use Rattle.paths.specs.Rows.{noItems};
 ghost use Rattle.model.specs.Outcome.{answer};
 ghost use Rattle.model.specs.Calls.{explain, ask};
 ghost use Rattle.layout.specs.Buffer.{inForm};

@@ -9,7 +9,7 @@ ghost use Prim.Native.Nat.{_≤_};
 ghost use lib.ListN.{length, getD};
 ghost use Rattle.words.specs.Lists.{window};
 ghost use Rattle.words.specs.Words.{put};
-ghost use Rattle.model.specs.Explain.{pathWord};
+ghost use Rattle.model.specs.Calls.Explain.{pathWord};
 ghost use Rattle.answers.specs.Answers.{answerRoom, Lays};
 ghost use Rattle.explain.specs.Answers.{explainedWords, Listed};
 

@@ -20,4 +20,3 @@ pub mod Follow
 pub mod Kept
 pub mod Rules
 pub mod Forms
-pub mod Explaining

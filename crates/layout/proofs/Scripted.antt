@@ -24,7 +24,7 @@ use Rattle.model.specs.Runs.{listedJob, listedCount, listedJobs, listValid, ope
 use Rattle.model.specs.Prepare.{jobStart, fetchReads, preparedCaches, unpreparable, usesSite, sitesMerged, siteCaches, prepareCause, prepareCaches, prepareSnapshot, prepareDone, prepareRule}
 use Rattle.model.specs.Step.{readStart, stepSite, stepReads, stepStart, stepFetch, stepCache, stepPlan, stepPull, stepSnapshot, stepMoved, jobLimit, notReady, jobCause, stepCause, stepBroken, stepDone, stepRule}
 use Rattle.model.specs.Issue.{raiseCause, issueCause, takenIn, rowsSet, newPast, newVersion, issuedMaster, issuedWriter, savedStore, issuedStore, issuedNumber, issueDone, issueRule}
-use Rattle.model.specs.Look.{lookPlace, lookLimit, lookCause, rowNumbers, lookStanding, lookNumbers, lookReply}
+use Rattle.model.specs.Calls.Look.{lookPlace, lookLimit, lookCause, rowNumbers, lookStanding, lookNumbers, lookReply}
 use Rattle.model.specs.Calls.{replyOf, ruleOf}
 use Rattle.model.proofs.Scripts.{ok₁, not-taken, case-a-script, case-a-answers, longer-script, longer-answers}
 use Rattle.layout.specs.Words.{clockWords, pastWords, versionWords, placeWords, siteWords, sitesWords, writerWords, writersWords, jobWords, jobsWords, runWords, runsWords, tailWords, headerWords, storeWords}

@@ -8,11 +8,11 @@ use mathlib.Core.Option.{none, some}
 use lib.ListN.{replicate}
 use Rattle.text.specs.Bytes.{bytesOf, sameBytes}
 use Rattle.text.specs.Fields.{inFirst, fieldsOf, digitsOnly, valueFrom, isEmpty, numberOf, numberBefore, numbersOf}
-use Rattle.model.specs.Calls.{openRun, fetch, evict, prepare, step, issue, dropRun, ask, look, explain, stale}
+use Rattle.model.specs.Calls.{openRun, fetch, evict, prepare, step, issue, dropRun, ask, look}
 use Rattle.layout.specs.Calls.{new, on}
 use Rattle.lines.specs.Grammar.{formOf, takes, calling, asked, fieldsCall, lineCall}
 
--- Case A's lines, each once, a prepare, a drop, an explain and a stale.
+-- Case A's lines, each once, a prepare and a drop.
 pub case-lines :
     (lineCall (bytesOf "new 2 2 2 1") ≡ some (new 2 2 2 1))
     × (lineCall (bytesOf "open 0 0 0 0") ≡ some (on (openRun 0 (0 ∷ 0 ∷ 0 ∷ []))))
@@ -29,13 +29,9 @@ pub case-lines :
     × (lineCall (bytesOf "evict 0 1") ≡ some (on (evict 0 1)))
     × (lineCall (bytesOf "prepare 0") ≡ some (on (prepare 0)))
     × (lineCall (bytesOf "drop 0") ≡ some (on (dropRun 0)))
-    × (lineCall (bytesOf "explain 0 1") ≡ some (on (ask (explain 0 1))))
-    × (lineCall (bytesOf "stale 1") ≡ some (on (ask (stale 1))))
 unfolding lineCall fieldsCall fieldsOf inFirst asked formOf sameBytes takes calling numbersOf
     numberBefore numberOf isEmpty digitsOnly valueFrom
 case-lines = (
-  refl,
-  refl,
   refl,
   refl,
   refl,
@@ -102,10 +98,9 @@ pub bare-words :
     × (lineCall (bytesOf "issue") ≡ none)
     × (lineCall (bytesOf "drop") ≡ none)
     × (lineCall (bytesOf "look") ≡ none)
-    × (lineCall (bytesOf "explain") ≡ none)
 unfolding lineCall fieldsCall fieldsOf inFirst asked formOf sameBytes takes calling numbersOf
     numberBefore numberOf isEmpty digitsOnly valueFrom
-bare-words = (refl, refl, refl, refl, refl, refl, refl, refl, refl, refl)
+bare-words = (refl, refl, refl, refl, refl, refl, refl, refl, refl)
 
 -- `drop ` and zeros: 400 bytes are read, 401 are not.
 pub long-lines :

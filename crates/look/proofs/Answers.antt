@@ -20,7 +20,7 @@ use Rattle.sizes.specs.Bounds.{masterAt, keyAt, rowAt}
 use Rattle.numbers.specs.declared.IssueNumber.{IssueNumber}
 use Rattle.model.specs.Version.{Version, held}
 use Rattle.model.specs.Outcome.{refused, told, answer, refuse}
-use Rattle.model.specs.Look.{placeKinds, lookPlace, lookLimit, lookCause, lookStanding, lookNumbers, lookReply}
+use Rattle.model.specs.Calls.Look.{placeKinds, lookPlace, lookLimit, lookCause, lookStanding, lookNumbers, lookReply}
 use Rattle.model.specs.Calls.{look, ask, replyOf}
 use Rattle.layout.specs.Reading.{readWord, readVersion, readPlace, countsIn, storeOf}
 use Rattle.layout.specs.Buffer.{inForm}

@@ -13,7 +13,7 @@ use Rattle.words.proofs.Bools.{test}
 use Rattle.words.proofs.Lists.{upto-in}
 use Rattle.sizes.specs.declared.Counts.{Counts}
 use Rattle.sizes.specs.Bounds.{pastOffset, Ranged, totalOf, keyAt, rowAt}
-use Rattle.model.specs.Look.{lookPlace, rowNumbers}
+use Rattle.model.specs.Calls.Look.{lookPlace, rowNumbers}
 use Rattle.layout.specs.Words.{clockWords}
 use Rattle.layout.specs.Reading.{readClock, readPast, readVersion, readPlace, countsIn, storeOf}
 use Rattle.layout.proofs.Parts.{clock-laws}
@@ -21,7 +21,7 @@ use Rattle.layout.proofs.Places.{place-at}
 use Rattle.layout.proofs.Readings.{master-in, cache-in, snapshot-in}
 use Rattle.version.specs.Places.{Area}
 use Rattle.version.proofs.Stores.{master-area, site-area, snapshot-area}
-use Rattle.model.specs.Look.{lookLimit}
+use Rattle.model.specs.Calls.Look.{lookLimit}
 use Rattle.look.specs.Places.{placeAt}
 
 -- ---- the three kinds

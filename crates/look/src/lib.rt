@@ -21,7 +21,7 @@ ghost use lib.ListN.{length};
 ghost use Rattle.answers.specs.Answers.{answerRoom, Lays};
 ghost use Rattle.sizes.specs.Bounds.{Ranged};
 ghost use Rattle.model.specs.Outcome.{answer};
-ghost use Rattle.model.specs.Look.{placeKinds, lookLimit, lookCause};
+ghost use Rattle.model.specs.Calls.Look.{placeKinds, lookLimit, lookCause};
 ghost use Rattle.model.specs.Calls.{look, ask};
 ghost use Rattle.layout.specs.Reading.{countsIn, storeOf};
 ghost use Rattle.layout.specs.Buffer.{inForm};

@@ -1,4 +1,5 @@
--- The readings and the scripts computed by the definitions.
+-- The readings and the scripts computed by the definitions; those of later calls have a file in
+-- Computed/.
 -- Assumes nothing.
 use mathlib.Core.Path.{_≡_, refl}
 use mathlib.Core.Bool.{true}
@@ -9,7 +10,7 @@ use Rattle.words.specs.Numbers.{foldBelow}
 use Rattle.words.specs.Lists.{putAt, upto, blocks}
 use Rattle.masks.specs.Mask.{testBit, withBit, withIf, maskBelow}
 use Rattle.reach.specs.Closure.{closure, rounds, round}
-use Rattle.reach.specs.Path.{lowest, near, distance, nearest, pathBy, shortestPath}
+use Rattle.paths.specs.Path.{lowest, near, distance, nearest, pathBy, shortestPath}
 use Rattle.clock.specs.Clock.{exceeds, standing, dominates, concurrent, present, join}
 use Rattle.sizes.specs.Bounds.{countsOf, between}
 use Rattle.model.specs.Algebra.{lacking, needsMet, causalCut, overlappingCut}
@@ -18,22 +19,25 @@ use Rattle.model.specs.Sets.{draws, drawSet, fetchSet, fetched, unfetcha
 use Rattle.model.specs.Store.{fresh, planned, doneReads, siteWith, withMarks, withMaster, withLast, withSites, withCache, withCaches, withWriter, withRun, withState, withSnapshot, withJobDone}
 use Rattle.model.specs.Form.{zeroRows, zeroVersion, leadersFormed, versionFormed, placeFormed, validJob, zeroJob, freeFormed, jobsFormed, masksFormed, snapshotFormed, runFormed, siteFormed, wellFormed}
 use Rattle.model.specs.Marks.{isStale, staleMask}
-use Rattle.model.specs.Stale.{staleCause, staleReply}
+use Rattle.model.specs.Calls.Stale.{staleCause, staleReply}
 use Rattle.model.specs.Outcome.{answer, refuse, unless, replied, allowed, runCause}
 use Rattle.model.specs.Caches.{fetchCause, fetchDone, fetchRule, evictCause, evictDone, evictRule}
 use Rattle.model.specs.Runs.{listedJob, listedCount, listedJobs, listValid, openCause, openedRun, openDone, openRule, dropCause, dropDone, dropRule}
 use Rattle.model.specs.Prepare.{jobStart, fetchReads, preparedCaches, unpreparable, usesSite, sitesMerged, siteCaches, prepareCause, prepareCaches, prepareSnapshot, prepareDone, prepareRule}
 use Rattle.model.specs.Step.{readStart, stepSite, stepReads, stepStart, stepFetch, stepCache, stepPlan, stepPull, stepSnapshot, stepMoved, jobLimit, notReady, jobCause, stepCause, stepBroken, stepDone, stepRule}
 use Rattle.model.specs.Issue.{raiseCause, issueCause, takenIn, rowsSet, newPast, newVersion, issuedMaster, issuedWriter, savedStore, issuedStore, issuedNumber, issueDone, issueRule}
-use Rattle.model.specs.Look.{lookPlace, lookLimit, lookCause, rowNumbers, lookStanding, lookNumbers, lookReply}
-use Rattle.model.specs.Explain.{explainStart, explainEdge, explainGoal, explainPath, breaks, explainReply}
+use Rattle.model.specs.Calls.Look.{lookPlace, lookLimit, lookCause, rowNumbers, lookStanding, lookNumbers, lookReply}
+use Rattle.model.specs.Calls.Explain.{explainStart, explainEdge, explainGoal, explainPath, breaks, explainReply}
 use Rattle.model.specs.Calls.{replyOf, ruleOf}
 use Rattle.model.proofs.Readings.{marked, sentences, unmarked, limits, shelved}
-use Rattle.model.proofs.Looks.{looked}
+use Rattle.model.proofs.Computed.Look.{looked}
 use Rattle.model.proofs.Scripts.{ok₁, ok₃, seen, answers, case-a-script, case-a-answers, longer-script, longer-answers, refusals-script, refusals-answers, reading-script, reading-answers, again-script, again-answers, broken-script, broken-answers, behind-script, behind-answers}
 use Rattle.model.proofs.Leaders as leaders
-use Rattle.model.proofs.Stales as stales
-use Rattle.model.proofs.Explanations as explained
+use Rattle.model.proofs.Computed.Stale as stales
+use Rattle.model.proofs.Computed.Explain as explained
+pub mod Look
+pub mod Explain
+pub mod Stale
 
 -- The ten marked readings pass, and each script is answered as it should be, answer by answer.
 pub record Computed : Type 0 where

@@ -1,10 +1,7 @@
 pub mod Outcomes
 pub mod Scripts
 pub mod Leaders
-pub mod Stales
-pub mod Explanations
 pub mod Readings
-pub mod Looks
 pub mod Clauses
 pub mod Computed
 pub mod Merges
@@ -17,4 +14,3 @@ pub mod DoneReads
 pub mod Formed
 pub mod Plans
 pub mod Marked
-pub mod Explained

@@ -19,7 +19,7 @@ use Rattle.model.specs.Marks.{isStale, staleMask}
 use Rattle.model.specs.Store.{Store}
 use Rattle.model.specs.Form.{wellFormed}
 use Rattle.model.specs.Outcome.{refuse}
-use Rattle.model.specs.Look.{lookPlace, lookLimit, lookStanding, lookCause}
+use Rattle.model.specs.Calls.Look.{lookPlace, lookLimit, lookStanding, lookCause}
 use Rattle.model.proofs.Formed.{well-out}
 
 -- A standing that isn't equal has another number than 0.

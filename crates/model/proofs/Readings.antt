@@ -19,7 +19,7 @@ use Rattle.model.specs.Sets.{evictSet}
 use Rattle.model.specs.Store.{Store, Job, noJob, noJobs, noBranch, fresh, withLast, withMarks, withMaster, withCache, withWriter, withRun}
 use Rattle.model.specs.Form.{wellFormed}
 use Rattle.model.specs.Outcome.{answer}
-use Rattle.model.specs.Look.{rowNumbers}
+use Rattle.model.specs.Calls.Look.{rowNumbers}
 use Rattle.model.specs.Calls.{StoreCall, openRun, fetch, step, issue, ask, look, ruleOf}
 use Rattle.model.proofs.Scripts.{ok₁, ok₃, broke, not-taken}
 

@@ -2,6 +2,9 @@
 -- Query, replyOf: those that only answer. StoreCall, ruleOf: all on a store.
 -- New alone needs no store: crate layout has it, and the calls on a buffer.
 -- Assumes nothing.
+pub mod Look
+pub mod Explain
+pub mod Stale
 use mathlib.Core.List.{List}
 use Prim.Native.Nat.{ℕ}
 use Rattle.model.specs.Store.{Store}
@@ -11,9 +14,9 @@ use Rattle.model.specs.Runs.{openRule, dropRule}
 use Rattle.model.specs.Prepare.{prepareRule}
 use Rattle.model.specs.Step.{stepRule}
 use Rattle.model.specs.Issue.{issueRule}
-use Rattle.model.specs.Look.{lookReply}
-use Rattle.model.specs.Explain.{explainReply}
-use Rattle.model.specs.Stale.{staleReply}
+use Rattle.model.specs.Calls.Look.{lookReply}
+use Rattle.model.specs.Calls.Explain.{explainReply}
+use Rattle.model.specs.Calls.Stale.{staleReply}
 
 -- A call that only answers.
 pub data Query : Type 0 where

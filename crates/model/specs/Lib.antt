@@ -10,7 +10,4 @@ pub mod Runs
 pub mod Prepare
 pub mod Step
 pub mod Issue
-pub mod Look
-pub mod Explain
-pub mod Stale
 pub mod Calls

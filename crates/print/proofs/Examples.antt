@@ -6,8 +6,7 @@ use Rattle.text.specs.Bytes.{bytesOf}
 use Rattle.text.specs.Decimal.{digitsOf, decimalOf}
 use Rattle.print.specs.Print.{answerWord, numbersText, answerText, unreadText}
 
--- Case A's kinds of answers, a broken run, the largest number, explain's answers, and a line that
--- is unread.
+-- Case A's kinds of answers, a broken run, the largest number, and a line that is unread.
 pub answers :
     (answerText (0 ∷ 88 ∷ []) ≡ bytesOf "ok 88\n")
     × (answerText (0 ∷ 0 ∷ 0 ∷ 0 ∷ []) ≡ bytesOf "ok 0 0 0\n")
@@ -17,8 +16,6 @@ pub answers :
     × (answerText (2 ∷ 10 ∷ []) ≡ bytesOf "refused 10\n")
     × (answerText (1 ∷ 1 ∷ []) ≡ bytesOf "broken 1\n")
     × (answerText (0 ∷ 4294967295 ∷ []) ≡ bytesOf "ok 4294967295\n")
-    × (answerText (3 ∷ []) ≡ bytesOf "clear\n")
-    × (answerText (4 ∷ 2 ∷ 1 ∷ 0 ∷ []) ≡ bytesOf "path 2 1 0\n")
     × (unreadText ≡ bytesOf "unread\n")
 unfolding answerText answerWord numbersText unreadText decimalOf digitsOf
-answers = (refl, refl, refl, refl, refl, refl, refl, refl, refl, refl, refl)
+answers = (refl, refl, refl, refl, refl, refl, refl, refl, refl)

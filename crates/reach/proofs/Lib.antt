@@ -1,11 +1,2 @@
 pub mod Closures
 pub mod Frontiers
-pub mod Lowest
-pub mod Paths
-pub mod ShortestPaths
-pub mod SamePaths
-pub mod PathExamples
-pub mod Rows
-pub mod Following
-pub mod Layers
-pub mod Items

@@ -1,3 +1,1 @@
 pub mod Closure
-pub mod Path
-pub mod Rows

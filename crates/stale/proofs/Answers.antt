@@ -9,7 +9,7 @@ use Rattle.words.proofs.Bools.{le-leb, gt-leb}
 use Rattle.sizes.specs.declared.Counts.{Counts}
 use Rattle.sizes.specs.Bounds.{siteAt, staleAt}
 use Rattle.model.specs.Outcome.{refused, told, answer, refuse}
-use Rattle.model.specs.Stale.{staleCause, staleReply}
+use Rattle.model.specs.Calls.Stale.{staleCause, staleReply}
 use Rattle.model.specs.Calls.{stale, ask, replyOf}
 use Rattle.layout.specs.Reading.{readWord, readSite, storeOf}
 use Rattle.layout.specs.Calls.{on, callOn}

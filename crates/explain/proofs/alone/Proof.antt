@@ -1,7 +1,7 @@
 -- `alone` has a finding and no keys.
 -- Assumes nothing.
 use mathlib.Core.Path.{refl}
-use Rattle.reach.specs.Rows.{noItems}
+use Rattle.paths.specs.Rows.{noItems}
 use Rattle.explain.proofs.alone.Statement.{statement}
 use Rattle.explain.proofs.alone.Tie as tie
 

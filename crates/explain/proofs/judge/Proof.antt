@@ -5,7 +5,7 @@ use mathlib.Core.List.{List, _∷_}
 use Prim.Native.Nat.{ℕ}
 use borrow.Author.Needs.{needs}
 use Rattle.words.proofs.Bools.{eq-eqb, ne-eqb}
-use Rattle.model.specs.Explain.{pathWord}
+use Rattle.model.specs.Calls.Explain.{pathWord}
 use Rattle.explain.specs.Answers.{foundWords, explainedWords, Fits}
 use Rattle.explain.specs.Drawing.{drawnPath, drawnWords}
 use Rattle.explain.proofs.Drawings.{drawn-short, path-words}

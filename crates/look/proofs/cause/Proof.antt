@@ -8,10 +8,10 @@ use native.Mathlib.Omega.{arith}
 use borrow.Author.Tests.{le-leb, lt-leb, not-true, not-false}
 use lib.ListN.{length}
 use Rattle.model.specs.Outcome.{refuse}
-use Rattle.model.specs.Look.{lookCause}
+use Rattle.model.specs.Calls.Look.{lookCause}
 use Rattle.layout.specs.Reading.{storeOf}
 use Rattle.version.specs.Places.{Area}
-use Rattle.model.specs.Look.{lookLimit}
+use Rattle.model.specs.Calls.Look.{lookLimit}
 use Rattle.look.specs.Places.{placeAt}
 use Rattle.look.proofs.Answers.{area-in, held-in, cause-in}
 use Rattle.look.proofs.cause.Statement.{statement}

@@ -1,7 +1,7 @@
 -- `limit` is one of three counts, by the kind of place.
 -- Assumes nothing.
 use borrow.Author.Tests.{eq-eqb, ne-eqb}
-use Rattle.model.specs.Look.{lookLimit}
+use Rattle.model.specs.Calls.Look.{lookLimit}
 use Rattle.look.proofs.limit.Statement.{statement}
 use Rattle.look.proofs.limit.Tie as tie
 

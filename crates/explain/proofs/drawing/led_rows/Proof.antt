@@ -11,7 +11,7 @@ use Rattle.words.specs.Numbers.{when}
 use Rattle.words.specs.Words.{put}
 use Rattle.words.proofs.Words.{put-more}
 use Rattle.masks.specs.Mask.{testBit, maskBelow}
-use Rattle.reach.specs.Rows.{noItems}
+use Rattle.paths.specs.Rows.{noItems}
 use Rattle.sizes.specs.declared.Counts.{Counts}
 use Rattle.sizes.specs.Bounds.{Ranged}
 use Rattle.sets.specs.declared.growth.Rule.{Rule}

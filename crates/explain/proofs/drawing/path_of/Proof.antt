@@ -2,7 +2,7 @@
 -- Assumes nothing.
 use mathlib.Core.Path.{ap, _∙_}
 use borrow.Author.Needs.{needs}
-use Rattle.reach.specs.Rows.{itemPath}
+use Rattle.paths.specs.Rows.{itemPath}
 use Rattle.sets.specs.Leads.{RuleArea}
 use Rattle.explain.specs.Drawing.{drawnEdge, drawnStart}
 use Rattle.explain.proofs.Drawings.{rows-of, path-drawn}

@@ -11,7 +11,7 @@ use lib.Seq.{sets}
 use Rattle.words.specs.Lists.{window}
 use Rattle.words.proofs.Lists.{length-window}
 use Rattle.words.proofs.Words.{put-same}
-use Rattle.model.specs.Explain.{pathWord}
+use Rattle.model.specs.Calls.Explain.{pathWord}
 use Rattle.layout.proofs.Merges.{put-window}
 use Rattle.answers.proofs.Fronts.{over-more}
 use Rattle.explain.proofs.put.put_path.Statement.{statement}

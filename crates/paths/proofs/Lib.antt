@@ -1,0 +1,9 @@
+pub mod Lowest
+pub mod Paths
+pub mod ShortestPaths
+pub mod SamePaths
+pub mod Examples
+pub mod Rows
+pub mod Following
+pub mod StoredLayers
+pub mod Items
