@@ -87,6 +87,8 @@ pub record Computed : Type 0 where
       (fresh (countsOf 3 4 2 2)) ≡ explained.passing-answers
   pub unplanned : explained.toldAfter (explained.passing-before (0 ∷ 1 ∷ 0 ∷ 1 ∷ 4 ∷ 0 ∷ []))
       explained.unplanned-calls (fresh (countsOf 3 4 2 2)) ≡ explained.unplanned-answers
+  pub planned-path : explained.toldAfter explained.planned-before explained.planned-calls
+      (fresh (countsOf 4 5 2 2)) ≡ explained.planned-answers
   pub ends : explained.toldAfter explained.ends-before explained.ends-calls
       (fresh (countsOf 5 5 2 2)) ≡ explained.ends-answers
   pub shorter : explained.toldAfter explained.longer-before explained.longer-calls
@@ -161,6 +163,7 @@ computed = record {
   marks-asked = refl;
   passing = refl;
   unplanned = refl;
+  planned-path = refl;
   ends = refl;
   shorter = refl;
   met = refl;

@@ -52,6 +52,19 @@ unplanned-calls = ask (explain 0 1) ∷ step 0 1 ∷ []
 abbrev pub unplanned-answers : List (List ℕ)
 unplanned-answers = clear ∷ ok₃ 0 0 4 ∷ []
 
+-- ---- after `new 4 5 2 2`: of 3 1 0 and 3 2 0 the one whose keys are planned
+
+abbrev pub planned-before : List StoreCall
+planned-before =
+    save 1 0 1 ++ openRun 0 (0 ∷ 1 ∷ 0 ∷ 1 ∷ 8 ∷ 0 ∷ 1 ∷ 4 ∷ 0 ∷ []) ∷ step 0 0
+    ∷ (save 1 1 2 ++ save 1 2 4 ++ edit 1 0 6 3 8 ++ edit 1 0 1 4 7)
+
+abbrev pub planned-calls : List StoreCall
+planned-calls = ask (explain 0 1) ∷ step 0 1 ∷ []
+
+abbrev pub planned-answers : List (List ℕ)
+planned-answers = path (3 ∷ 2 ∷ 0 ∷ []) ∷ broke 1 ∷ []
+
 -- ---- after `new 5 5 2 2`: of 3 2 0 and 3 1 4 the second
 
 abbrev pub ends-before : List StoreCall
