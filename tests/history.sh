@@ -28,23 +28,25 @@ trial_shrink() {
   want 0 "what is left of a log" have replay "$work/less"
 }
 
-# 20,000 calls on one desk: runs 1 to 3 read and save sheets 0 to 4, shelves fetch and evict them; run 0 reads sheet 0 at some
-# time, and breaks at the end over sheet 5, which is saved then for the first time.
+# many_calls K W N P: 20,000 calls on one desk. Runs from 1 on read and save all sheets but the last, shelves fetch and evict
+# them; run 0 reads sheet 0 at some time, and breaks at the end over the last sheet, which is saved then for the first time.
 many_calls() {
-  awk 'function below(n) { seed = seed * 16807 % 2147483647; return int(seed / 64) % n }
+  awk -v K="$1" -v W="$2" -v N="$3" -v P="$4" '
+    function below(n) { seed = seed * 16807 % 2147483647; return int(seed / 64) % n }
     function say(line) { print line; lines++ }
-    BEGIN { seed = 7; say("new 6 4 3 4")
-      for (k = 0; k < 5; k++) { say("open 1 0 0 0"); say("step 1 0"); say("issue 1 " k % 4 " " 2 ^ k) }
+    BEGIN { seed = 7; last = 2 ^ (K - 1); say("new " K " " W " " N " " P)
+      for (k = 0; k < K - 1; k++) { say("open 1 0 0 0"); say("step 1 0"); say("issue 1 " k % W " " 2 ^ k) }
       while (lines < 19992) {
-        r = 1 + below(3); o = below(3); k = below(5); d = below(5)
-        if (lines == 15000) { say("open 0 0 1 0 1 32 0"); say("step 0 0") }
+        r = 1 + below(P - 1); o = below(N); k = below(K - 1); d = below(K - 1)
+        if (lines == 15000) { say("open 0 0 1 0 1 " last " 0"); say("step 0 0") }
         else if (below(10) < 2) say((below(3) ? "fetch " : "evict ") o " " k)
-        else if (below(20) == 0) say("look 1 " o " " k)
+        else if (below(20) == 0) say(state[r] == 2 ? "look 2 " r " " reads[r] : "look 1 " o " " k)
         else if (state[r] == 1) { say("step " r " 0"); state[r] = 2 }
-        else if (state[r] == 2) { say("issue " r " " below(4) " " 2 ^ k); state[r] = 0 }
-        else { say("open " r " " o " " (k == d ? 2 ^ k : 2 ^ k + 2 ^ d) " 0"); state[r] = 1 }
+        else if (state[r] == 2) { say("issue " r " " below(W) " " 2 ^ k); state[r] = 0 }
+        else { say("open " r " " o " " (k == d ? 2 ^ k : 2 ^ k + 2 ^ d) " 0"); state[r] = 1; reads[r] = k }
       }
-      print "drop 3\nopen 3 2 0 0\nstep 3 0\nissue 3 3 33\nfetch 1 0\nlook 0 0 0\nexplain 0 1\nstep 0 1" }'
+      r = P - 1; print "drop " r "\nopen " r " 2 0 0\nstep " r " 0\nissue " r " 3 " 1 + last
+      print "fetch 1 0\nlook 0 0 0\nexplain 0 1\nstep 0 1" }'
 }
 
 # in_time LINE: what is left of the many calls for that line, in a few seconds of the processor.
@@ -64,7 +66,7 @@ line_of() {
 # number counts them. Some of those are taken out.
 trial_speed() {
   local kind line answer out most=0
-  many_calls >"$work/many"
+  many_calls 6 4 3 4 >"$work/many"
   "$program" <"$work/many" | paste -d '|' "$work/many" - >"$work/both"
   [ "$(wc -l <"$work/many")" -eq 20000 ] || bad "$(wc -l <"$work/many") calls, due 20,000"
   for kind in '^step.*|broken' '^explain.*|path' '^fetch.*|ok' '^step.*|ok' '^look.*|refused' '^evict.*|refused'; do
@@ -82,6 +84,17 @@ trial_speed() {
     [ "$(sed "${out}d" "$work/left" | "$program" | tail -n 1)" != "$answer" ] || bad "line $out of what is left isn't needed"
   done
   echo "history: 20,000 calls shrunk in $most s at most"
+}
+
+# On the largest desk a look at a card needs thousands as well. The program has no room for it: tests/shrink.rs takes some out.
+trial_largest() {
+  local line most=0
+  many_calls 32 16 8 8 >"$work/many"
+  line=$(grep -n '^look 2' "$work/many" | tail -n 1 | cut -d : -f 1)
+  in_time "$line"
+  [ "$(wc -l <"$work/out")" -gt 9000 ] || bad "line $line: only $(wc -l <"$work/out") calls are left"
+  target/tools/shrink --left "$work/many" "$line" "$work/out" 1499 || bad "tests/shrink.rs"
+  echo "history: 20,000 calls on the largest desk shrunk in $most s"
 }
 
 # Bad input: a message, with the line where it has one, and status 2.
@@ -194,7 +207,7 @@ END
 }
 
 trials=("$@")
-[ $# -gt 0 ] || trials=(shrink speed bad differs long command)
+[ $# -gt 0 ] || trials=(shrink speed largest bad differs long command)
 build
 for trial in "${trials[@]}"; do
   (trial_"$trial") || exit 1

@@ -3,6 +3,9 @@
 //! For each script some lines are taken in turn: of each kind of answer the last one. What is left must be a part of the
 //! script that ends with the line; on the library and on the reference its answer must be the one that the whole script
 //! leads to, and leaving out any one call must change it. Prints what was tried and exits 1 if a claim fails.
+//!
+//! `shrink --left SCRIPT LINE LEFT STEP`: the same of the calls in LEFT, what is left of the script for the line, on the
+//! library alone, which has room for any desk; of the calls each STEP-th is left out.
 #![allow(dead_code)]
 
 #[path = "../embed/sheetdesk.rs"]
@@ -16,7 +19,9 @@ mod reference {
 }
 #[path = "../tools/history"]
 mod parts {
+    pub mod desks;
     pub mod log;
+    pub mod number;
     pub mod replay;
     pub mod shrink;
     pub mod trial;
@@ -94,8 +99,33 @@ fn fault(entries: &[Entry], left: &[usize]) -> Option<String> {
     (shrink(entries) != left).then(|| String::from("a second time it leaves other calls"))
 }
 
+/// Why the calls left for a line of a script aren't as they must be, each `step`-th left out.
+fn unlike(script: &str, line: &str, left: &str, step: &str) -> Option<String> {
+    let read = |name: &str| log::read(&std::fs::read(name).expect("the script can be read")).entries;
+    let number = |text: &str| text.parse::<usize>().expect("a number");
+    let (whole, left) = (read(script), read(left));
+    let (whole, left) = (whole.iter().collect::<Vec<_>>(), left.iter().collect::<Vec<_>>());
+    let due = by_library(&whole[..number(line)]);
+    let given = by_library(&left);
+    if given != due {
+        return Some(format!("what is left answers {given}, due {due}"));
+    }
+    let needed = |out: &usize| by_library(&[&left[..*out], &left[out + 1..]].concat()) != due;
+    let out = (0..left.len() - 1).step_by(number(step)).find(|out| !needed(out))?;
+    Some(format!("line {} of what is left isn't needed", out + 1))
+}
+
 fn main() {
     let scripts = std::env::args().skip(1).collect::<Vec<String>>();
+    if let [option, script, line, left, step] = scripts.as_slice() {
+        if option == "--left" {
+            if let Some(fault) = unlike(script, line, left, step) {
+                println!("shrink: {script}, line {line}: {fault}");
+                exit(1);
+            }
+            return;
+        }
+    }
     let (mut lists, mut calls, mut broken, mut longest) = (0, 0, 0, 0);
     for name in &scripts {
         let log = answered(&std::fs::read(name).expect("the script can be read"));

@@ -19,10 +19,12 @@ mod reference {
 #[path = "history"]
 mod parts {
     pub mod breaks;
+    pub mod desks;
     pub mod draw;
     pub mod log;
     pub mod marks;
     pub mod moves;
+    pub mod number;
     pub mod page;
     pub mod replay;
     pub mod shrink;

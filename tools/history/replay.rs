@@ -38,9 +38,15 @@ impl Replay {
         call_on(&mut self.words, call)
     }
 
-    /// The desk's words, to go on from later.
-    pub fn kept(&self) -> Vec<u32> {
-        self.desk().to_vec()
+    /// The desk's words, to go on from later, in room that is there.
+    pub fn keep(&self, room: &mut Vec<u32>) {
+        room.clear();
+        room.extend_from_slice(self.desk());
+    }
+
+    /// How many words the desk has.
+    pub fn words(&self) -> usize {
+        self.desk().len()
     }
 
     fn desk(&self) -> &[u32] {

@@ -5,43 +5,51 @@
 //! call that is left has been tried on the list as it is.
 
 use super::log::Entry;
+use super::number::{issued, Goal};
 use super::replay::{changed, Replay};
-use super::trial::{Goal, Trial};
+use super::trial::Trial;
+use crate::desk::Answer;
 use crate::text::Call;
+
+/// Behind so many calls it is guessed that the answer stays.
+const AHEAD: usize = 1 << 10;
 
 /// The calls that are left, by their places; the last one is always among them.
 pub fn shrink(entries: &[Entry]) -> Vec<usize> {
     let last = entries.len() - 1;
-    let goal = Goal::of(entries);
-    let mut left = changing(entries, last);
-    // An issue number may take thousands of issues: what none of them takes goes at once.
-    if goal.least > 0 {
-        let taken = taken(entries, &left);
-        left = pass(&goal, &left, usize::MAX, 0, |place, _| !taken[place]);
-    }
+    let (list, answer) = changing(entries);
+    let goal = Goal::of(entries, answer);
     // The last call's own run comes last, so that the list is more likely the one that was meant.
     let run = entries[last].call.as_ref().and_then(run_of);
-    let opened = left.iter().rposition(|place| is_open(&entries[*place], run));
-    let opened = opened.map_or(last, |at| left[at]);
+    let opened = list.iter().rposition(|place| is_open(&entries[*place], run));
+    let opened = opened.map_or(last, |at| list[at]);
     let others = |place: usize, call: &Call| place < opened || run_of(call) != run;
-    let mut shorter = pass(&goal, &left, usize::MAX, 0, others);
-    let mut needed = first_gone(&left, &shorter).unwrap_or(last).min(opened);
-    loop {
-        left = shorter;
-        shorter = pass(&goal, &left, 1, needed, |_, _| true);
-        match first_gone(&left, &shorter) {
-            Some(place) => needed = place,
-            None => break,
-        }
+    let mut trial = Trial::of(&goal, list);
+    if goal.number.least > 0 {
+        untaken(&mut trial, others);
     }
+    let gone = pass(&mut trial, usize::MAX, 0, others);
+    let mut needed = gone.unwrap_or(last).min(opened);
+    while let Some(place) = pass(&mut trial, 1, needed, |_, _| true) {
+        needed = place;
+    }
+    let mut left = trial.list;
     left.push(last);
     left
 }
 
-/// The first call of a list that isn't in the shorter one.
-fn first_gone(list: &[usize], shorter: &[usize]) -> Option<usize> {
-    let same = list.iter().zip(shorter).take_while(|pair| pair.0 == pair.1).count();
-    list.get(same).copied()
+/// An issue number may take thousands of issues: what none of them takes goes at once, and what
+/// stands behind the last of them. It would take long to see of each part that goes that the
+/// answer stays: that is guessed, and seen of what is left in the end.
+fn untaken(trial: &mut Trial, may: impl Fn(usize, &Call) -> bool) {
+    let (goal, list) = (trial.goal, trial.list.as_slice());
+    let issue = |place: &&usize| goal.entries[**place].call.as_ref().and_then(issued).is_some();
+    let seen = list.iter().filter(issue).nth(goal.number.least - 1).copied();
+    let taken = taken(goal.entries, list);
+    let free = |place: usize| Some(place) > seen || !taken[place];
+    trial.ahead = AHEAD;
+    pass(trial, usize::MAX, 0, |place, call| free(place) && may(place, call));
+    trial.ahead = usize::MAX;
 }
 
 fn is_open(entry: &Entry, run: Option<u32>) -> bool {
@@ -57,10 +65,12 @@ fn run_of(call: &Call) -> Option<u32> {
     }
 }
 
-/// Those of the calls before `last` that change the desk, from the last accepted new on.
-fn changing(entries: &[Entry], last: usize) -> Vec<usize> {
+/// Those of the calls before the last that change the desk, from the last accepted new on, and
+/// the last one's answer.
+fn changing(entries: &[Entry]) -> (Vec<usize>, Option<Answer>) {
     let mut replay = Replay::fresh();
     let mut left = Vec::new();
+    let last = entries.len() - 1;
     for (place, entry) in entries[..last].iter().enumerate() {
         let (Some(call), Some(answer)) = (&entry.call, replay.make(entry)) else {
             continue;
@@ -73,7 +83,7 @@ fn changing(entries: &[Entry], last: usize) -> Vec<usize> {
         }
         left.push(place);
     }
-    left
+    (left, replay.make(&entries[last]))
 }
 
 /// Which calls of a list, all of them accepted, an issue takes: the new, the issue itself, and
@@ -98,33 +108,36 @@ fn taken(entries: &[Entry], list: &[usize]) -> Vec<bool> {
 
 /// One pass over those calls of the list that may go, from its end. It leaves out up to `widest`
 /// of them at once: more after a trial that went well, fewer after one that didn't. Until one
-/// goes, those before `needed` are known to be needed.
+/// goes, those before `needed` are known to be needed. Gives the first call that is gone.
 fn pass(
-    goal: &Goal,
-    list: &[usize],
+    trial: &mut Trial,
     widest: usize,
     needed: usize,
     may: impl Fn(usize, &Call) -> bool,
-) -> Vec<usize> {
-    let call_of = |at: usize| goal.entries[list[at]].call.as_ref();
-    let goes = |at: &usize| call_of(*at).is_some_and(|call| may(list[*at], call));
-    let free = (0..list.len()).filter(goes).collect::<Vec<usize>>();
-    if free.last().is_none_or(|at| list[*at] < needed) {
-        return list.to_vec();
+) -> Option<usize> {
+    let goes = |at: &usize| {
+        let call = trial.call(*at).filter(|_| !trial.needs(*at));
+        call.is_some_and(|call| may(trial.list[*at], call))
+    };
+    let mut free = (0..trial.list.len()).filter(goes).collect::<Vec<usize>>();
+    if trial.list[*free.last()?] < needed {
+        return None;
     }
-    let mut trial = Trial::of(goal, list);
-    let (mut end, mut width, mut gone) = (free.len(), widest.min(free.len()), false);
-    while end > 0 && (gone || list[free[end - 1]] >= needed) {
-        let from = end.saturating_sub(width);
-        if trial.without(&free[from..end]) {
-            (end, gone) = (from, true);
+    trial.learn(free[0]);
+    let (mut width, mut gone) = (widest.min(free.len()), false);
+    while free.last().is_some_and(|at| gone || trial.list[*at] >= needed) {
+        let from = free.len().saturating_sub(width);
+        let tried = free.len() - from;
+        if trial.without(&free[from..]) {
+            gone = true;
+            free.truncate(from);
+            free.retain(|at| !trial.needs(*at));
             width = width.saturating_mul(2).min(widest);
-            continue;
-        }
-        match end - from {
-            1 => end = from,
-            tried => width = tried / 2,
+        } else if tried == 1 {
+            free.truncate(from);
+        } else {
+            width = tried / 2;
         }
     }
-    trial.left()
+    trial.renew()
 }
