@@ -2,7 +2,7 @@
 -- HasRead: what a list of finished jobs has read.
 -- inv-..: with a cache, all caches or a run changed; inv-anew: a run begun or freed.
 -- Assumes nothing.
-use mathlib.Core.Path.{_≡_, refl, sym}
+use mathlib.Core.Path.{_≡_, refl, sym, ap, _∙_}
 use mathlib.Core.Bool.{false≢true}
 use mathlib.Core.Logic.{_≢_}
 use mathlib.Core.List.{List, []}
@@ -16,6 +16,7 @@ use Rattle.sizes.specs.declared.Counts.{Counts}
 use Rattle.model.specs.Algebra.{Place}
 use Rattle.model.specs.Version.{Version, zeroPast}
 use Rattle.model.specs.Store.{Run, Site, Store, fresh, withSites, withCache, withRun}
+use Rattle.layout.proofs.Fit.{fresh-cache}
 use Rattle.history.specs.History.{saved}
 use Rattle.history.specs.Copies.{Copy, heldCopy, byWriter, counted}
 use Rattle.history.specs.Book.{BookRun, Book, freshBook, withBookCaches, withBookRun}
@@ -124,8 +125,9 @@ inv-fresh z =
         led-master = λ k l. masked-none W K [] k;
         every = λ d i l p. absurd (false≢true p);
         writes = λ d i l p. absurd (false≢true p);
-        cache = λ o l k i. counted-none K [];
-        led-cache = λ o l k i. masked-none W K [] k;
+        cache = λ o l k i. rw (fresh-cache z o k) (counted-none K []);
+        led-cache = λ o l k i.
+            ap (λ (v : Version). v .leaders) (fresh-cache z o k) ∙ masked-none W K [] k;
         closed = λ o l. empty-closed K [] _;
         writer = λ w l. record { count = refl; past = sym (no-past K w) };
         run = λ r l. free-follows W K [];

@@ -94,7 +94,7 @@ abbrev before : ℕ → Trace
 before S =
     let jobs = on (openRun 0 (0 ∷ 1 ∷ 0 ∷ 0 ∷ 2 ∷ 0 ∷ [])) in
     follow (saving 1 ++ (jobs ∷ on (step 0 0) ∷ saving S))
-    (start (countsOf 2 1 1 2) (replicate 102 0))
+    (start (countsOf 2 1 1 2) (replicate (totalOf (countsOf 2 1 1 2)) 0))
 
 -- Job 1 of run 0 reads sheet 1.
 abbrev after-job : ℕ → Trace

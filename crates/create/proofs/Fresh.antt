@@ -71,8 +71,8 @@ module _ (z : Counts) where
   site-zero : siteWords z noSite ≡ zeros (siteSize z)
   unfolding siteWords siteSize
   site-zero =
-      zero-join (placeWords z emptyPlace) (0 ∷ []) (placeSize z) siteRest (siteSize z) place-zero
-      refl refl
+      zero-join (placeWords z emptyPlace) (zeros siteRest) (placeSize z) siteRest (siteSize z)
+      place-zero refl refl
 
   sites-zero : sitesWords z (λ o. noSite) ≡ zeros (z .sites * siteSize z)
   unfolding sitesWords

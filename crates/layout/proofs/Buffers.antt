@@ -12,9 +12,9 @@ use lib.Seq.{sets}
 use Rattle.words.specs.Tests.{anyBelow, allBelow}
 use Rattle.words.specs.Lists.{putAt, upto, blocks}
 use Rattle.clock.specs.Clock.{exceeds, standing, present}
-use Rattle.sizes.specs.Bounds.{countsOf, between, ranged, pastSize, versionSize, placeSize, siteSize, writerSize, runSize, masterAt, sitesAt, writersAt, runsAt, tailSize, tailAt, totalOf}
+use Rattle.sizes.specs.Bounds.{countsOf, between, ranged, pastSize, versionSize, placeSize, siteSize, writerSize, runSize, masterAt, sitesAt, writersAt, runsAt, tailSize, tailAt, totalOf, siteAt, staleAt}
 use Rattle.model.specs.Version.{held}
-use Rattle.model.specs.Store.{Site, emptyPlace, fresh, withSites, withSite}
+use Rattle.model.specs.Store.{noSite, fresh, marked, withSites, withSite}
 use Rattle.model.specs.Form.{zeroRows, zeroVersion, leadersFormed, versionFormed, placeFormed, zeroJob, freeFormed, runFormed, siteFormed, wellFormed}
 use Rattle.model.specs.Marks.{isStale, staleMask}
 use Rattle.masks.specs.Mask.{withBit, withIf, maskBelow}
@@ -37,8 +37,8 @@ put i x = sets right i (x ∷ [])
 -- The words of a store with marks 2 and 1.
 abbrev marks : List ℕ
 marks =
-    let marking : ℕ → Site = λ m. record { cache = emptyPlace; stale = m } in
-    storeWords (withSite (withSite (fresh (countsOf 2 2 2 1)) 0 (marking 2)) 1 (marking 1))
+    storeWords (withSite (withSite (fresh (countsOf 2 2 2 1)) 0 (marked noSite 2)) 1
+    (marked noSite 1))
 
 -- One more, one less in a word.
 abbrev raised : ℕ → List ℕ
@@ -74,7 +74,7 @@ pub record Asked : Type 0 where
   pub on-total : answer (callOn (on (dropRun 1)) (raised 9)) ≡ not-taken 1
   pub new-short : answer (callOn (new 1 1 1 1) short) ≡ not-taken 1
   pub new-range : answer (callOn (new 0 1 1 1) short) ≡ not-taken 2
-  pub new-taken : answer (callOn (new 1 1 1 1) (raised 9)) ≡ ok₁ 50
+  pub new-taken : answer (callOn (new 1 1 1 1) (raised 9)) ≡ ok₁ (length right)
 
 pub record Buffers : Type 0 where
   pub whole : inForm right ≡ true
@@ -86,20 +86,22 @@ pub record Buffers : Type 0 where
   pub wrong-total : totals ≡ replicate 2 false
   pub wrong-count : counts ≡ replicate 6 false
   -- The last issue number and the writers are free; a master's version isn't.
-  pub free-words : map inForm (raised 4 ∷ raised 17 ∷ raised 18 ∷ []) ≡ replicate 3 true
+  pub free-words : let w = writersAt (countsOf 1 1 1 1) in
+      map inForm (raised 4 ∷ raised w ∷ raised (w + 1) ∷ []) ≡ replicate 3 true
   pub unheld-row : map inForm (raised 10 ∷ raised 11 ∷ raised 12 ∷ []) ≡ replicate 3 false
   pub held-row : inForm (sets right 10 (1 ∷ 1 ∷ 1 ∷ [])) ≡ true
-  -- Each mark stands behind its shelf: with two sheets, writers and offices, words 34 and 47.
-  pub mark-words : getD marks 34 0 ∷ getD marks 47 0 ∷ [] ≡ 2 ∷ 1 ∷ []
-  -- The mark of the shelf, word 16, is asked: nothing is held there.
-  pub no-mark : inForm (raised 16) ≡ false
+  -- Each mark stands behind its shelf.
+  pub mark-words : let z = countsOf 2 2 2 1 in
+      map (λ o. getD marks (staleAt z (siteAt z o)) 0) (0 ∷ 1 ∷ []) ≡ 2 ∷ 1 ∷ []
+  -- The mark of the shelf is asked: nothing is held there.
+  pub no-mark : let z = countsOf 1 1 1 1 in inForm (raised (staleAt z (siteAt z 0))) ≡ false
   pub held-mask : map inForm (sets right 10 (1 ∷ 0 ∷ 1 ∷ []) ∷ sets right 10 (1 ∷ 2 ∷ 1 ∷ []) ∷ [])
       ≡ replicate 2 false
   pub calls : Asked
 
 pub buffers : Buffers
 unfolding putAt withSites anyBelow allBelow upto blocks present between ranged pastSize
-    versionSize placeSize
+    versionSize placeSize siteAt
     siteSize writerSize runSize masterAt sitesAt writersAt runsAt tailSize tailAt totalOf held
     fresh zeroRows zeroVersion leadersFormed versionFormed placeFormed zeroJob freeFormed
     runFormed siteFormed

@@ -16,7 +16,7 @@ use Rattle.sizes.specs.declared.Counts.{Counts}
 use Rattle.model.specs.Algebra.{Place}
 use Rattle.model.specs.Version.{Version, unheld, held, larger, merge}
 use Rattle.model.specs.Marks.{isStale, staleMask}
-use Rattle.model.specs.Store.{Writer, Run, Site, Store, emptyPlace, noSite, freeRun, zeroStore, fresh, siteWith, withLast, withMarks, withMaster, withSites, withCache, withCaches, withWriter, withRun}
+use Rattle.model.specs.Store.{Writer, Run, Site, Store, emptyPlace, noSite, freeRun, fresh, marked, siteWith, withLast, withMarks, withMaster, withSites, withCache, withCaches, withWriter, withRun}
 use Rattle.model.proofs.Merges.{held-unheld, merge-cases, merge-unheld-left}
 use Rattle.layout.proofs.Codec.{FitMany}
 use Rattle.layout.proofs.Parts.{FitPast, FitVersion, FitPlace, FitSite, FitSites, FitWriter, FitRun}
@@ -44,8 +44,9 @@ fit-free z = record {
 fit-no-site : (z : Counts) → FitSite z noSite
 fit-no-site z = record { cache = fit-empty z }
 
-zero-fits : (z : Counts) → FitStore (zeroStore z)
-zero-fits z = record {
+pub fresh-fits : (z : Counts) → FitStore (fresh z)
+unfolding fresh
+fresh-fits z = record {
   master = fit-empty z;
   site = record { each = λ o h. fit-no-site z; rest = λ o h. refl };
   writer = record {
@@ -56,9 +57,9 @@ zero-fits z = record {
   tail = record {};
 }
 
-pub fresh-fits : (z : Counts) → FitStore (fresh z)
+pub fresh-cache : (z : Counts) (o k : ℕ) → fresh z .site o .cache k ≡ unheld
 unfolding fresh
-fresh-fits z = zero-fits z
+fresh-cache z o k = refl
 
 -- ---- versions and places
 
@@ -139,7 +140,7 @@ unfolding siteWith staleMask isStale held
 no-marks s =
     let e : staleMask (s .counts) (s .master) emptyPlace ≡ 0 =
     mask-no (s .counts .keys) _ (λ k l. refl) in
-    λ i. record { cache = emptyPlace; stale = e i }
+    λ i. marked noSite (e i)
 
 -- ---- the store with one part changed
 

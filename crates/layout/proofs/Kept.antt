@@ -2,20 +2,18 @@
 -- Kept: of an outcome. kept-..: by how a rule ends; kept-replied: of each call that only answers.
 -- drop-kept, fetch-kept, evict-kept: of these rules.
 -- Assumes nothing.
-use mathlib.Core.Path.{_≡_, refl, sym}
+use mathlib.Core.Path.{_≡_, refl}
 use mathlib.Core.List.{List}
 use Prim.Native.Nat.{ℕ, _<_}
 use native.Mathlib.Omega.{arith}
 use Rattle.words.specs.Tests.{Items, only}
 use Rattle.words.proofs.Bools.{leb-gt}
-use Rattle.masks.proofs.Sets.{mask-no}
 use Rattle.sizes.specs.declared.Counts.{Counts}
 use Rattle.sizes.specs.Bounds.{Ranged}
 use Rattle.model.specs.Algebra.{Place}
-use Rattle.model.specs.Version.{Version, held, versions}
-use Rattle.model.specs.Marks.{isStale, staleMask}
+use Rattle.model.specs.Version.{Version, versions}
 use Rattle.model.specs.Sets.{fetchSet, fetched, evictSet, evicted}
-use Rattle.model.specs.Store.{Store, emptyPlace, freeRun, zeroStore, fresh, withSites, withCache, withRun}
+use Rattle.model.specs.Store.{Store, emptyPlace, freeRun, fresh, withSites, withCache, withRun}
 use Rattle.model.specs.Outcome.{Outcome, refused, broken, done, unless, Reply, replied, runCause}
 use Rattle.model.specs.Caches.{fetchCause, fetchDone, fetchRule, evictCause, evictDone, evictRule}
 use Rattle.model.specs.Runs.{dropCause, dropDone, dropRule}
@@ -23,7 +21,7 @@ use Rattle.model.proofs.Outcomes.{no-cause, unless-cases, nextStore, replied-ca
 use Rattle.layout.proofs.Parts.{FitPlace}
 use Rattle.layout.proofs.Whole.{FitStore}
 use Rattle.layout.proofs.Fit.{fit-empty, fit-free, fit-choice, fit-cache, fit-run, fresh-fits}
-use Rattle.model.proofs.Formed.{PlaceFormed, formed-empty, formed-choice, Formed, well-out, well-in, formed-cache, formed-run}
+use Rattle.model.proofs.Formed.{PlaceFormed, formed-empty, formed-choice, Formed, well-out, well-in, fresh-formed, formed-cache, formed-run}
 use Rattle.model.proofs.Plans.{free-formed}
 use Rattle.layout.proofs.Follow.{Fine}
 
@@ -58,19 +56,11 @@ kept-replied s a F =
 
 -- ---- a fresh store
 
-zero-formed : (z : Counts) → Formed (zeroStore z)
-unfolding staleMask isStale held
-zero-formed z = record {
-  master = formed-empty z;
-  cache = λ o h. formed-empty z;
-  mark = λ o h. sym (mask-no (z .keys) _ (λ k l. refl));
-  run = λ r h. free-formed z;
-}
-
 pub fresh-fine : (z : Counts) → Ranged z → Fine (fresh z)
 unfolding fresh
 fresh-fine z R =
-    record { fits = fresh-fits z; counts = R; formed = well-in (fresh z) (zero-formed z) }
+    let F = fresh-formed z (free-formed z) in
+    record { fits = fresh-fits z; counts = R; formed = well-in (fresh z) F }
 
 -- ---- drop
 

@@ -1,7 +1,7 @@
 -- The readings about new, and the scripts of crate model through the rules on words.
 -- Assumes nothing.
 use mathlib.Core.Path.{_≡_, refl}
-use mathlib.Core.List.{List, [], _∷_, map}
+use mathlib.Core.List.{List, _∷_, map}
 use Prim.Native.Nat.{ℕ, _≤_}
 use lib.ListN.{length, drop, replicate}
 use Rattle.words.specs.Tests.{anyBelow, allBelow, only}
@@ -11,7 +11,7 @@ use Rattle.words.proofs.Bools.{le-leb}
 use Rattle.masks.specs.Mask.{testBit, withBit, withIf, maskBelow}
 use Rattle.reach.specs.Closure.{closure, rounds, round}
 use Rattle.clock.specs.Clock.{exceeds, standing, dominates, present, join}
-use Rattle.sizes.specs.Bounds.{between, ranged, pastSize, versionSize, placeSize, siteSize, writerSize, runSize, masterAt, sitesAt, writersAt, runsAt, tailSize, tailAt, totalOf}
+use Rattle.sizes.specs.Bounds.{countsOf, maxTotal, between, ranged, pastSize, versionSize, placeSize, siteSize, writerSize, runSize, masterAt, sitesAt, writersAt, runsAt, tailSize, tailAt, totalOf}
 use Rattle.model.specs.Algebra.{lacking}
 use Rattle.model.specs.Version.{held, dependency, supersedes, leadsOn, mergedLeaders, larger, merge}
 use Rattle.model.specs.Sets.{draws, drawSet, fetchSet, fetched, unfetchable, evictSet, evicted, pullSet, pulled}
@@ -54,35 +54,40 @@ out-of-range l = record {
 -- ---- "K=1, K=32, W=16, N=8 and P=8 are taken if the buffer has the total"
 
 pub record Taken : Type 0 where
-  pub smallest : (l : List ℕ) → 50 ≤ length l → answer (callOn (new 1 1 1 1) l) ≡ ok₁ 50
-  pub largest : (l : List ℕ) → 288066 ≤ length l → answer (callOn (new 32 16 8 8) l) ≡ ok₁ 288066
+  pub smallest : (l : List ℕ) → let n = totalOf (countsOf 1 1 1 1) in n ≤ length l
+      → answer (callOn (new 1 1 1 1) l) ≡ ok₁ n
+  pub largest : (l : List ℕ) → maxTotal ≤ length l
+      → answer (callOn (new 32 16 8 8) l) ≡ ok₁ maxTotal
 
 pub in-range : Taken
 unfolding callOn newOn newCause ranged between refuse unless answer pastSize versionSize placeSize
     siteSize writerSize runSize masterAt sitesAt writersAt runsAt tailSize tailAt totalOf
 in-range = record {
-  smallest = λ l h. rw (le-leb 50 (length l) h);
-  largest = λ l h. rw (le-leb 288066 (length l) h);
+  smallest = λ l h. rw (le-leb (totalOf (countsOf 1 1 1 1)) (length l) h);
+  largest = λ l h. rw (le-leb maxTotal (length l) h);
 }
 
--- ---- the scripts, on a buffer of any words and two words more than the total
+-- ---- the scripts, on a buffer of any words and some words more than the total
 
 abbrev pub words-a : List ℕ
-words-a = replicate 100 5
+words-a = replicate 120 5
 
 abbrev pub calls-a : List Call
 calls-a = new 2 2 2 1 ∷ map on case-a-script
 
 abbrev pub words-longer : List ℕ
-words-longer = replicate 204 5
+words-longer = replicate 220 5
 
 abbrev pub calls-longer : List Call
 calls-longer = new 3 2 2 2 ∷ map on longer-script
 
 pub record Scripted : Type 0 where
-  pub case-a : map answer (outcomes calls-a words-a) ≡ ok₁ 98 ∷ case-a-answers
-  pub case-a-past : drop 98 (after calls-a words-a) ≡ 5 ∷ 5 ∷ []
-  pub longer : map answer (outcomes calls-longer words-longer) ≡ ok₁ 202 ∷ longer-answers
+  pub case-a : map answer (outcomes calls-a words-a)
+      ≡ ok₁ (totalOf (countsOf 2 2 2 1)) ∷ case-a-answers
+  pub case-a-past : let n = totalOf (countsOf 2 2 2 1) in
+      drop n (after calls-a words-a) ≡ drop n words-a
+  pub longer : map answer (outcomes calls-longer words-longer)
+      ≡ ok₁ (totalOf (countsOf 3 2 2 2)) ∷ longer-answers
 
 pub scripted : Scripted
 unfolding anyBelow allBelow only foldBelow putAt upto blocks testBit withBit withIf maskBelow

@@ -19,7 +19,7 @@ use Rattle.sizes.specs.Bounds.{doneOffset, snapshotOffset, placeSize, siteSize,
 use Rattle.model.specs.Algebra.{Place}
 use Rattle.model.specs.Version.{Version}
 use Rattle.model.specs.Marks.{staleMask}
-use Rattle.model.specs.Store.{Writer, Run, Site, Tail, Store, withLast, withMaster, withSites, withSite, siteWith, withCache, withWriter, withRun, withState, withSnapshot, withJobDone}
+use Rattle.model.specs.Store.{Writer, Run, Site, Tail, Store, withLast, withMaster, withSites, withSite, cached, marked, siteWith, withCache, withWriter, withRun, withState, withSnapshot, withJobDone}
 use Rattle.layout.specs.Words.{headerWords, placeWords, siteWords, sitesWords, writerWords, writersWords, jobsWords, runWords, runsWords, storeWords}
 use Rattle.layout.specs.Buffer.{written}
 use Rattle.layout.specs.Reading.{storeOf}
@@ -112,14 +112,6 @@ put-twice {A} f i x y = fun-ext (λ j. last (eqb j i) j)
     last true j = refl
     last false j = refl
 
--- The cache of a site, its mark as it is.
-abbrev pub cached : Site → Place Version → Site
-cached x p = record { cache = p; stale = x .stale }
-
--- The mark of a site.
-abbrev pub marked : Site → ℕ → Site
-marked x m = record { cache = x .cache; stale = m }
-
 pub put-cache : (s : Store) (l : List ℕ) (o : ℕ) (p : Place Version) → o < s .counts .sites
     → sets (written s l) (siteAt (s .counts) o) (placeWords (s .counts) p)
     ≡ written (withSite s o (cached (s .site o) p)) l
@@ -139,7 +131,7 @@ put-cache s l o p h =
 pub put-mark : (s : Store) (l : List ℕ) (o m : ℕ) → o < s .counts .sites
     → set (written s l) (staleAt (s .counts) (siteAt (s .counts) o)) m
     ≡ written (withSite s o (marked (s .site o) m)) l
-unfolding siteWords siteSize staleAt
+unfolding siteWords siteSize
 put-mark s l o m h =
     let z = s .counts in
     let x = s .site o in

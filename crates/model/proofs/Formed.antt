@@ -1,8 +1,8 @@
 -- Laws of the form of versions, places and stores.
 -- version-..: one version. formed-..: a place, and a store with one part changed.
--- Formed: the test of the store as a record; well-out, well-in.
+-- Formed: the test of the store as a record; well-out, well-in; fresh-formed.
 -- Assumes nothing.
-use mathlib.Core.Path.{_≡_, refl}
+use mathlib.Core.Path.{_≡_, refl, sym}
 use mathlib.Core.Bool.{Bool, false, cond, not, So, _&&_}
 use Prim.Native.Nat.{ℕ, _≤_, _<_, _^_}
 use lib.Dec.{eqb, leb, ltb}
@@ -11,14 +11,15 @@ use Rattle.words.specs.Lists.{putAt}
 use Rattle.words.proofs.Bools.{test, and-intro, and-left, and-right, not-intro, not-elim, leb-le, le-leb, ltb-lt, lt-ltb, eqb-eq, eq-eqb}
 use Rattle.words.proofs.Tests.{all-intro, all-at, any-no}
 use Rattle.words.proofs.Lists.{putAt-cases}
+use Rattle.masks.proofs.Sets.{mask-no}
 use Rattle.clock.specs.Clock.{present, join}
 use Rattle.clock.proofs.Order.{present-mono, absent, join-left}
 use Rattle.sizes.specs.declared.Counts.{Counts}
 use Rattle.model.specs.Algebra.{Place}
 use Rattle.model.specs.Version.{Version, unheld, zeroPast, held, larger, merge}
-use Rattle.model.specs.Store.{Writer, Run, Site, Store, emptyPlace, siteWith, withLast, withMarks, withMaster, withSites, withCache, withCaches, withWriter, withRun}
+use Rattle.model.specs.Store.{Writer, Run, Site, Store, emptyPlace, freeRun, fresh, siteWith, withLast, withMarks, withMaster, withSites, withCache, withCaches, withWriter, withRun}
 use Rattle.model.specs.Form.{zeroRows, zeroVersion, leadersFormed, versionFormed, placeFormed, runFormed, siteFormed, wellFormed}
-use Rattle.model.specs.Marks.{staleMask}
+use Rattle.model.specs.Marks.{isStale, staleMask}
 use Rattle.model.proofs.Merges.{larger-held, leaders-lt, leaders-some, merge-cases}
 
 -- ---- versions
@@ -160,6 +161,16 @@ well-in s F =
     (all-intro (z .sites) (λ o. siteFormed z (s .master) (s .site o))
     (λ o h. and-intro (place-in z (s .site o .cache) (F .cache o h)) (eq-eqb _ _ (F .mark o h))))
     (all-intro (z .runs) (λ r. runFormed z (s .run r)) (F .run)))
+
+-- A fresh store, if a free run is in form.
+pub fresh-formed : (z : Counts) → So (runFormed z freeRun) → Formed (fresh z)
+unfolding fresh staleMask isStale held
+fresh-formed z free = record {
+  master = formed-empty z;
+  cache = λ o h. formed-empty z;
+  mark = λ o h. sym (mask-no (z .keys) _ (λ k l. refl));
+  run = λ r h. free;
+}
 
 module _ (s : Store) (F : Formed s) where
   pub formed-last : (n : ℕ) → Formed (withLast s n)

@@ -81,22 +81,21 @@ freeRun = record { state = 0; jobs = 0; done = 0; job = noJobs; branch = noBranc
 abbrev pub noTail : Tail
 noTail = record {}
 
--- All zero behind the counts.
-abbrev pub zeroStore : Counts → Store
-zeroStore z = record {
+-- A site of a fresh store: a word that isn't zero there would be put here.
+abbrev pub freshSite : Counts → ℕ → Site
+freshSite z o = noSite
+
+-- "a fresh desk: nothing held, every run free, all counts zero"
+unfoldable pub fresh : Counts → Store
+fresh z = record {
   counts = z;
   last = 0;
   master = emptyPlace;
-  site = λ o. noSite;
+  site = freshSite z;
   writer = λ w. noWriter;
   run = λ r. freeRun;
   tail = noTail;
 }
-
--- "a fresh desk: nothing held, every run free, all counts zero": a word that isn't zero on it
--- would be put into the zero store here.
-unfoldable pub fresh : Counts → Store
-fresh z = zeroStore z
 
 -- ---- what the jobs of a run read
 
@@ -146,9 +145,16 @@ withSites s f = record {
 abbrev pub withSite : Store → ℕ → Site → Store
 withSite s o x = withSites s (putAt (s .site) o x)
 
--- The site x of a store with another cache: its mark is true, and its other words stay.
+-- A site with another cache, and one with another mark: its other words stay.
+abbrev pub cached : Site → Place Version → Site
+cached x p = record { cache = p; stale = x .stale }
+
+abbrev pub marked : Site → ℕ → Site
+marked x m = record { cache = x .cache; stale = m }
+
+-- The site x of a store with another cache: its mark is true.
 unfoldable pub siteWith : Store → Site → Place Version → Site
-siteWith s x p = record { cache = p; stale = staleMask (s .counts) (s .master) p }
+siteWith s x p = marked (cached x p) (staleMask (s .counts) (s .master) p)
 
 unfoldable pub withCache : Store → ℕ → Place Version → Store
 withCache s o p = withSite s o (siteWith s (s .site o) p)

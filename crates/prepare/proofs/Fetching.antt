@@ -4,7 +4,7 @@
 -- no-jobs, more-jobs: the fetches of the first jobs. jobs-fine: they keep the store fine.
 -- Assumes nothing.
 use mathlib.Core.Path.{_≡_, refl, sym, ap, _∙_, fun-ext}
-use mathlib.Core.Bool.{Bool, true, false, cond, not, _&&_}
+use mathlib.Core.Bool.{Bool, not, _&&_}
 use mathlib.Core.Logic.{⊎-elim}
 use mathlib.Core.List.{List}
 use Prim.Native.Nat.{ℕ, zero, suc, _+_, _<_, _^_}
@@ -14,6 +14,7 @@ use lib.Dec.{eqb}
 use Rattle.words.specs.Tests.{Items}
 use Rattle.words.specs.Numbers.{foldBelow}
 use Rattle.words.specs.Lists.{putAt}
+use Rattle.words.proofs.Bools.{test, eqb-eq}
 use Rattle.words.proofs.Tests.{below-or-not}
 use Rattle.masks.specs.Mask.{testBit, maskBelow}
 use Rattle.masks.proofs.Bits.{test-high}
@@ -23,7 +24,7 @@ use Rattle.sizes.specs.Bounds.{masterAt, siteAt}
 use Rattle.model.specs.Algebra.{Algebra, Place, lacking}
 use Rattle.model.specs.Version.{Version, versions}
 use Rattle.model.specs.Sets.{fetched, unfetchable}
-use Rattle.model.specs.Store.{Store, siteWith, withCaches, withSites, withCache}
+use Rattle.model.specs.Store.{Store, marked, siteWith, withCaches, withSites, withCache}
 use Rattle.model.specs.Prepare.{jobStart, fetchReads, preparedCaches, siteCaches}
 use Rattle.model.proofs.Formed.{well-out, formed-cache}
 use Rattle.layout.specs.Reading.{readPlace, storeOf}
@@ -31,7 +32,6 @@ use Rattle.layout.specs.Stored.{putPlace}
 use Rattle.layout.specs.Buffer.{written}
 use Rattle.layout.proofs.Parts.{FitPlace, place-laws}
 use Rattle.layout.proofs.Fit.{fit-cache, marks-beyond}
-use Rattle.layout.proofs.Updates.{marked}
 use Rattle.layout.proofs.Readings.{master-in, cache-in}
 use Rattle.layout.proofs.Follow.{Fine, form-fine}
 use Rattle.layout.proofs.Kept.{fine-next, fetched-fits, fetched-formed}
@@ -72,18 +72,12 @@ jobCache s r j =
 -- It changes one cache.
 job-cache : (s : Store) (r j : ℕ) → Fine s
     → withCache s (s .run r .job j .site) (jobCache s r j) ≡ fetchedJob s r j
-unfolding fetchedJob withCaches withCache siteWith fetchReads putAt siteCaches
+unfolding fetchedJob withCaches withCache fetchReads putAt siteCaches
 job-cache s r j F =
-    ap (withSites s) (fun-ext (λ i. one (eqb i (s .run r .job j .site)) i))
-  where
-    p : Place Version
-    p = jobCache s r j
-
-    one : (b : Bool) (i : ℕ)
-        → cond b (siteWith s (s .site (s .run r .job j .site)) p) (s .site i)
-        ≡ siteWith s (s .site i) (cond b p (s .site i .cache))
-    one true i = refl
-    one false i = sym (site-again s F i)
+    let o = s .run r .job j .site in
+    ap (withSites s) (fun-ext (λ i. test (eqb i o)
+    (λ y. rw y (ap (λ (k : ℕ). siteWith s (s .site k) (jobCache s r j)) (sym (eqb-eq i o y))))
+    (λ n. rw n (sym (site-again s F i)))))
 
 job-fine : (s : Store) (r j : ℕ) → s .run r .job j .site < s .counts .sites → Fine s
     → Fine (fetchedJob s r j)

@@ -149,7 +149,7 @@ run-lies z r h =
 -- The cache is the first part of its site, and the stale mark stands behind it.
 pub mark-lies : (z : Counts) (at : ℕ)
     → Lies (at + placeSize z) (at + siteSize z) (staleAt z at) 1
-unfolding staleAt siteSize
+unfolding siteSize
 mark-lies z at = record { starts = omega arith; ends = omega arith }
 
 -- The snapshot is the last part of its run.

@@ -1,16 +1,22 @@
--- Sizes read off for some counts. Assumes nothing.
+-- Sizes read off for some counts: the examples of other crates go by the definitions.
+-- Assumes nothing.
 use mathlib.Core.Path.{_≡_, refl}
-use Rattle.sizes.specs.Bounds.{countsOf, maxTotal, pastSize, versionSize, placeSize, siteSize, writerSize, runSize, tailSize, masterAt, sitesAt, writersAt, runsAt, tailAt, totalOf, sizesOf}
+use mathlib.Core.List.{[], _∷_, map}
+use Rattle.sizes.specs.Bounds.{countsOf, maxTotal, pastSize, versionSize, placeSize, siteSize, writerSize, runSize, tailSize, masterAt, sitesAt, writersAt, runsAt, tailAt, totalOf, sizesOf, siteAt, staleAt}
 
--- Two keys, two writers, a site and a run.
-small : sizesOf (countsOf 2 2 1 1)
-    ≡ record { master = 10; sites = 22; writers = 35; runs = 45; tail = 85; total = 85 }
+pub record Sized : Type 0 where
+  -- Two keys, two writers, a site and a run.
+  pub small : sizesOf (countsOf 2 2 1 1)
+      ≡ record { master = 10; sites = 22; writers = 35; runs = 45; tail = 85; total = 85 }
+  -- The smallest store, that of case A, another one, the largest.
+  pub totals : map totalOf (countsOf 1 1 1 1 ∷ countsOf 2 2 2 1 ∷ countsOf 3 2 2 2 ∷ [])
+      ≡ 50 ∷ 98 ∷ 202 ∷ []
+  pub full : totalOf (countsOf 32 16 8 8) ≡ maxTotal
+  -- The marks of two sites.
+  pub marks : let z = countsOf 2 2 2 1 in
+      staleAt z (siteAt z 0) ∷ staleAt z (siteAt z 1) ∷ [] ≡ 34 ∷ 47 ∷ []
+
+sized : Sized
 unfolding sizesOf pastSize versionSize placeSize siteSize writerSize runSize tailSize
-    masterAt sitesAt writersAt runsAt tailAt totalOf
-small = refl
-
--- The largest store.
-full : totalOf (countsOf 32 16 8 8) ≡ maxTotal
-unfolding pastSize versionSize placeSize siteSize writerSize runSize tailSize
-    masterAt sitesAt writersAt runsAt tailAt totalOf
-full = refl
+    masterAt sitesAt writersAt runsAt tailAt totalOf siteAt
+sized = record { small = refl; totals = refl; full = refl; marks = refl }

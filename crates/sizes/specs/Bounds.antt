@@ -157,11 +157,7 @@ versionSize z = pastOffset + pastSize z
 unfoldable pub placeSize : Counts → ℕ
 placeSize z = z .keys * versionSize z
 
--- What a site keeps: its cache, then CR 4's "one stored word after its versions", the stale mark.
-abbrev pub staleOffset : Counts → ℕ
-staleOffset z = placeSize z
-
--- The words behind the cache.
+-- What a site keeps behind its cache: CR 4's "one stored word after its versions", the stale mark.
 abbrev pub siteRest : ℕ
 siteRest = 1
 
@@ -223,8 +219,8 @@ unfoldable pub siteAt : Counts → ℕ → ℕ
 siteAt z o = sitesAt z + o * siteSize z
 
 -- The stale mark of the site at an index.
-unfoldable pub staleAt : Counts → ℕ → ℕ
-staleAt z at = at + staleOffset z
+abbrev pub staleAt : Counts → ℕ → ℕ
+staleAt z at = at + placeSize z
 
 unfoldable pub writerAt : Counts → ℕ → ℕ
 writerAt z u = writersAt z + u * writerSize z

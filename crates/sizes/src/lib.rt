@@ -9,7 +9,7 @@ use past::WriterOffset;
 use run::RunOffset;
 ghost use mathlib.Core.Path.{_≡_};
 ghost use Prim.Native.Nat.{_+_, _*_, _<_, _^_};
-ghost use Rattle.sizes.specs.Bounds.{between, ranged, Ranged, countsOf, sizesOf, maxKeys, maxWriters, maxSites, maxRuns, maxJobs, placeLimit, versionLimit, everyJob, jobSize, siteRest, pastSize, versionSize, placeSize, siteSize, writerSize, runSize, siteAt, staleAt, writerAt, runAt, snapshotAt, jobAt, keyAt, pastRowAt, rowAt, writerRowAt};
+ghost use Rattle.sizes.specs.Bounds.{between, ranged, Ranged, countsOf, sizesOf, maxKeys, maxWriters, maxSites, maxRuns, maxJobs, placeLimit, versionLimit, everyJob, jobSize, siteRest, pastSize, versionSize, placeSize, siteSize, writerSize, runSize, siteAt, staleAt, writerAt, runAt, snapshotAt, jobAt, keyAt, pastRowAt};
 
 // Sheets, writers, offices and runs (document 01: K, W, N, P).
 pub struct Counts {
@@ -237,23 +237,5 @@ impl Counts {
         ensures { λ r. ⌜ r ≡ pastRowAt self at d ⌝ }
     {
         nth(at, self.writers, d)
-    }
-
-    // Where row d begins in the version at an index.
-    pub fn row_at(self, at: usize, d: usize) -> usize
-        requires { ⌜ Ranged self ⌝ }
-        requires { ⌜ (at < versionLimit) × (d < self .keys) ⌝ }
-        ensures { λ r. ⌜ r ≡ rowAt self at d ⌝ }
-    {
-        at + (VersionOffset::PAST + d * self.writers)
-    }
-
-    // Where row d begins in the past of the writer at an index.
-    pub fn writer_row_at(self, at: usize, d: usize) -> usize
-        requires { ⌜ Ranged self ⌝ }
-        requires { ⌜ (at < versionLimit) × (d < self .keys) ⌝ }
-        ensures { λ r. ⌜ r ≡ writerRowAt self at d ⌝ }
-    {
-        at + (WriterOffset::PAST + d * self.writers)
     }
 }

@@ -20,7 +20,7 @@ use Rattle.form.proofs.Known.{form-counts}
 
 module _ (l : List ℕ) (z : Counts) (H : FormWith l z) (o : ℕ) where
   mark-word : o < z .sites → storeOf l .site o .stale ≡ readWord l (staleAt z (siteAt z o))
-  unfolding readSite staleAt
+  unfolding readSite
   mark-word h = rw (site-in l z (H .counts) o h)
 
   pub stale-out : z .sites ≤ o → 2 ∷ 3 ∷ [] ≡ answer (callOn (on (ask (stale o))) l)

@@ -11,8 +11,8 @@ use Rattle.words.specs.Words.{Apart}
 use Rattle.clock.specs.Clock.{standing, clockAt}
 use Rattle.clock.proofs.Standings.{standing-same}
 use Rattle.sizes.specs.declared.Counts.{Counts}
-use Rattle.sizes.specs.Bounds.{versionLimit, leadersOffset, pastOffset, versionSize, siteSize, staleAt, keyAt, rowAt}
-use Rattle.sizes.proofs.Offsets.{largest, mark-lies, key-lies, row-lies}
+use Rattle.sizes.specs.Bounds.{versionLimit, leadersOffset, pastOffset, versionSize, placeSize, siteSize, staleAt, keyAt, rowAt}
+use Rattle.sizes.proofs.Offsets.{largest, Lies, mark-lies, key-lies, row-lies}
 use Rattle.layout.specs.Reading.{readWord, readVersion, readPlace}
 use Rattle.layout.proofs.Places.{place-at}
 use Rattle.layout.proofs.Readings.{row-word}
@@ -48,12 +48,15 @@ pub site-cache : (len : ℕ) (z : Counts) (at : ℕ) → SiteArea len z at → A
 unfolding siteSize
 site-cache len z at A = record { ranged = A .ranged; low = A .low; fits = omega (arith, A .fits) }
 
--- Its stale mark.
+-- A word behind it, and so the stale mark.
+pub word-in : (len : ℕ) (z : Counts) (at i : ℕ) → SiteArea len z at
+    → Lies (at + placeSize z) (at + siteSize z) i 1 → (i < versionLimit) × (i < len)
+word-in len z at i A e =
+    let m = largest z (A .ranged) in (omega (arith, A .low), omega (arith, A .fits))
+
 pub mark-in : (len : ℕ) (z : Counts) (at : ℕ) → SiteArea len z at
     → (staleAt z at < versionLimit) × (staleAt z at < len)
-mark-in len z at A =
-    let m = largest z (A .ranged) in
-    let e = mark-lies z at in (omega (arith, A .low), omega (arith, A .fits))
+mark-in len z at A = word-in len z at (staleAt z at) A (mark-lies z at)
 
 -- The versions of one key in two places.
 pub key-apart : (len : ℕ) (z : Counts) (dst src : ℕ) → Areas len z dst src → (k : ℕ) → k < z .keys

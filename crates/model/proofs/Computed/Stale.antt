@@ -9,7 +9,7 @@ use Prim.Native.Nat.{ℕ}
 use Rattle.sizes.specs.Bounds.{countsOf}
 use Rattle.model.specs.Algebra.{Place}
 use Rattle.model.specs.Version.{Version, zeroPast, unheld}
-use Rattle.model.specs.Store.{Store, noBranch, noJobs, fresh, withLast, withMaster, withSite, withCache, withWriter, withRun}
+use Rattle.model.specs.Store.{Store, noSite, noBranch, noJobs, fresh, cached, marked, withLast, withMaster, withSite, withCache, withWriter, withRun}
 use Rattle.model.specs.Form.{wellFormed}
 use Rattle.model.specs.Calls.{StoreCall, openRun, fetch, evict, prepare, step, issue, ask, look, explain, stale}
 use Rattle.model.proofs.Scripts.{answers, ok₁, ok₃, broke, not-taken, seen}
@@ -130,13 +130,13 @@ lent =
 
 -- ---- form: a mark with a bit less, a bit more, another one
 
-abbrev marked : ℕ → Bool
-marked m =
+abbrev taken : ℕ → Bool
+taken m =
     let v = version 1 ((1 ∷ 0 ∷ []) ∷ []) in
     let w = version 1 ([] ∷ (1 ∷ 0 ∷ []) ∷ []) in
     let s = withMaster (fresh (countsOf 2 2 2 1)) (place (v ∷ [])) in
-    wellFormed (withSite s 1 (record { cache = place (v ∷ w ∷ []); stale = m }))
+    wellFormed (withSite s 1 (marked (cached noSite (place (v ∷ w ∷ []))) m))
 
 abbrev pub unmarked : List Bool
 unmarked =
-    marked 2 ∷ not (marked 0) ∷ not (marked 1) ∷ not (marked 3) ∷ not (marked 6) ∷ []
+    taken 2 ∷ not (taken 0) ∷ not (taken 1) ∷ not (taken 3) ∷ not (taken 6) ∷ []

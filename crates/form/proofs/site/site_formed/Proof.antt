@@ -2,7 +2,6 @@
 -- Assumes nothing.
 use borrow.Author.Needs.{needs}
 use native.Mathlib.Omega.{arith}
-use Rattle.sizes.specs.Bounds.{staleAt}
 use Rattle.model.specs.Form.{siteFormed}
 use Rattle.layout.specs.Reading.{readSite}
 use Rattle.version.proofs.Areas.{site-cache, mark-in}
@@ -31,7 +30,7 @@ shared-slice-read-result c =
     (mark-in _ (s .args .z) (s .args .site) (s .pre .1) .1)
 
 returns : tie.Need-returns
-unfolding siteFormed readSite staleAt
+unfolding siteFormed readSite
 returns c =
     rw (
       c .before .place-formed .ensures,

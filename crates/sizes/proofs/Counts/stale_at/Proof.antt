@@ -3,7 +3,6 @@
 use mathlib.Core.Path.{_≡_}
 use borrow.Author.Needs.{needs}
 use native.Mathlib.Omega.{arith}
-use Rattle.sizes.specs.Bounds.{staleAt}
 use Rattle.sizes.proofs.Offsets.{largest}
 use Rattle.sizes.proofs.Counts.stale_at.Statement.{statement}
 use Rattle.sizes.proofs.Counts.stale_at.Tie as tie
@@ -14,7 +13,6 @@ add-result c =
     omega (arith, c .place-size .ensures, largest (s .args .self) (s .pre .0), s .pre .1)
 
 returns : tie.Need-returns
-unfolding staleAt
 returns c = rw (c .place-size .ensures)
 
 pub stale-at-spec : {M : Type 1} → statement M

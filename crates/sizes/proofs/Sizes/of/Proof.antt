@@ -5,7 +5,7 @@ use Prim.Native.Nat.{ℕ, _+_, _*_, _≤_}
 use native.Mathlib.Nat.{add-zero}
 use native.Mathlib.Omega.{arith}
 use Rattle.sizes.specs.declared.Counts.{Counts}
-use Rattle.sizes.specs.Bounds.{Ranged, countsOf, pastOffset, writerPastOffset, siteRest, snapshotOffset, pastSize, versionSize, placeSize, siteSize, writerSize, runSize, tailSize, masterAt, sitesAt, writersAt, runsAt, tailAt, totalOf, sizesOf}
+use Rattle.sizes.specs.Bounds.{Ranged, countsOf, maxTotal, pastOffset, writerPastOffset, siteRest, snapshotOffset, pastSize, versionSize, placeSize, siteSize, writerSize, runSize, tailSize, masterAt, sitesAt, writersAt, runsAt, tailAt, totalOf, sizesOf}
 use Rattle.sizes.proofs.Offsets.{largest}
 use Rattle.sizes.proofs.Sizes.of.Statement.{statement}
 use Rattle.sizes.proofs.Sizes.of.Tie as tie
@@ -13,11 +13,12 @@ use Rattle.sizes.proofs.Sizes.of.Tie as tie
 -- The largest products of four counts.
 most : (k w n p : ℕ) → Ranged (countsOf k w n p)
     → let place = k * (pastOffset + k * w) in
-    (place ≤ 16448) × (n * (place + siteRest) ≤ 131592) × (k * w ≤ 512)
+    (place ≤ 16448) × (n * (place + siteRest) ≤ maxTotal) × (k * w ≤ 512)
     × (w * (writerPastOffset + k * w) ≤ 8208) × (p * (snapshotOffset + place) ≤ 131808)
 unfolding pastSize versionSize placeSize siteSize writerSize runSize
 most k w n p R =
-    let m = largest (countsOf k w n p) R in (m .place, m .sites, m .past, m .writers, m .runs)
+    let m = largest (countsOf k w n p) R in
+    (m .place, omega (arith, m .sites), m .past, m .writers, m .runs)
 
 -- The total is where the tail begins.
 sized : (z : Counts) → let t = tailAt z in sizesOf z
