@@ -2,7 +2,7 @@
 """Which law refuses an edit, if no computed example does. Usage: tools/law_edits.py CRATE/LABEL ..
 
 Each edit (crates/CRATE/must-fail/LABEL.edit) is applied to a copy of the repository without the computed examples, and
-all crates of the model and of demand 3 are checked. Prints the first error, or that all is still proved. Some seconds
+all crates of the model and of demand 3 are checked, and for an edit of explain its own crate too. Prints the first error, or that all is still proved. Some seconds
 for each edit; not part of ./test, where the examples refuse the same edits in their own crates."""
 import os
 import pathlib
@@ -12,16 +12,18 @@ import subprocess
 import sys
 import tempfile
 
-EXAMPLES = [("reach", "PathExamples"), ("model", "Scripts")]
-IMPORT = re.compile(r"^use Rattle·(\w+?)(?:·\w+)?\.proofs\.(\w+)", re.MULTILINE)
+EXAMPLES = [("paths", "Examples"), ("model", "Scripts")]
+IMPORT = re.compile(r"^use Rattle·(\w+?)(?:·\w+)?\.proofs\.([\w.]+?)(?:\.\{| as )", re.MULTILINE)
 
 
 def examples(root):
     """The examples, and every module of proofs that imports one, straight or through others: a set of (crate, name)."""
     imports = {}
     for crate in os.listdir(os.path.join(root, "crates")):
-        for path in pathlib.Path(root, "crates", crate, "proofs").rglob("*.antt"):
-            imports[path] = (crate, path.stem), IMPORT.findall(path.read_text(encoding="utf-8"))
+        proofs = pathlib.Path(root, "crates", crate, "proofs")
+        for path in proofs.rglob("*.antt"):
+            name = ".".join(path.relative_to(proofs).with_suffix("").parts)
+            imports[path] = (crate, name), IMPORT.findall(path.read_text(encoding="utf-8"))
     found, size = set(EXAMPLES), 0
     while size < len(found):
         size = len(found)
@@ -45,10 +47,14 @@ def without_examples(root):
     gone = sorted(examples(root))
     for crate, name in gone:
         proofs = os.path.join(root, "crates", crate, "proofs")
-        os.remove(os.path.join(proofs, name + ".antt"))
-        lib = os.path.join(proofs, "Lib.antt")
-        kept = [l for l in open(lib, encoding="utf-8") if l.strip() != "pub mod " + name]
-        open(lib, "w", encoding="utf-8").writelines(kept)
+        os.remove(os.path.join(proofs, *name.split(".")) + ".antt")
+    for crate, name in gone:
+        # A module is declared by the one above it, if that is left.
+        above, _, last = name.rpartition(".")
+        path = os.path.join(root, "crates", crate, "proofs", (above or "Lib") + ".antt")
+        if os.path.exists(path):
+            kept = [l for l in open(path, encoding="utf-8") if l.strip() != "pub mod " + last]
+            open(path, "w", encoding="utf-8").writelines(kept)
     print("without", ", ".join("%s/%s" % module for module in gone))
 
 
@@ -59,9 +65,8 @@ def main():
     shutil.copytree(here, root, ignore=skip)
     without_examples(root)
     subprocess.run(["git", "init", "-q", root], check=True)
-    command = ["rt", "check", "consistency"]
-    run = lambda: subprocess.run(command, cwd=root, text=True, capture_output=True)
-    print("no edit:", "proved" if run().returncode == 0 else "NOT PROVED")
+    run = lambda crates: subprocess.run(["rt", "check", *crates], cwd=root, text=True, capture_output=True)
+    print("no edit:", "proved" if run(["consistency"]).returncode == 0 else "NOT PROVED")
     for name in sys.argv[1:]:
         crate, label = name.split("/")
         target, pairs = read_edit(os.path.join(here, "crates", crate, "must-fail", label + ".edit"))
@@ -71,7 +76,7 @@ def main():
             assert text.count(old) == 1, (name, old)
             text = text.replace(old, new)
         open(path, "w", encoding="utf-8").write(text)
-        out = run()
+        out = run(["consistency", "explain"] if target.endswith("Explain.antt") else ["consistency"])
         found = re.search(r"crates/(\S+?\.antt):(\d+):\d+: error: `([^`]*)`", out.stdout + out.stderr)
         print("%s: %s" % (name, "still proved" if out.returncode == 0 else found.groups() if found else "refused"), flush=True)
         open(path, "w", encoding="utf-8").write(before)

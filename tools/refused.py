@@ -8,12 +8,13 @@ import os
 import re
 import sys
 
-FAULT = re.compile(r"fault (\w+): ")
+FAULT = re.compile(r"fault (\w+):")
 FUNCTION = re.compile(r"^( *)(?:pub )?(?:extern \"C\" )?fn (\w+)")
+METHODS = re.compile(r"^impl (\w+) \{")
 PROOF_ERROR = re.compile(r"^\S*?/proofs/(\S+)/Proof\.antt:\d+:\d+: error: (.*)")
 UNPROVED = re.compile(r"^note: \S*?/(src/\S+?\.rt):(\d+):\d+: it is not proved that ")
 # What a proof file is told when the function's callee has no proof, or when its questions are other ones.
-FOLLOWS = re.compile(r"was not admitted|has no `Need-|has no name `Need-")
+FOLLOWS = re.compile(r"was not admitted|has no `Need-|expected type `tie\.Need-")
 
 
 def read(path):
@@ -28,6 +29,7 @@ def faults(path):
     for line in read(path):
         if FAULT.match(line):
             label = FAULT.match(line).group(1)
+            assert label not in found, "%s: %s twice" % (path, label)
         elif line.startswith("file: "):
             name = line[len("file: "):]
         elif line.startswith("old: "):
@@ -41,24 +43,36 @@ def faults(path):
 
 
 def function_at(lines, at):
-    """The function that a line stands in, and its first and last line; nothing outside of functions."""
+    """The function that a line stands in, its first and last line, and the type that it is a method of, if any; nothing
+    outside of functions."""
     for start in range(at, -1, -1):
         head = FUNCTION.match(lines[start])
         if head:
-            end = next(i for i in range(start, len(lines)) if lines[i].startswith(head.group(1) + "}"))
+            ends = (head.group(1) + "}", head.group(1) + "{}")
+            end = next(i for i in range(start, len(lines)) if lines[i].startswith(ends))
             marked = start > 0 and lines[start - 1].startswith("#[")
-            return (head.group(2), start - marked, end) if at <= end else None
+            types = [METHODS.match(line) for line in lines[:start]] if head.group(1) else []
+            owner = next((found.group(1) for found in reversed(types) if found), None)
+            return (head.group(2), start - marked, end, owner) if at <= end else None
     return None
 
 
-def lost(log, name, function, start, end):
+def stands_for(path, name, function, owner):
+    """Whether a proof file at a path is that of the function: a method's stands below its type, and a function's below
+    the module of its file."""
+    if owner:
+        return path[-2:] == [owner, function]
+    module = os.path.basename(name)[:-len(".rt")]
+    return path == ([function] if module in ("lib", "main") else [module, function])
+
+
+def lost(log, name, function, start, end, owner):
     """Whether a fact of the function is lost: one that its proof file gives, or one that is looked for without a file."""
-    module = [] if name in ("src/lib.rt", "src/main.rt") else [os.path.basename(name)[:-len(".rt")]]
     for line in log:
         error = PROOF_ERROR.match(line)
         if error and not FOLLOWS.search(error.group(2)):
             path = error.group(1).replace("+", "").split("/")
-            if path[-1] == function and path[:-1][:len(module)] == module:
+            if stands_for(path, name, function, owner):
                 return True
         note = UNPROVED.match(line)
         if note and note.group(1) == name and start <= int(note.group(2)) - 1 <= end:
@@ -69,14 +83,17 @@ def lost(log, name, function, start, end):
 def misses(path):
     """The faults of an edit that its log doesn't refuse for a fact of their function."""
     crate, label = path.split("/")[1], os.path.basename(path)[:-len(".edit")]
-    log, planted = read("target/must-fail/%s/%s/.log" % (crate, label)), faults(path)
+    log, planted, taken = read("target/must-fail/%s/%s/.log" % (crate, label)), faults(path), set()
     for fault, lines in planted.items():
         places = [(name, function_at(read("crates/%s/%s" % (crate, name)), at)) for name, at in lines]
         found = [(name, function) for name, function in places if name.startswith("src/") and function]
         if not found and len(planted) > 1:
             yield "%s/%s: %s: in no function" % (crate, label, fault)
+        elif taken.intersection(found):
+            yield "%s/%s: %s: a second fault of %s" % (crate, label, fault, found[0][1][0])
         elif found and not any(lost(log, name, *function) for name, function in found):
             yield "%s/%s: %s: no fact of %s is lost" % (crate, label, fault, found[0][1][0])
+        taken.update(found)
 
 
 def main():
