@@ -1,14 +1,15 @@
 -- The four ways in which two clocks stand.
 -- exceeds-..: some count is larger. standing-view: what holds in each of the four.
--- standing-equal, -below, -newer, -self, -flip, -same. differing-not: what isn't differing.
+-- standing-equal, -below, -newer, -self, -flip, -left, -same. differing-more, -not: what differs,
+-- and what doesn't.
 -- Assumes nothing.
 use mathlib.Core.Path.{_≡_, refl, ap₂}
-use mathlib.Core.Bool.{Bool, true, false, _||_, So}
+use mathlib.Core.Bool.{Bool, true, false, not, _||_, So}
 use mathlib.Core.Logic.{_↔_, _⊎_, inl, inr}
-use Prim.Native.Nat.{ℕ, _+_, _<_}
+use Prim.Native.Nat.{ℕ, _+_, _≤_, _<_}
 use native.Mathlib.Omega.{arith}
-use lib.Dec.{ltb}
-use Rattle.words.proofs.Bools.{clash, ltb-lt, lt-ltb, ltb-ge, ge-ltb}
+use lib.Dec.{ltb, eqb}
+use Rattle.words.proofs.Bools.{test, clash, ltb-lt, lt-ltb, ltb-ge, ge-ltb, eq-eqb, ne-eqb}
 use Rattle.words.proofs.Tests.{any-intro, any-some, any-none, any-no, any-same, any-more}
 use Rattle.clock.specs.declared.Standing.{Standing}
 use Rattle.clock.specs.declared.Standing.the-variants.{Equal, Older, Newer, Rival}
@@ -133,6 +134,16 @@ standing-flip W p q = cases (exceeds W p q) (exceeds W q p)
     cases true false = refl
     cases true true = refl
 
+-- Clocks that differ, of which the second has no larger count.
+pub standing-left : (W : ℕ) (p q : Clock) → So (differing (standing W p q))
+    → exceeds W q p ≡ false → standing W p q ≡ Newer
+unfolding standing
+standing-left W p q d n = rw n (cases (exceeds W p q) (rw n at d))
+  where
+    cases : (a : Bool) → So (differing (standingOf a false)) → standingOf a false ≡ Newer
+    cases false s = clash s refl
+    cases true s = refl
+
 -- Only counts below W matter.
 pub standing-same : (W : ℕ) (p p′ q q′ : Clock)
     → ((w : ℕ) → w < W → p w ≡ p′ w) → ((w : ℕ) → w < W → q w ≡ q′ w)
@@ -142,6 +153,39 @@ standing-same W p p′ q q′ h k =
     ap₂ standingOf
     (any-same W (λ w. ltb (q w) (p w)) (λ w. ltb (q′ w) (p′ w)) (λ w l. rw (h w l, k w l)))
     (any-same W (λ w. ltb (p w) (q w)) (λ w. ltb (p′ w) (q′ w)) (λ w l. rw (h w l, k w l)))
+
+-- Two counts differ if one of them is the larger.
+unequal : (m n : ℕ) → not (eqb m n) ≡ ltb n m || ltb m n
+unequal m n =
+    test (ltb n m)
+    (λ y. rw (y, ne-eqb m n (λ e. clash y (ge-ltb n m (omega (arith, e))))))
+    (λ no. rw (no, less (ltb-ge n m no)))
+  where
+    less : m ≤ n → not (eqb m n) ≡ ltb m n
+    less h =
+        test (ltb m n)
+        (λ y. rw (y, ne-eqb m n (λ e. clash y (ge-ltb m n (omega (arith, e))))))
+        (λ no. rw (no, eq-eqb m n (omega (arith, h, ltb-ge m n no))))
+
+-- The turn of a loop.
+pub differing-more : (p q : Clock) (n : ℕ) → differing (standing (n + 1) p q)
+    ≡ differing (standing n p q) || not (eqb (p n) (q n))
+unfolding standing
+differing-more p q n =
+    rw (exceeds-more p q n, exceeds-more q p n, unequal (p n) (q n), either, either)
+    (turned (exceeds n p q) (ltb (q n) (p n)) (exceeds n q p) (ltb (p n) (q n)))
+  where
+    either : (a b : Bool) → differing (standingOf a b) ≡ a || b
+    either false false = refl
+    either false true = refl
+    either true false = refl
+    either true true = refl
+
+    turned : (a x b y : Bool) → (a || x) || (b || y) ≡ (a || b) || (x || y)
+    turned true x b y = refl
+    turned false false b y = refl
+    turned false true false y = refl
+    turned false true true y = refl
 
 -- A standing that isn't differing is equal.
 pub differing-not : (x : Standing) → differing x ≡ false → x ≡ Equal

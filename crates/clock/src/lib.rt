@@ -7,7 +7,7 @@ ghost use mathlib.Core.Path.{_≡_};
 ghost use Prim.Native.Nat.{_+_, _≤_};
 ghost use lib.ListN.{length};
 ghost use Rattle.words.specs.Words.{put, Apart};
-ghost use Rattle.clock.specs.Clock.{standing, standingOf, standingNumber, covering, differing, present, join, clockAt};
+ghost use Rattle.clock.specs.Clock.{exceeds, standing, standingNumber, covering, differing, present, join, clockAt};
 
 // How two clocks stand.
 pub enum Standing {
@@ -53,42 +53,59 @@ pub fn differing(s: Standing) -> bool
     }
 }
 
-// The standing by whether some count is larger, and whether some is smaller.
-fn standing_of(over: bool, under: bool) -> Standing
-    ensures { λ r. ⌜ r ≡ standingOf over under ⌝ }
+// Whether some count of the clock at a in p isn't equal to that of the clock at b in q, of w.
+// All are read: that is quicker than to stop at the first.
+fn differs(p: &[u32], a: usize, q: &[u32], b: usize, w: usize) -> bool
+    requires { ⌜ (a + w ≤ length (now p)) × (b + w ≤ length (now q)) ⌝ }
+    ensures { λ r. ⌜ r ≡ differing
+        (standing w (clockAt (now (p .entry)) a) (clockAt (now (q .entry)) b)) ⌝ }
 {
-    if over {
-        if under {
-            Standing::Rival
-        } else {
-            Standing::Newer
-        }
-    } else {
-        if under {
-            Standing::Older
-        } else {
-            Standing::Equal
-        }
+    let mut unequal = false;
+    let mut i = 0;
+    while i < w {
+        let x = count_at(p, a + i);
+        let y = count_at(q, b + i);
+        unequal = unequal | !x.equals(y);
+        i += 1;
     }
+    unequal
 }
 
-// How the clock at a in p stands against the clock at b in q, of w counts. The two may be lent
-// from one buffer.
-pub fn compare(p: &[u32], a: usize, q: &[u32], b: usize, w: usize) -> Standing
+// Whether some count of the clock at a in p is larger than that of the clock at b in q, of w.
+fn exceeds(p: &[u32], a: usize, q: &[u32], b: usize, w: usize) -> bool
     requires { ⌜ (a + w ≤ length (now p)) × (b + w ≤ length (now q)) ⌝ }
-    ensures { λ r. ⌜ r ≡ standing w (clockAt (now (p .entry)) a) (clockAt (now (q .entry)) b) ⌝ }
+    ensures { λ r. ⌜ r
+        ≡ exceeds w (clockAt (now (p .entry)) a) (clockAt (now (q .entry)) b) ⌝ }
 {
     let mut over = false;
-    let mut under = false;
     let mut i = 0;
     while i < w {
         let x = count_at(p, a + i);
         let y = count_at(q, b + i);
         over = over | x.exceeds(y);
-        under = under | y.exceeds(x);
         i += 1;
     }
-    standing_of(over, under)
+    over
+}
+
+// How the clock at a in p stands against the clock at b in q, of w counts. The two may be lent
+// from one buffer. Most are equal: that is asked first. A caller that doesn't tell all four apart
+// doesn't pay for what it leaves.
+pub fn compare(p: &[u32], a: usize, q: &[u32], b: usize, w: usize) -> Standing
+    requires { ⌜ (a + w ≤ length (now p)) × (b + w ≤ length (now q)) ⌝ }
+    ensures { λ r. ⌜ r ≡ standing w (clockAt (now (p .entry)) a) (clockAt (now (q .entry)) b) ⌝ }
+{
+    if !differs(p, a, q, b, w) {
+        return Standing::Equal;
+    }
+    if !exceeds(q, b, p, a, w) {
+        return Standing::Newer;
+    }
+    if exceeds(p, a, q, b, w) {
+        Standing::Rival
+    } else {
+        Standing::Older
+    }
 }
 
 // Whether some writer is present in the clock at an index. All counts are read: that is quicker

@@ -1,6 +1,7 @@
 -- The fetches of a run's jobs, as changes of the store.
 -- lacking-bits: a mask of lacking keys is their set. site-again: a true mark set again. start-as,
--- lacked-as, job-stored: what the code finds and stores for one job.
+-- lacked-as, job-stored: what the code finds and stores for one job. job-idle, job-left: where
+-- there is nothing to fetch.
 -- no-jobs, more-jobs: the fetches of the first jobs. jobs-fine: they keep the store fine.
 -- Assumes nothing.
 use mathlib.Core.Path.{_≡_, refl, sym, ap, _∙_, fun-ext}
@@ -11,21 +12,24 @@ use Prim.Native.Nat.{ℕ, zero, suc, _+_, _<_, _^_}
 use native.Mathlib.Numerals.{add-one}
 use native.Mathlib.Omega.{arith}
 use lib.Dec.{eqb}
-use Rattle.words.specs.Tests.{Items}
+use Rattle.words.specs.Tests.{Items, none}
 use Rattle.words.specs.Numbers.{foldBelow}
 use Rattle.words.specs.Lists.{putAt}
 use Rattle.words.proofs.Bools.{test, eqb-eq}
+use Rattle.words.proofs.Lists.{putAt-itself}
 use Rattle.words.proofs.Tests.{below-or-not}
 use Rattle.masks.specs.Mask.{testBit, maskBelow}
-use Rattle.masks.proofs.Bits.{test-high}
+use Rattle.masks.proofs.Bits.{test-high, test-none}
 use Rattle.masks.proofs.Sets.{mask-lt, test-mask}
+use Rattle.reach.proofs.Closures.{closure-none}
 use Rattle.sizes.specs.declared.Counts.{Counts}
 use Rattle.sizes.specs.Bounds.{masterAt, siteAt}
-use Rattle.model.specs.Algebra.{Algebra, Place, lacking}
+use Rattle.model.specs.Algebra.{Algebra, Place, everything, lacking}
 use Rattle.model.specs.Version.{Version, versions}
-use Rattle.model.specs.Sets.{fetched, unfetchable}
+use Rattle.model.specs.Sets.{draws, drawSet, fetchSet, fetched, unfetchable}
 use Rattle.model.specs.Store.{Store, marked, siteWith, withCaches, withSites, withCache}
 use Rattle.model.specs.Prepare.{jobStart, fetchReads, preparedCaches, siteCaches}
+use Rattle.model.proofs.Draws.{fetched-out}
 use Rattle.model.proofs.Formed.{well-out, formed-cache}
 use Rattle.layout.specs.Reading.{readPlace, storeOf}
 use Rattle.layout.specs.Stored.{putPlace}
@@ -36,7 +40,7 @@ use Rattle.layout.proofs.Readings.{master-in, cache-in}
 use Rattle.layout.proofs.Follow.{Fine, form-fine}
 use Rattle.layout.proofs.Kept.{fine-next, fetched-fits, fetched-formed}
 use Rattle.version.specs.Places.{putMark}
-use Rattle.form.proofs.Known.{form-counts, cache-stored}
+use Rattle.form.proofs.Known.{form-counts, form-again, cache-stored}
 use Rattle.trial.specs.Jobs.{UsedRun}
 use Rattle.prepare.specs.Turns.{startOf, fetchedJob, fetchedJobs}
 use Rattle.trial.proofs.Known.{job-known}
@@ -95,6 +99,25 @@ job-fine s r j h F =
     rw (← job-cache s r j F)
     (fine-next s (withCache s o p) F (fit-cache s (F .fits) o p h fits)
     (formed-cache s G o p formed) refl)
+
+-- From nothing nothing is fetched.
+fetched-none : {A : Type 0} (alg : Algebra A) (K : ℕ) (master cache : Place A)
+    → fetched alg K master cache none ≡ cache
+unfolding fetchSet drawSet
+fetched-none alg K master cache =
+    let e = closure-none K (draws alg K everything cache master) in
+    fun-ext (λ k. fetched-out alg K master cache none k (ap (λ (m : Items). m k) e))
+
+-- A job that has nothing to fetch leaves the store.
+job-idle : (s : Store) (r j : ℕ) → Fine s → startOf (s .counts) s r j ≡ none → fetchedJob s r j ≡ s
+unfolding withCache withSites siteCaches
+job-idle s r j F e =
+    let z = s .counts in
+    let o = s .run r .job j .site in
+    let same : jobCache s r j ≡ s .site o .cache =
+    rw e (fetched-none (versions (z .writers)) (z .keys) (s .master) (s .site o .cache)) in
+    sym (job-cache s r j F)
+    ∙ rw (same, site-again s F o) (ap (withSites s) (putAt-itself (s .site) o))
 
 -- ---- the code of one job
 
@@ -162,6 +185,16 @@ module _ (l : List ℕ) (z : Counts) (r j : ℕ) (U : UsedRun l z r)
       ∙ cache-stored l z (U .form) o taken below (fetched-fits z (s .master) cache start M C)
       ∙ ap (λ (t : Store). written t l)
       (ap (withCache s o) same ∙ rw p (job-cache s r j (form-fine l (U .form .form))))
+
+  pub job-left : (mask : ℕ) → mask ≡ maskBelow (z .keys) start → mask ≡ 0
+      → l ≡ written (fetchedJob (storeOf l) r j) l
+  job-left mask e n =
+      let empty : start ≡ none =
+      sym start-bits ∙ ap testBit (sym e ∙ n) ∙ fun-ext (λ k. test-none k) in
+      let s = storeOf l in
+      let same = ap (λ (y : Counts). startOf y s r j) (form-counts l z (U .form)) in
+      rw (job-idle s r j (form-fine l (U .form .form)) (same ∙ empty))
+      (sym (form-again l z (U .form)))
 
 -- ---- the first n jobs
 

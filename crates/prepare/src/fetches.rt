@@ -61,15 +61,19 @@ pub fn is_unpreparable(words: &[u32], z: Counts, r: usize) -> bool
     false
 }
 
-// The cache of job j of run r takes what the job has to fetch.
+// The cache of job j of run r takes what the job has to fetch. Where that is nothing, nothing is
+// stored: the mark is true already.
 pub fn fetch_job(words: &mut [u32], z: Counts, r: usize, j: usize)
     requires { ⌜ UsedRun (now words) z r ⌝ }
     requires { ⌜ j < storeOf (now words) .run r .jobs ⌝ }
     ensures { λ _. ⌜ now (words .exit)
         ≡ written (fetchedJob (storeOf (now (words .entry))) r j) (now (words .entry)) ⌝ }
 {
-    let job = job_of(words, z, r, j);
     let start = job_start(words, z, r, j);
+    if start == 0 {
+        return;
+    }
+    let job = job_of(words, z, r, j);
     let cache = z.site_at(wide(job.site));
     let areas = z.areas();
     fetch_keys(words, z, areas.master, cache, start);

@@ -3,8 +3,9 @@
 -- closure-iff, -unique: it is what is reached. closure-soon: how many rounds it takes at most.
 -- closure-mono, -same: a larger start and more edges.
 -- closure-between, closure-fixed, outside-falls: for a recursion that grows a set.
+-- closure-none: nothing leads nowhere.
 -- Assumes nothing.
-use mathlib.Core.Path.{_≡_, refl, _∙_}
+use mathlib.Core.Path.{_≡_, refl, _∙_, fun-ext}
 use mathlib.Core.Bool.{false, not, _&&_, So}
 use mathlib.Core.Logic.{_⊎_, inl, inr, _↔_}
 use Prim.Native.Nat.{ℕ, zero, suc, _-_, _≤_, _<_}
@@ -12,7 +13,7 @@ use native.Mathlib.Omega.{arith}
 use native.Mathlib.Decide.{decLt}
 use Rattle.words.specs.Tests.{Items, Within, anyBelow, none}
 use Rattle.words.proofs.Bools.{test, clash, same-test, _∙˙_, and-intro, and-left, and-right, or-left, or-right, or-cases, not-intro, not-elim}
-use Rattle.words.proofs.Tests.{any-intro, any-some}
+use Rattle.words.proofs.Tests.{any-intro, any-some, any-no}
 use Rattle.words.proofs.Numbers.{count-top, count-less}
 use Rattle.reach.specs.Closure.{Reach, Reach.here, Reach.next, Closed, round, rounds, closure, outside}
 
@@ -203,3 +204,13 @@ pub closure-fixed : (n : ℕ) (edge : ℕ → Items) (m : Items) → Closed n ed
     → (d : ℕ) → d < n → closure n edge m d ≡ m d
 closure-fixed n edge m c d l =
     same-test (closure-least n edge m m (λ i _ p. p) c d l) (closure-start n edge m d)
+
+-- Where nothing starts nothing joins.
+pub closure-none : (n : ℕ) (edge : ℕ → Items) → closure n edge none ≡ none
+unfolding closure rounds round
+closure-none n edge = still n
+  where
+    still : (f : ℕ) → rounds f n edge none ≡ none
+    still zero = refl
+    still (suc f) =
+        rw (fun-ext (λ d. any-no n (λ t. none t && edge t d) (λ t l. refl))) (still f)
