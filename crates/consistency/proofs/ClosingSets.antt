@@ -83,15 +83,13 @@ module _ {A : Type 0} {alg : Algebra A} {S : Saves A} (L : CopyLaws alg S) (K : 
     abbrev E : Items
     E = evictSet alg K cache start
 
-    -- What is left of a key that stays; of one that goes nothing is.
-    left : (k : ℕ) (P : A → Type 0) → (P (alg .nothing) → ⊥) → P (evicted alg K cache start k)
-        → (E k ≡ false) × P (cache k)
-    left k P none p =
-        test (E k) (λ y. absurd (none (rw (evicted-in alg K cache start k y) at p)))
+    -- What stands behind something that is left: its key stays.
+    left : (k d : ℕ) (x : S .Save) → S .behind d (evicted alg K cache start k) x
+        → (E k ≡ false) × S .behind d (cache k) x
+    left k d x p =
+        test (E k)
+        (λ y. absurd (L .nothing-behind d x (rw (evicted-in alg K cache start k y) at p)))
         (λ n. (n, rw (evicted-out alg K cache start k n) at p))
-
-    pub evicted-part : PartIn S K (evicted alg K cache start) cache
-    evicted-part d x l p = left d (λ c. S .includes d c x) (L .nothing-in d x) p .1
 
     -- A key that stays needs no key that goes.
     stays : CopyCut S K everything cache → (k d : ℕ) (x : S .Save) → k < K → d < K
@@ -114,7 +112,7 @@ module _ {A : Type 0} {alg : Algebra A} {S : Saves A} (L : CopyLaws alg S) (K : 
           (λ n. rw (evicted-out alg K cache start k n) (c .good k l));
       within = λ k x _ _. refl;
       closed = λ k d x lk ld s y.
-          let u = left k (λ a. S .behind d a x) (L .nothing-behind d x) y in
+          let u = left k d x y in
           let n = stays c k d x lk ld (u .0) (u .1) in
           rw (evicted-out alg K cache start d n) (c .closed k d x lk ld s (u .1));
     }
