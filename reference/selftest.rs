@@ -32,6 +32,21 @@ mod standing;
 mod text;
 
 fn main() {
+    fixed_checks();
+    let seed: u64 = std::env::args().nth(1).and_then(|word| word.parse().ok()).unwrap_or(1);
+    for history in 0..200 {
+        behind::compare(seed + history);
+    }
+    rivals::on_words(seed, 20_000);
+    println!("selftest: led from new: {}", rivals::from_new(seed, 200).print());
+    println!("selftest: explained on graphs: {}", paths::on_graphs(seed, 20_000).print());
+    println!("selftest: explained on desks: {}", paths::on_desks(seed, 20_000).print());
+    let (calls, accepted) = random::damaged(seed, 60_000);
+    println!("selftest: all checks hold; {calls} random calls, {accepted} of them accepted");
+}
+
+/// The checks that are the same for every seed.
+fn fixed_checks() {
     marked::sizes();
     marked::clocks();
     marked::evict_six();
@@ -64,14 +79,4 @@ fn main() {
     stale::on_lent_desks();
     stale::asked_by_form();
     layouts::none_agree();
-    let seed: u64 = std::env::args().nth(1).and_then(|word| word.parse().ok()).unwrap_or(1);
-    for history in 0..200 {
-        behind::compare(seed + history);
-    }
-    rivals::on_words(seed, 20_000);
-    println!("selftest: led from new: {}", rivals::from_new(seed, 200).print());
-    println!("selftest: explained on graphs: {}", paths::on_graphs(seed, 20_000).print());
-    println!("selftest: explained on desks: {}", paths::on_desks(seed, 20_000).print());
-    let (calls, accepted) = random::damaged(seed, 60_000);
-    println!("selftest: all checks hold; {calls} random calls, {accepted} of them accepted");
 }

@@ -81,16 +81,21 @@ fn one_call(
         check_path(book, *run as usize, *job as usize, &answer, seen)?;
     }
     check_answer(book, call, &answer)?;
+    check_claims(book, words)?;
+    let pairs = |run: &book::Run| run.finished.len() * run.finished.len().saturating_sub(1) / 2;
+    seen.snapshots += book.runs.iter().map(pairs).sum::<usize>();
+    Ok(())
+}
+
+/// The claims on desk and book as any call must leave them.
+fn check_claims(book: &Book, words: &[u32]) -> Result<(), String> {
     let s = desk::in_form(words).ok_or("the desk is not in form")?;
     book.check_cuts(words, s)?;
     book.check_versions(words, s)?;
     book.check_none_ahead(words, s)?;
     book.check_named()?;
     book.check_marks(words, s)?;
-    book.check_snapshots()?;
-    let pairs = |run: &book::Run| run.finished.len() * run.finished.len().saturating_sub(1) / 2;
-    seen.snapshots += book.runs.iter().map(pairs).sum::<usize>();
-    Ok(())
+    book.check_snapshots()
 }
 
 /// 3d: a step breaks exactly if no choice stands; the broken sheets are those of C.

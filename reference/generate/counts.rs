@@ -97,14 +97,19 @@ impl Counts {
             }
             (_, Answer::Clear) => self.clear += 1,
             (Call::Explain(run, job), Answer::Path(path)) => {
-                let (tied, carried) = tied_and_carried(before, [*run, *job], path);
-                self.paths += 1;
-                self.long_paths += u64::from(path.len() > 2);
-                self.tied_paths += u64::from(tied);
-                self.carried_paths += u64::from(carried);
+                self.enter_path(before, [*run, *job], path);
             }
             _ => {}
         }
+    }
+
+    /// Takes in a path that an explain answered.
+    fn enter_path(&mut self, before: &[u32], step: [u32; 2], path: &[u32]) {
+        let (tied, carried) = tied_and_carried(before, step, path);
+        self.paths += 1;
+        self.long_paths += u64::from(path.len() > 2);
+        self.tied_paths += u64::from(tied);
+        self.carried_paths += u64::from(carried);
     }
 }
 

@@ -155,6 +155,18 @@ fn not_held(t: &mut Teller) {
 
 /// Lines that are none of the forms.
 pub fn unread(t: &mut Teller) {
+    if t.chance(80) {
+        near_miss(t);
+        return;
+    }
+    let length = t.below(40);
+    let line = (0..length).map(|_| t.next() as u8).filter(|byte| *byte != b'\n');
+    let line = line.collect::<Vec<u8>>();
+    t.say(&line);
+}
+
+/// A line of the list; most of them only just miss a form.
+fn near_miss(t: &mut Teller) {
     const LINES: [&[u8]; 32] = [
         b"",
         b" ",
@@ -189,15 +201,8 @@ pub fn unread(t: &mut Teller) {
         b"stale 0 0",
         b"stale -0",
     ];
-    if t.chance(80) {
-        let line = LINES[t.below(LINES.len())];
-        t.say(line);
-        return;
-    }
-    let length = t.below(40);
-    let line = (0..length).map(|_| t.next() as u8).filter(|byte| *byte != b'\n');
-    let line = line.collect::<Vec<u8>>();
-    t.say(&line);
+    let line = LINES[t.below(LINES.len())];
+    t.say(line);
 }
 
 /// A line of about 400 bytes: leading zeros, or an open with many numbers.

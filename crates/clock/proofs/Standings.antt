@@ -1,6 +1,6 @@
 -- The four ways in which two clocks stand.
 -- exceeds-..: some count is larger. standing-view: what holds in each of the four.
--- standing-equal, -below, -newer, -self, -flip, -left, -same. differing-more, -not: what differs,
+-- standing-equal, -below, -newer, -self, -flip, -same. differing-more, -not, -newer: what differs,
 -- and what doesn't.
 -- Assumes nothing.
 use mathlib.Core.Path.{_≡_, refl, ap₂}
@@ -134,16 +134,6 @@ standing-flip W p q = cases (exceeds W p q) (exceeds W q p)
     cases true false = refl
     cases true true = refl
 
--- Clocks that differ, of which the second has no larger count.
-pub standing-left : (W : ℕ) (p q : Clock) → So (differing (standing W p q))
-    → exceeds W q p ≡ false → standing W p q ≡ Newer
-unfolding standing
-standing-left W p q d n = rw n (cases (exceeds W p q) (rw n at d))
-  where
-    cases : (a : Bool) → So (differing (standingOf a false)) → standingOf a false ≡ Newer
-    cases false s = clash s refl
-    cases true s = refl
-
 -- Only counts below W matter.
 pub standing-same : (W : ℕ) (p p′ q q′ : Clock)
     → ((w : ℕ) → w < W → p w ≡ p′ w) → ((w : ℕ) → w < W → q w ≡ q′ w)
@@ -168,12 +158,11 @@ unequal m n =
         (λ no. rw (no, eq-eqb m n (omega (arith, h, ltb-ge m n no))))
 
 -- The turn of a loop.
-pub differing-more : (p q : Clock) (n : ℕ) → differing (standing (n + 1) p q)
-    ≡ differing (standing n p q) || not (eqb (p n) (q n))
-unfolding standing
-differing-more p q n =
-    rw (exceeds-more p q n, exceeds-more q p n, unequal (p n) (q n), either, either)
-    (turned (exceeds n p q) (ltb (q n) (p n)) (exceeds n q p) (ltb (p n) (q n)))
+pub differing-more : (a b : Bool) (m n : ℕ)
+    → differing (standingOf (a || ltb n m) (b || ltb m n))
+    ≡ differing (standingOf a b) || not (eqb m n)
+differing-more a b m n =
+    rw (unequal m n, either, either) (turned a (ltb n m) b (ltb m n))
   where
     either : (a b : Bool) → differing (standingOf a b) ≡ a || b
     either false false = refl
@@ -193,3 +182,8 @@ differing-not Equal e = refl
 differing-not Older e = clash refl e
 differing-not Newer e = clash refl e
 differing-not Rival e = clash refl e
+
+-- One that is, with no smaller count, is newer.
+pub differing-newer : (a : Bool) → So (differing (standingOf a false)) → standingOf a false ≡ Newer
+differing-newer false s = clash s refl
+differing-newer true s = refl

@@ -7,7 +7,7 @@ ghost use mathlib.Core.Path.{_≡_};
 ghost use Prim.Native.Nat.{_+_, _≤_};
 ghost use lib.ListN.{length};
 ghost use Rattle.words.specs.Words.{put, Apart};
-ghost use Rattle.clock.specs.Clock.{exceeds, standing, standingNumber, covering, differing, present, join, clockAt};
+ghost use Rattle.clock.specs.Clock.{standing, standingOf, standingNumber, covering, differing, present, join, clockAt};
 
 // How two clocks stand.
 pub enum Standing {
@@ -53,59 +53,44 @@ pub fn differing(s: Standing) -> bool
     }
 }
 
-// Whether some count of the clock at a in p isn't equal to that of the clock at b in q, of w.
-// All are read: that is quicker than to stop at the first.
-fn differs(p: &[u32], a: usize, q: &[u32], b: usize, w: usize) -> bool
+// The standing by whether some count differs, whether some is larger, and whether some is smaller.
+fn standing_of(unequal: bool, over: bool, under: bool) -> Standing
+    requires { ⌜ unequal ≡ differing (standingOf over under) ⌝ }
+    ensures { λ r. ⌜ r ≡ standingOf over under ⌝ }
+{
+    if !unequal {
+        return Standing::Equal;
+    }
+    if !under {
+        return Standing::Newer;
+    }
+    if over {
+        Standing::Rival
+    } else {
+        Standing::Older
+    }
+}
+
+// How the clock at a in p stands against the clock at b in q, of w counts. The two may be lent
+// from one buffer. Whether they differ is asked for itself: a caller that asks for no more then
+// doesn't pay for the rest.
+pub fn compare(p: &[u32], a: usize, q: &[u32], b: usize, w: usize) -> Standing
     requires { ⌜ (a + w ≤ length (now p)) × (b + w ≤ length (now q)) ⌝ }
-    ensures { λ r. ⌜ r ≡ differing
-        (standing w (clockAt (now (p .entry)) a) (clockAt (now (q .entry)) b)) ⌝ }
+    ensures { λ r. ⌜ r ≡ standing w (clockAt (now (p .entry)) a) (clockAt (now (q .entry)) b) ⌝ }
 {
     let mut unequal = false;
+    let mut over = false;
+    let mut under = false;
     let mut i = 0;
     while i < w {
         let x = count_at(p, a + i);
         let y = count_at(q, b + i);
         unequal = unequal | !x.equals(y);
-        i += 1;
-    }
-    unequal
-}
-
-// Whether some count of the clock at a in p is larger than that of the clock at b in q, of w.
-fn exceeds(p: &[u32], a: usize, q: &[u32], b: usize, w: usize) -> bool
-    requires { ⌜ (a + w ≤ length (now p)) × (b + w ≤ length (now q)) ⌝ }
-    ensures { λ r. ⌜ r
-        ≡ exceeds w (clockAt (now (p .entry)) a) (clockAt (now (q .entry)) b) ⌝ }
-{
-    let mut over = false;
-    let mut i = 0;
-    while i < w {
-        let x = count_at(p, a + i);
-        let y = count_at(q, b + i);
         over = over | x.exceeds(y);
+        under = under | y.exceeds(x);
         i += 1;
     }
-    over
-}
-
-// How the clock at a in p stands against the clock at b in q, of w counts. The two may be lent
-// from one buffer. Most are equal: that is asked first. A caller that doesn't tell all four apart
-// doesn't pay for what it leaves.
-pub fn compare(p: &[u32], a: usize, q: &[u32], b: usize, w: usize) -> Standing
-    requires { ⌜ (a + w ≤ length (now p)) × (b + w ≤ length (now q)) ⌝ }
-    ensures { λ r. ⌜ r ≡ standing w (clockAt (now (p .entry)) a) (clockAt (now (q .entry)) b) ⌝ }
-{
-    if !differs(p, a, q, b, w) {
-        return Standing::Equal;
-    }
-    if !exceeds(q, b, p, a, w) {
-        return Standing::Newer;
-    }
-    if exceeds(p, a, q, b, w) {
-        Standing::Rival
-    } else {
-        Standing::Older
-    }
+    standing_of(unequal, over, under)
 }
 
 // Whether some writer is present in the clock at an index. All counts are read: that is quicker

@@ -20,13 +20,13 @@ use Rattle.layout.proofs.Fit.{fresh-cache}
 use Rattle.history.specs.History.{saved}
 use Rattle.history.specs.Copies.{Copy, heldCopy, byWriter, counted}
 use Rattle.history.specs.Book.{BookRun, Book, freshBook, withBookCaches, withBookRun}
-use Rattle.history.proofs.Notions.{ClosedAll}
 use Rattle.history.proofs.Sounds.{sound-empty}
 use Rattle.history.proofs.Counted.{counted-none, counted-unheld}
 use Rattle.consistency.specs.Trace.{ReadSet}
 use Rattle.consistency.specs.Claim.{Among}
 use Rattle.consistency.proofs.Simulation.{Related}
-use Rattle.consistency.proofs.Closing.{empty-closed}
+use Rattle.consistency.proofs.CopyLaws.{empty-cut}
+use Rattle.consistency.proofs.Closing.{copy-laws, ClosedAll}
 use Rattle.consistency.proofs.Counting.{masked-none}
 use Rattle.consistency.proofs.Invariant.{RunFollows, Follows, ReadAs, Inv}
 use Rattle.consistency.proofs.Following.{Stands, free-follows, follows-caches, follows-cache, follows-run}
@@ -128,7 +128,7 @@ inv-fresh z =
         cache = λ o l k i. rw (fresh-cache z o k) (counted-none K []);
         led-cache = λ o l k i.
             ap (λ (v : Version). v .leaders) (fresh-cache z o k) ∙ masked-none W K [] k;
-        closed = λ o l. empty-closed K [] _;
+        closed = λ o l. empty-cut (copy-laws K []) _;
         writer = λ w l. record { count = refl; past = sym (no-past K w) };
         run = λ r l. free-follows W K [];
       };

@@ -1,67 +1,94 @@
--- Cuts on copies: what they give, and that they stay cuts as the history grows.
--- PartOf: a place within another. closed-..: what a cut gives. every-..: of all writes.
+-- Cuts on the book's copies, and that they stay cuts as the history grows.
+-- bookSaves, copy-laws: a write is told by its issue. PartOf: a place within another. ClosedIn,
+-- ClosedAll: cuts. closed-grow: one issue more. every-..: of all writes.
 -- Assumes nothing.
 use mathlib.Core.Path.{refl}
 use mathlib.Core.Bool.{So, false≢true}
 use mathlib.Core.List.{_∷_}
+use mathlib.Core.Logic.{_⊎_, inl, inr}
 use Prim.Native.Nat.{ℕ, _<_}
 use native.Mathlib.Omega.{arith}
 use lib.ListN.{length}
 use Rattle.words.specs.Tests.{Items}
-use Rattle.words.proofs.Bools.{_∙˙_}
-use Rattle.model.specs.Algebra.{Place, needsMet, causalCut, overlappingCut}
-use Rattle.model.proofs.Cuts.{needsMet-intro, overlappingCut-intro}
+use Rattle.words.proofs.Bools.{_∙˙_, or-left, or-right, or-cases}
+use Rattle.model.specs.Algebra.{Place, everything}
 use Rattle.history.specs.History.{Issue, History, saved}
-use Rattle.history.specs.Copies.{Copy, copies}
-use Rattle.history.specs.Book.{noCopies}
-use Rattle.history.proofs.Notions.{PastLaws, Good, ClosedIn, ClosedAll}
-use Rattle.history.proofs.Past.{saved-low, past-low}
-use Rattle.history.proofs.Reached.{reaches-some, copy-held, copy-meets}
+use Rattle.history.specs.Copies.{Copy, reaches, copies, union}
+use Rattle.history.proofs.Notions.{PastLaws, Good}
+use Rattle.history.proofs.Past.{saved-low, past-low, past-laws}
+use Rattle.history.proofs.Reached.{reaches-some, reaches-saved, reaches-union, copy-held, copy-needs, copy-meets, good-none, good-union}
+use Rattle.history.proofs.Grown.{reaches-grow}
+use Rattle.consistency.proofs.CopyLaws.{Saves, CopyLaws, CopyCut}
+
+-- ---- the book's copies
+
+abbrev pub bookSaves : ℕ → History → Saves Copy
+bookSaves K h = record {
+  Save = ℕ;
+  good = Good K h;
+  includes = λ k c i. So (c i);
+  behind = λ d c j. So (reaches K h c d j);
+}
+
+pub copy-laws : (K : ℕ) (h : History) → CopyLaws (copies K h) (bookSaves K h)
+unfolding union
+copy-laws K h = record {
+  held = λ k c g. (
+    λ y. let r = copy-held K h c .0 y in (r .0, r .2),
+    λ r. copy-held K h c .1 (r .0, g .writes (r .0) (r .1) .0, r .1),
+  );
+  leads = λ k d c j _ y. let r = reaches-some K h c d j y in copy-held K h c .1 (r .0, r .1, r .2);
+  needs = λ k d c. (
+    λ y. let r = copy-needs K h k c d .0 y in (r .0, r .1, r .3),
+    λ r. copy-needs K h k c d .1 (r .0, r .1, low d c (r .1) (r .2), r .2),
+  );
+  meets = λ d b c. (
+    λ y j r. copy-meets K h d b c .0 y j (low d c j r) r,
+    λ f. copy-meets K h d b c .1 (λ j _ r. f j r),
+  );
+  nothing-good = good-none K h;
+  nothing-in = λ k i p. false≢true p;
+  nothing-behind = λ d j y. let r = reaches-some K h _ d j y in false≢true (r .2);
+  merge-good = good-union K h;
+  merge-in = λ k a b i. (or-cases (a i) (b i), λ q. either a b i q);
+  merge-behind = λ k d a b j y.
+      or-cases (reaches K h a d j) (reaches K h b d j) (reaches-union K h a b d j ∙˙ y);
+}
+  where
+    low : (d : ℕ) (c : Copy) (j : ℕ) → So (reaches K h c d j) → j < length h
+    low d c j y = reaches-saved K h (past-laws K h) c d j y .0
+
+    either : (a b : Copy) (i : ℕ) → So (a i) ⊎ So (b i) → So (union K h a b i)
+    either a b i (inl p) = or-left (b i) p
+    either a b i (inr p) = or-right (a i) p
 
 -- Below K, every write in p is in q.
 abbrev pub PartOf : ℕ → Place Copy → Place Copy → Type 0
 PartOf K p q = (d i : ℕ) → d < K → So (p d i) → So (q d i)
 
-module _ {K : ℕ} {h : History} {scope : Items} {p : Place Copy} (c : ClosedIn K h scope p) where
-  pub closed-good : (k : ℕ) → k < K → Good K h k (p k)
-  closed-good k l = record {
-    writes = λ i q. c .writes k i l q;
-    behind = λ i j q r. c .closed k i k j l l (c .within k i l q) q r;
-  }
+abbrev pub ClosedIn : ℕ → History → Items → Place Copy → Type 0
+ClosedIn K h scope p = CopyCut (bookSaves K h) K scope p
 
-  -- ---- a cut by the tests of the model
+-- A causal cut on copies.
+abbrev pub ClosedAll : ℕ → History → Place Copy → Type 0
+ClosedAll K h p = ClosedIn K h everything p
 
-  pub closed-needsMet : So (needsMet (copies K h) K scope p)
-  closed-needsMet =
-      needsMet-intro (copies K h) K scope p (λ k d lk ld _ s _ _.
-      copy-meets K h d (p d) (p k) .1 (λ j _ y.
-      let r = reaches-some K h (p k) d j y in c .closed k (r .0) d j lk ld s (r .2) (r .3)))
+-- ---- one issue more
 
-  pub closed-overlapping : So (overlappingCut (copies K h) K scope p)
-  closed-overlapping =
-      overlappingCut-intro (copies K h) K scope p
-      (λ k l y. let r = copy-held K h (p k) .0 y in c .within k (r .0) l (r .2)) closed-needsMet
-
-  pub closed-grow : (e : Issue) → ClosedIn K (e ∷ h) scope p
-  closed-grow e = record {
-    writes = λ d i l q.
-        let w = c .writes d i l q in (omega arith, rw (saved-low e h d i (w .0)) (w .1));
-    within = c .within;
-    closed = λ k i d j lk ld s q r.
-        let w = c .writes k i lk q in
-        c .closed k i d j lk ld s q (past-low K e h i d j (w .0) ∙˙ r);
-  }
-
-pub closed-causal : {K : ℕ} {h : History} {p : Place Copy} → ClosedAll K h p
-    → So (causalCut (copies K h) K p)
-unfolding causalCut
-closed-causal c = closed-needsMet c
-
-pub empty-closed : (K : ℕ) (h : History) (scope : Items) → ClosedIn K h scope noCopies
-empty-closed K h scope = record {
-  writes = λ d i _ p. absurd (false≢true p);
-  within = λ d i _ p. absurd (false≢true p);
-  closed = λ k i d j _ _ _ p _. p;
+pub closed-grow : {K : ℕ} {h : History} {scope : Items} {p : Place Copy} → ClosedIn K h scope p
+    → (e : Issue) → ClosedIn K (e ∷ h) scope p
+closed-grow {K} {h} {scope} {p} c e = record {
+  good = λ k l. record {
+    writes = λ i q.
+        let w = c .good k l .writes i q in (omega arith, rw (saved-low e h k i (w .0)) (w .1));
+    behind = λ i j q r.
+        let w = c .good k l .writes i q in
+        c .good k l .behind i j q (past-low K e h i k j (w .0) ∙˙ r);
+  };
+  within = c .within;
+  closed = λ k d j lk ld s y.
+      c .closed k d j lk ld s
+      (reaches-grow K e h (p k) (λ i q. c .good k lk .writes i q .0) d j ∙˙ y);
 }
 
 -- ---- a place that has every write: the master
@@ -69,12 +96,15 @@ empty-closed K h scope = record {
 module _ {K : ℕ} {h : History} {m : Place Copy}
     (all : (d i : ℕ) → d < K → So (saved h d i) → So (m d i)) where
   pub every-part : {scope : Items} {p : Place Copy} → ClosedIn K h scope p → PartOf K p m
-  every-part c d i l q = all d i l (c .writes d i l q .1)
+  every-part c d i l q = all d i l (c .good d l .writes i q .1)
 
   pub every-closed : PastLaws K h
       → ((d i : ℕ) → d < K → So (m d i) → (i < length h) × So (saved h d i)) → ClosedAll K h m
   every-closed laws w = record {
-    writes = w;
+    good = λ k l. record {
+      writes = λ i q. w k i l q;
+      behind = λ i j q r. all k j l (laws .bound i k j (w k i l q .0) r .1);
+    };
     within = λ d i _ _. refl;
-    closed = λ k i d j lk ld _ q r. all d j ld (laws .bound i d j (w k i lk q .0) r .1);
+    closed = λ k d j lk ld _ y. all d j ld (reaches-saved K h laws (m k) d j y .1);
   }

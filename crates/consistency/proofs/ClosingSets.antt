@@ -1,186 +1,191 @@
 -- Cuts on copies through T, E and C: what fetch, evict and a step leave are cuts.
 -- fetched-, evicted-, pulled- with closed: a cut again; with part: within another place;
--- with grows: what was there stays. pulled-from, pulled-has: the writes on the snapshot.
+-- with grows: what was there stays. pulled-from, -behind, -has: the writes on the snapshot.
 -- Assumes nothing.
 use mathlib.Core.Path.{_≡_, refl}
-use mathlib.Core.Bool.{false, _&&_, _||_, So, false≢true}
+use mathlib.Core.Bool.{false, _&&_, So}
 use mathlib.Core.Logic.{_⊎_, inl, inr}
 use Prim.Native.Nat.{ℕ, _<_}
-use lib.ListN.{length}
 use Rattle.words.specs.Tests.{Items, Within}
-use Rattle.words.proofs.Bools.{test, clash, and-intro, or-left, or-right, or-cases}
+use Rattle.words.proofs.Bools.{test, clash, and-intro}
 use Rattle.reach.proofs.Closures.{closure-closed}
-use Rattle.model.specs.Algebra.{Place, everything, lacking}
+use Rattle.model.specs.Algebra.{Algebra, Place, everything, lacking}
 use Rattle.model.specs.Sets.{drawSet, fetchSet, fetched, evictSet, evicted, pullSet, pulled}
-use Rattle.model.proofs.Draws.{drawSet-closed, fetched-in, fetched-out, evicted-in, evicted-out, pullSet-plan, pulled-in, pulled-out}
-use Rattle.history.specs.History.{History, saved, inPast}
-use Rattle.history.specs.Copies.{Copy, copies, heldCopy, needsCopy, union}
-use Rattle.history.proofs.Notions.{ClosedIn, ClosedAll}
-use Rattle.history.proofs.Reached.{reaches-intro, copy-held, copy-needs, copy-meets}
-use Rattle.consistency.proofs.Closing.{PartOf}
+use Rattle.model.proofs.Draws.{drawSet-closed, fetched-in, fetched-out, evicted-in, evicted-out, pullSet-plan, pulled-cases, pulled-in, pulled-out}
+use Rattle.consistency.proofs.CopyLaws.{Saves, CopyLaws, CopyCut, PartIn}
 
--- ---- T and C: what a member of the set needs
+module _ {A : Type 0} {alg : Algebra A} {S : Saves A} (L : CopyLaws alg S) (K : ℕ) where
+  -- ---- T and C: what a member of the set needs
 
-module _ {K : ℕ} {h : History} (scope : Items) (target source : Place Copy) (start : Items)
-    (cs : ClosedAll K h source) where
   -- Of a key of the scope that is no member, the target has what a member needs.
-  drawn-met : (k i d j : ℕ) → k < K → d < K → So (scope d)
-      → So (drawSet (copies K h) K scope target source start k)
-      → drawSet (copies K h) K scope target source start d ≡ false
-      → So (source k i) → So (inPast K h i d j) → So (target d j)
-  drawn-met k i d j lk ld s ik od p q =
-      let u = cs .writes k i lk p .0 in
-      let m = cs .closed k i d j lk ld refl p q in
-      let v = cs .writes d j ld m .0 in
-      let y = reaches-intro K h (source k) d j i u p q in
-      let n = copy-needs K h k (source k) d .1 ((λ e. clash (rw e ik) od), j, v, y) in
-      let held = copy-held K h (source d) .1 (j, v, m) in
-      elim (drawSet-closed (copies K h) K scope target source start k d lk ld ik s n held) [
-        | inl met ↦ copy-meets K h d (target d) (source k) .0 met j v y
+  drawn-met : (scope : Items) (target source : Place A) (start : Items)
+      → CopyCut S K everything source → (k d : ℕ) (x : S .Save) → k < K → d < K → So (scope d)
+      → So (drawSet alg K scope target source start k)
+      → drawSet alg K scope target source start d ≡ false
+      → S .behind d (source k) x → S .includes d (target d) x
+  drawn-met scope target source start c k d x lk ld s ik od y =
+      let n = L .needs k d (source k) .1 ((λ e. clash (rw e ik) od), x, y) in
+      let held = L .held d (source d) (c .good d ld) .1 (x, c .closed k d x lk ld refl y) in
+      elim (drawSet-closed alg K scope target source start k d lk ld ik s n held) [
+        | inl met ↦ L .meets d (target d) (source k) .0 met x y
         | inr id ↦ clash id od
       ]
 
--- ---- fetch
+  -- ---- fetch
 
-module _ (K : ℕ) (h : History) (master cache : Place Copy) (start : Items)
-    (part : PartOf K cache master) where
-  pub fetched-part : PartOf K (fetched (copies K h) K master cache start) master
-  fetched-part d i l p =
-      test (fetchSet (copies K h) K master cache start d)
-      (λ y. rw (fetched-in (copies K h) K master cache start d y) at p)
-      (λ n. part d i l (rw (fetched-out (copies K h) K master cache start d n) at p))
+  module _ (master cache : Place A) (start : Items) (part : PartIn S K cache master) where
+    abbrev T : Items
+    T = fetchSet alg K master cache start
 
-  pub fetched-grows : PartOf K cache (fetched (copies K h) K master cache start)
-  fetched-grows d i l p =
-      test (fetchSet (copies K h) K master cache start d)
-      (λ y. rw (fetched-in (copies K h) K master cache start d y) (part d i l p))
-      (λ n. rw (fetched-out (copies K h) K master cache start d n) p)
+    abbrev after : Place A
+    after = fetched alg K master cache start
 
-  pub fetched-closed : ClosedAll K h master → ClosedAll K h cache
-      → ClosedAll K h (fetched (copies K h) K master cache start)
-  unfolding fetchSet
-  fetched-closed cm cc = record {
-    writes = λ d i l p. cm .writes d i l (fetched-part d i l p);
-    within = λ d i _ _. refl;
-    closed = closed;
-  }
-    where
-      T : Items
-      T = fetchSet (copies K h) K master cache start
+    pub fetched-part : PartIn S K after master
+    fetched-part d x l p =
+        test (T d) (λ y. rw (fetched-in alg K master cache start d y) at p)
+        (λ n. part d x l (rw (fetched-out alg K master cache start d n) at p))
 
-      closed : (k i d j : ℕ) → k < K → d < K → So (everything d)
-          → So (fetched (copies K h) K master cache start k i) → So (inPast K h i d j)
-          → So (fetched (copies K h) K master cache start d j)
-      closed k i d j lk ld s p q =
-          test (T k)
-          (λ ik.
-          let m : So (master k i) = rw (fetched-in (copies K h) K master cache start k ik) at p in
-          test (T d)
-          (λ id. rw (fetched-in (copies K h) K master cache start d id)
-          (cm .closed k i d j lk ld s m q))
-          (λ od. rw (fetched-out (copies K h) K master cache start d od)
-          (drawn-met everything cache master start cm k i d j lk ld refl ik od m q)))
-          (λ ok.
-          let c : So (cache k i) = rw (fetched-out (copies K h) K master cache start k ok) at p in
-          fetched-grows d j ld (cc .closed k i d j lk ld s c q))
+    pub fetched-grows : PartIn S K cache after
+    fetched-grows d x l p =
+        test (T d) (λ y. rw (fetched-in alg K master cache start d y) (part d x l p))
+        (λ n. rw (fetched-out alg K master cache start d n) p)
 
--- ---- evict
+    pub fetched-closed : CopyCut S K everything master → CopyCut S K everything cache
+        → CopyCut S K everything after
+    unfolding fetchSet
+    fetched-closed cm cc = record {
+      good = λ k l.
+          test (T k) (λ y. rw (fetched-in alg K master cache start k y) (cm .good k l))
+          (λ n. rw (fetched-out alg K master cache start k n) (cc .good k l));
+      within = λ k x _ _. refl;
+      closed = closed;
+    }
+      where
+        closed : (k d : ℕ) (x : S .Save) → k < K → d < K → So (everything d)
+            → S .behind d (after k) x → S .includes d (after d) x
+        closed k d x lk ld s y =
+            test (T k)
+            (λ ik.
+            let m : S .behind d (master k) x =
+            rw (fetched-in alg K master cache start k ik) at y in
+            test (T d)
+            (λ id. rw (fetched-in alg K master cache start d id) (cm .closed k d x lk ld s m))
+            (λ od. rw (fetched-out alg K master cache start d od)
+            (drawn-met everything cache master start cm k d x lk ld refl ik od m)))
+            (λ ok.
+            let c : S .behind d (cache k) x =
+            rw (fetched-out alg K master cache start k ok) at y in
+            fetched-grows d x ld (cc .closed k d x lk ld s c))
 
-module _ (K : ℕ) (h : History) (cache : Place Copy) (start : Items) where
-  -- What is left of a key that stays.
-  evicted-from : (d i : ℕ) → So (evicted (copies K h) K cache start d i)
-      → (evictSet (copies K h) K cache start d ≡ false) × So (cache d i)
-  evicted-from d i p =
-      test (evictSet (copies K h) K cache start d)
-      (λ y. absurd (false≢true (rw (evicted-in (copies K h) K cache start d y) at p)))
-      (λ n. (n, rw (evicted-out (copies K h) K cache start d n) at p))
+  -- ---- evict
 
-  pub evicted-part : PartOf K (evicted (copies K h) K cache start) cache
-  evicted-part d i l p = evicted-from d i p .1
+  module _ (cache : Place A) (start : Items) where
+    abbrev E : Items
+    E = evictSet alg K cache start
 
-  -- A key that stays needs no key that goes.
-  stays : ClosedAll K h cache → (k i d j : ℕ) → k < K → d < K
-      → evictSet (copies K h) K cache start k ≡ false → So (cache k i) → So (inPast K h i d j)
-      → evictSet (copies K h) K cache start d ≡ false
-  unfolding evictSet
-  stays c k i d j lk ld n p q =
-      let u = c .writes k i lk p .0 in
-      let v = c .writes d j ld (c .closed k i d j lk ld refl p q) .0 in
-      let r = reaches-intro K h (cache k) d j i u p q in
-      let held = copy-held K h (cache k) .1 (i, u, p) in
-      test (evictSet (copies K h) K cache start d)
-      (λ y.
-      let m = copy-needs K h k (cache k) d .1 ((λ e. clash (rw e at y) n), j, v, r) in
-      clash (closure-closed K (λ t d. heldCopy K h (cache d) && needsCopy K h d (cache d) t)
-      start d k ld lk y (and-intro held m)) n)
-      (λ z. z)
+    -- What stands behind something that is left: its key stays.
+    left : (k d : ℕ) (x : S .Save) → S .behind d (evicted alg K cache start k) x
+        → (E k ≡ false) × S .behind d (cache k) x
+    left k d x p =
+        test (E k)
+        (λ y. absurd (L .nothing-behind d x (rw (evicted-in alg K cache start k y) at p)))
+        (λ n. (n, rw (evicted-out alg K cache start k n) at p))
 
-  pub evicted-closed : ClosedAll K h cache → ClosedAll K h (evicted (copies K h) K cache start)
-  evicted-closed c = record {
-    writes = λ d i l p. c .writes d i l (evicted-part d i l p);
-    within = λ d i _ _. refl;
-    closed = λ k i d j lk ld s p q.
-        let u = evicted-from k i p in
-        let n = stays c k i d j lk ld (u .0) (u .1) q in
-        rw (evicted-out (copies K h) K cache start d n) (c .closed k i d j lk ld s (u .1) q);
-  }
+    -- A key that stays needs no key that goes.
+    stays : CopyCut S K everything cache → (k d : ℕ) (x : S .Save) → k < K → d < K
+        → E k ≡ false → S .behind d (cache k) x → E d ≡ false
+    unfolding evictSet
+    stays c k d x lk ld n r =
+        let held = L .leads k d (cache k) x (c .good k lk) r in
+        test (E d)
+        (λ y.
+        let m = L .needs k d (cache k) .1 ((λ e. clash (rw e at y) n), x, r) in
+        clash (closure-closed K (λ t d. alg .held (cache d) && alg .needs d (cache d) t) start
+        d k ld lk y (and-intro held m)) n)
+        (λ z. z)
 
--- ---- a step's pull
+    pub evicted-closed : CopyCut S K everything cache
+        → CopyCut S K everything (evicted alg K cache start)
+    evicted-closed c = record {
+      good = λ k l.
+          test (E k) (λ y. rw (evicted-in alg K cache start k y) (L .nothing-good k))
+          (λ n. rw (evicted-out alg K cache start k n) (c .good k l));
+      within = λ k x _ _. refl;
+      closed = λ k d x lk ld s y.
+          let u = left k d x y in
+          let n = stays c k d x lk ld (u .0) (u .1) in
+          rw (evicted-out alg K cache start d n) (c .closed k d x lk ld s (u .1));
+    }
 
-module _ (K : ℕ) (h : History) (plan : Items) (snapshot cache : Place Copy) (reads : Items) where
-  pub pulled-from : (d i : ℕ) → So (pulled (copies K h) K plan snapshot cache reads d i)
-      → So (snapshot d i)
-      ⊎ (So (pullSet (copies K h) K plan snapshot cache reads d) × So (cache d i))
-  unfolding union
-  pulled-from d i p =
-      test (pullSet (copies K h) K plan snapshot cache reads d)
-      (λ y.
-      let e = pulled-in (copies K h) K plan snapshot cache reads d y in
-      let q : So (snapshot d i || cache d i) = rw e at p in
-      elim (or-cases (snapshot d i) (cache d i) q) [ inl c ↦ inl c | inr c ↦ inr (y, c) ])
-      (λ n. inl (rw (pulled-out (copies K h) K plan snapshot cache reads d n) at p))
+  -- ---- a step's pull
 
-  pub pulled-grows : PartOf K snapshot (pulled (copies K h) K plan snapshot cache reads)
-  unfolding union
-  pulled-grows d i _ p =
-      test (pullSet (copies K h) K plan snapshot cache reads d)
-      (λ y. rw (pulled-in (copies K h) K plan snapshot cache reads d y) (or-left (cache d i) p))
-      (λ n. rw (pulled-out (copies K h) K plan snapshot cache reads d n) p)
+  module _ (plan : Items) (snapshot cache : Place A) (reads : Items) where
+    abbrev C : Items
+    C = pullSet alg K plan snapshot cache reads
 
-  pub pulled-has : (d i : ℕ) → So (pullSet (copies K h) K plan snapshot cache reads d)
-      → So (cache d i) → So (pulled (copies K h) K plan snapshot cache reads d i)
-  unfolding union
-  pulled-has d i y p =
-      rw (pulled-in (copies K h) K plan snapshot cache reads d y) (or-right (snapshot d i) p)
+    abbrev carried : Place A
+    carried = pulled alg K plan snapshot cache reads
 
-  pub pulled-closed : ClosedIn K h plan snapshot → ClosedAll K h cache → Within K reads plan
-      → ClosedIn K h plan (pulled (copies K h) K plan snapshot cache reads)
-  unfolding pullSet
-  pulled-closed cd cc f = record { writes = writes; within = within; closed = closed }
-    where
-      writes : (d i : ℕ) → d < K → So (pulled (copies K h) K plan snapshot cache reads d i)
-          → (i < length h) × So (saved h d i)
-      writes d i l p =
-          elim (pulled-from d i p) [ inl c ↦ cd .writes d i l c | inr c ↦ cc .writes d i l (c .1) ]
+    pub pulled-from : (d : ℕ) (x : S .Save) → S .includes d (carried d) x
+        → S .includes d (snapshot d) x ⊎ (So (C d) × S .includes d (cache d) x)
+    pulled-from d x p =
+        test (C d)
+        (λ y.
+        let q : S .includes d (alg .merge d (snapshot d) (cache d)) x =
+        rw (pulled-in alg K plan snapshot cache reads d y) at p in
+        elim (L .merge-in d (snapshot d) (cache d) x .0 q) [ inl c ↦ inl c | inr c ↦ inr (y, c) ])
+        (λ n. inl (rw (pulled-out alg K plan snapshot cache reads d n) at p))
 
-      within : (d i : ℕ) → d < K → So (pulled (copies K h) K plan snapshot cache reads d i)
-          → So (plan d)
-      within d i l p =
-          elim (pulled-from d i p) [
-            | inl c ↦ cd .within d i l c
-            | inr c ↦ pullSet-plan (copies K h) K plan snapshot cache reads f d l (c .0)
-          ]
+    pub pulled-behind : (k d : ℕ) (x : S .Save) → S .behind d (carried k) x
+        → S .behind d (snapshot k) x ⊎ (So (C k) × S .behind d (cache k) x)
+    pulled-behind k d x p =
+        test (C k)
+        (λ y.
+        let q : S .behind d (alg .merge k (snapshot k) (cache k)) x =
+        rw (pulled-in alg K plan snapshot cache reads k y) at p in
+        elim (L .merge-behind k d (snapshot k) (cache k) x q) [
+          | inl c ↦ inl c
+          | inr c ↦ inr (y, c)
+        ])
+        (λ n. inl (rw (pulled-out alg K plan snapshot cache reads k n) at p))
 
-      closed : (k i d j : ℕ) → k < K → d < K → So (plan d)
-          → So (pulled (copies K h) K plan snapshot cache reads k i) → So (inPast K h i d j)
-          → So (pulled (copies K h) K plan snapshot cache reads d j)
-      closed k i d j lk ld s p q =
-          elim (pulled-from k i p) [
-            | inl c ↦ pulled-grows d j ld (cd .closed k i d j lk ld s c q)
-            | inr c ↦
-                test (pullSet (copies K h) K plan snapshot cache reads d)
-                (λ id. pulled-has d j id (cc .closed k i d j lk ld refl (c .1) q))
-                (λ od. pulled-grows d j ld
-                (drawn-met plan snapshot cache (lacking (copies K h) K snapshot reads) cc k i d j
-                lk ld s (c .0) od (c .1) q))
-          ]
+    pub pulled-grows : PartIn S K snapshot carried
+    pulled-grows d x _ p =
+        pulled-cases alg K plan snapshot cache reads (λ c. S .includes d c x) d
+        (λ _. L .merge-in d (snapshot d) (cache d) x .1 (inl p)) (λ _. p)
+
+    pub pulled-has : (d : ℕ) (x : S .Save) → So (C d) → S .includes d (cache d) x
+        → S .includes d (carried d) x
+    pulled-has d x y p =
+        rw (pulled-in alg K plan snapshot cache reads d y)
+        (L .merge-in d (snapshot d) (cache d) x .1 (inr p))
+
+    pub pulled-closed : CopyCut S K plan snapshot → CopyCut S K everything cache
+        → Within K reads plan → CopyCut S K plan carried
+    unfolding pullSet
+    pulled-closed cd cc f = record { good = good; within = within; closed = closed }
+      where
+        good : (k : ℕ) → k < K → S .good k (carried k)
+        good k l =
+            pulled-cases alg K plan snapshot cache reads (S .good k) k
+            (λ _. L .merge-good k (snapshot k) (cache k) (cd .good k l) (cc .good k l))
+            (λ _. cd .good k l)
+
+        within : (k : ℕ) (x : S .Save) → k < K → S .includes k (carried k) x → So (plan k)
+        within k x l p =
+            elim (pulled-from k x p) [
+              | inl c ↦ cd .within k x l c
+              | inr c ↦ pullSet-plan alg K plan snapshot cache reads f k l (c .0)
+            ]
+
+        closed : (k d : ℕ) (x : S .Save) → k < K → d < K → So (plan d)
+            → S .behind d (carried k) x → S .includes d (carried d) x
+        closed k d x lk ld s p =
+            elim (pulled-behind k d x p) [
+              | inl c ↦ pulled-grows d x ld (cd .closed k d x lk ld s c)
+              | inr c ↦
+                  test (C d) (λ id. pulled-has d x id (cc .closed k d x lk ld refl (c .1)))
+                  (λ od. pulled-grows d x ld
+                  (drawn-met plan snapshot cache (lacking alg K snapshot reads) cc k d x lk ld s
+                  (c .0) od (c .1)))
+            ]

@@ -16,14 +16,14 @@ use Rattle.model.specs.Version.{Version, unheld, held, larger, merge, versions}
 use Rattle.model.proofs.Merges.{version-path, held-unheld, merge-cases}
 use Rattle.history.specs.History.{History, writerOf}
 use Rattle.history.specs.Copies.{Copy, CountedAs, copies, union, counted, leading}
-use Rattle.history.proofs.Notions.{PastLaws, Good, ClosedIn}
+use Rattle.history.proofs.Notions.{PastLaws, Good}
 use Rattle.history.proofs.Reached.{good-none, good-union, union-unheld-left, union-unheld-right}
 use Rattle.history.proofs.Counted.{held-same, counted-none, merge-counted, needs-same, meets-same}
 use Rattle.history.proofs.Leading.{leading-unheld}
 use Rattle.history.proofs.LeadingUnion.{named-union, leading-union}
 use Rattle.consistency.specs.Claim.{Counted, Named}
 use Rattle.consistency.proofs.Simulation.{Simulates, Related}
-use Rattle.consistency.proofs.Closing.{closed-good}
+use Rattle.consistency.proofs.Closing.{ClosedIn}
 
 -- v, a version of key k, and c, of W writers.
 pub record StandsFor (W K : ℕ) (h : History) (k : ℕ) (v : Version) (c : Copy) : Type 0 where
@@ -106,4 +106,4 @@ pub counted-related : {W K : ℕ} {h : History} {scope : Items} {p : Place Versi
     {c : Place Copy} → Counted K h p c → Masked W K h p c → ClosedIn K h scope c
     → Related K (StandsFor W K h) p c
 counted-related e m cut k l =
-    record { counts = e k l; good = closed-good cut k l; led = m k l }
+    record { counts = e k l; good = cut .good k l; led = m k l }

@@ -16,6 +16,7 @@ use Rattle.history.proofs.Reached.{reaches-intro, reaches-saved, reaches-sessio
 use Rattle.history.proofs.Counted.{counted-row}
 use Rattle.consistency.specs.Claim.{NotAhead}
 use Rattle.consistency.proofs.Invariant.{Follows}
+use Rattle.consistency.proofs.Following.{master-closed}
 
 -- P d p: p is a row for key d.
 pub record EveryRow (s : Store) (P : ℕ → Clock → Type 0) : Type 0 where
@@ -56,7 +57,7 @@ module _ {s : Store} {b : Book} (F : Follows s b) where
           (tally-dominates K h (s .counts .writers) (saved h d) (reaches K h c d)
           (reaches K h (b .master d) d) (F .sound .writers)
           (λ j _ y. reaches-saved K h laws c d j y .1)
-          (reaches-session K h laws (b .master d) d) .1
+          (reaches-session K h laws d (b .master d) (master-closed F .good d l)) .1
           (λ j i y.
           let w = reaches-saved K h laws c d j y .1 in
           reaches-intro K h (b .master d) d j j i (F .every d j l w) (laws .own j d i w)))

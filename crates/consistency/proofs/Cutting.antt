@@ -15,10 +15,10 @@ use Rattle.layout.proofs.Follow.{Fine}
 use Rattle.history.specs.Book.{Book}
 use Rattle.consistency.specs.Claim.{BreakExact}
 use Rattle.consistency.proofs.Simulation.{causalCut-same, overlappingCut-same}
-use Rattle.consistency.proofs.Closing.{closed-causal, closed-overlapping}
+use Rattle.consistency.proofs.CopyLaws.{cut-causal, cut-overlapping}
 use Rattle.consistency.proofs.Breaks.{Ready, breaks-exact}
 use Rattle.consistency.proofs.Invariant.{Follows}
-use Rattle.consistency.proofs.Following.{now-simulates, cache-related, snapshot-related, snapshot-closed}
+use Rattle.consistency.proofs.Following.{now-simulates, now-laws, cache-related, snapshot-related, snapshot-closed}
 use Rattle.consistency.proofs.Stepped.{copyCache, stepCache-related, stepCache-closed}
 
 module _ {s : Store} {b : Book} (F : Follows s b) where
@@ -26,7 +26,7 @@ module _ {s : Store} {b : Book} (F : Follows s b) where
       → So (causalCut (versions (s .counts .writers)) (s .counts .keys) (s .site o .cache))
   cuts o l =
       causalCut-same (now-simulates F) (s .site o .cache) (b .cache o) (cache-related F o l)
-      ∙ closed-causal (F .closed o l)
+      ∙ cut-causal (now-laws F) (F .closed o l)
 
   pub overlaps : (r : ℕ) → r < s .counts .runs
       → So (overlappingCut (versions (s .counts .writers)) (s .counts .keys)
@@ -35,7 +35,7 @@ module _ {s : Store} {b : Book} (F : Follows s b) where
       let S = planned (s .run r .jobs) (s .run r .job) in
       overlappingCut-same (now-simulates F) S S (s .run r .branch .snapshot)
       (b .run r .branch .snapshot) (λ _ _. refl) (snapshot-related F r l)
-      ∙ closed-overlapping (snapshot-closed F r l)
+      ∙ cut-overlapping (now-laws F) (snapshot-closed F r l)
 
   -- A step that is not refused finds what it needs.
   pub step-ready : Fine s → (r j : ℕ) → Accepted s r j → Ready s r j
@@ -44,7 +44,7 @@ module _ {s : Store} {b : Book} (F : Follows s b) where
     overlaps = overlaps r (a .run-in);
     cut = causalCut-same (now-simulates F) (stepCache s r j) (copyCache s b r j)
         (stepCache-related fine F a)
-        ∙ closed-causal (stepCache-closed fine F a);
+        ∙ cut-causal (now-laws F) (stepCache-closed fine F a);
     on-snapshot = was s r j fine a .snapshot .has;
   }
 

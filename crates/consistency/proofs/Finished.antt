@@ -13,6 +13,7 @@ use Rattle.model.specs.Store.{Run, Store, planned}
 use Rattle.history.specs.History.{History}
 use Rattle.history.specs.Book.{Book, BookRun}
 use Rattle.history.proofs.Notions.{Sound}
+use Rattle.history.proofs.Reached.{reaches-intro}
 use Rattle.history.proofs.Behind.{before-past, past-is-before}
 use Rattle.layout.proofs.Follow.{Fine}
 use Rattle.model.proofs.Formed.{well-out}
@@ -41,8 +42,9 @@ module _ (K W : ℕ) (h : History) (a : Run) (c : BookRun) (sound : Sound K W h)
     included = λ e i d j le ld p m q t.
         let has : So (c .branch .snapshot e i) =
         ap (λ (s : ℕ → Bool). s i) (X .copy e le p) ∙˙ m in
-        let got = F .branch .closed .closed e i d j le ld (in-plan y Y d ld q) has
-        (before-past sound t) in
+        let low = F .branch .closed .good e le .writes i has .0 in
+        let got = F .branch .closed .closed e d j le ld (in-plan y Y d ld q)
+        (reaches-intro K h (c .branch .snapshot e) d j i low has (before-past sound t)) in
         ap (λ (s : ℕ → Bool). s j) (sym (Y .copy d ld q)) ∙˙ got;
   }
 

@@ -16,12 +16,12 @@ use Rattle.model.specs.Store.{Job, Run, Site, Store, noJobs, noBranch, freeRun,
 use Rattle.history.specs.History.{History}
 use Rattle.history.specs.Copies.{Copy, copies}
 use Rattle.history.specs.Book.{BookRun, Book, noBookBranch, noRun, withBookCaches, withBookRun}
-use Rattle.history.proofs.Notions.{ClosedIn, ClosedAll}
 use Rattle.history.proofs.Past.{past-laws}
 use Rattle.history.proofs.Counted.{counted-none}
 use Rattle.consistency.specs.Claim.{Named}
 use Rattle.consistency.proofs.Simulation.{Simulates, Related}
-use Rattle.consistency.proofs.Closing.{PartOf, empty-closed, every-part, every-closed}
+use Rattle.consistency.proofs.CopyLaws.{CopyLaws, empty-cut}
+use Rattle.consistency.proofs.Closing.{bookSaves, copy-laws, PartOf, ClosedIn, ClosedAll, every-part, every-closed}
 use Rattle.consistency.proofs.Counting.{StandsFor, masked-none, stands-named, counted-simulates, counted-related}
 use Rattle.consistency.proofs.Invariant.{RunFollows, Follows}
 
@@ -41,6 +41,10 @@ module _ {s : Store} {b : Book} (F : Follows s b) where
       let K = s .counts .keys in
       counted-simulates K (s .counts .writers) (b .history) (past-laws K (b .history))
       (F .sound .writers)
+
+  pub now-laws : CopyLaws (copies (s .counts .keys) (b .history))
+      (bookSaves (s .counts .keys) (b .history))
+  now-laws = copy-laws (s .counts .keys) (b .history)
 
   -- In a merge of two versions of a key somebody is named.
   pub now-named : (k : ℕ) (v w : Version) (a c : Copy) → Stands s b k v a → Stands s b k w c
@@ -101,7 +105,7 @@ empty-follows W K h state jobs done job = record {
     low = λ k p. absurd (false≢true p);
     snapshot = λ k _. counted-none K h;
     led = λ k _. masked-none W K h k;
-    closed = empty-closed K h (planned jobs job);
+    closed = empty-cut (copy-laws K h) (planned jobs job);
   };
 }
 

@@ -18,9 +18,10 @@ use Rattle.layout.specs.Calls.{on}
 use Rattle.history.specs.History.{History, saved}
 use Rattle.history.specs.Copies.{byWriter, counted}
 use Rattle.history.specs.Book.{Book, BookBranch, BookRun, bookRule, bookStep}
-use Rattle.history.proofs.Notions.{Sound, ClosedIn, ClosedAll}
+use Rattle.history.proofs.Notions.{Sound}
 use Rattle.consistency.specs.Trace.{ReadSet, finish}
 use Rattle.consistency.specs.Claim.{Counted, Among}
+use Rattle.consistency.proofs.Closing.{ClosedIn, ClosedAll}
 use Rattle.consistency.proofs.Counting.{Masked}
 
 -- A branch and the book's, for the keys of a plan.

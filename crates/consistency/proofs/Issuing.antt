@@ -25,7 +25,7 @@ use Rattle.model.proofs.Merges.{version-path}
 use Rattle.history.specs.History.{Issue, History, writerOf, saved, inPast}
 use Rattle.history.specs.Copies.{Copy, union, counted}
 use Rattle.history.specs.Book.{Book, BookBranch, BookRun, entry}
-use Rattle.history.proofs.Notions.{Sound, ClosedIn, ClosedAll}
+use Rattle.history.proofs.Notions.{Sound}
 use Rattle.history.proofs.Past.{saved-top, saved-low, saved-below, past-top, topPast-own, past-laws}
 use Rattle.history.proofs.Counted.{counted-fold}
 use Rattle.history.proofs.Grown.{counted-grow}
@@ -34,7 +34,7 @@ use Rattle.history.proofs.Entered.{readAny, enteredPast, entered, newVersion-co
 use Rattle.history.proofs.Leading.{leading-grow, mask-top}
 use Rattle.consistency.specs.Claim.{Named}
 use Rattle.consistency.proofs.Simulation.{Related}
-use Rattle.consistency.proofs.Closing.{closed-good, closed-grow}
+use Rattle.consistency.proofs.Closing.{ClosedIn, ClosedAll, closed-grow}
 use Rattle.consistency.proofs.Counting.{StandsFor, counted-related, stands-named, stands-merge}
 use Rattle.consistency.proofs.Invariant.{BranchFollows, RunFollows, Follows}
 use Rattle.consistency.proofs.Following.{master-closed, master-related}
@@ -45,10 +45,10 @@ module _ (W K : ℕ) (e : Issue) (h : History) where
   pub place-grow : {scope : Items} {p : Place Version} {c : Place Copy} → ClosedIn K h scope c
       → Related K (StandsFor W K h) p c → Related K (StandsFor W K (e ∷ h)) p c
   place-grow {c = c} cut r k l =
-      let below : (i : ℕ) → So (c k i) → i < length h = λ i y. cut .writes k i l y .0 in
+      let below : (i : ℕ) → So (c k i) → i < length h = λ i y. cut .good k l .writes i y .0 in
       record {
         counts = rw (counted-grow K e h (past-laws K h) (c k) below) (r k l .counts);
-        good = closed-good (closed-grow cut e) k l;
+        good = closed-grow cut e .good k l;
         led = r k l .led ∙ ap (maskBelow W) (sym (fun-ext (leading-grow K e h k (c k) below)));
       }
 

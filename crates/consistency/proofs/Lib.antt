@@ -7,6 +7,7 @@ pub mod Excluded
 pub mod ExcludedLeads
 pub mod Simulation
 pub mod SimulationPrepare
+pub mod CopyLaws
 pub mod Closing
 pub mod ClosingSets
 pub mod ClosingPrepare

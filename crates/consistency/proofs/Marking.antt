@@ -52,7 +52,7 @@ module _ {W K : ℕ} {h : History} (laws : PastLaws K h)
       let own = reaches-own K h laws k c (r .good) in
       let other = reaches-own K h laws k d (r′ .good) in
       let within = tally-dominates K h W (saved h k) (reaches K h c k) (reaches K h d k) writers
-      (λ j _ y. reaches-saved K h laws c k j y .1) (reaches-session K h laws d k) .0
+      (λ j _ y. reaches-saved K h laws c k j y .1) (reaches-session K h laws k d (r′ .good)) .0
       (λ u l.
       let e = same u l in
       let a = ap (λ (q : Clock). q u) (row r) in

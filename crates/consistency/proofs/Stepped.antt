@@ -18,12 +18,12 @@ use Rattle.layout.proofs.Rules.Step.{site}
 use Rattle.layout.proofs.Follow.{Fine}
 use Rattle.history.specs.Copies.{Copy, copies}
 use Rattle.history.specs.Book.{Book, BookBranch, BookRun, bookStepJob, withBookRun, withBookCaches}
-use Rattle.history.proofs.Notions.{ClosedIn, ClosedAll}
 use Rattle.consistency.specs.Claim.{Named}
 use Rattle.consistency.proofs.Simulation.{Agree, Related, readStart-same, fetched-rel, pullSet-same, pulled-rel}
+use Rattle.consistency.proofs.Closing.{ClosedIn, ClosedAll}
 use Rattle.consistency.proofs.ClosingSets.{fetched-closed, pulled-closed}
 use Rattle.consistency.proofs.Invariant.{Follows}
-use Rattle.consistency.proofs.Following.{Stands, now-simulates, now-named, master-closed, master-related, cache-related, cache-part, snapshot-related, snapshot-closed}
+use Rattle.consistency.proofs.Following.{Stands, now-simulates, now-laws, now-named, master-closed, master-related, cache-related, cache-part, snapshot-related, snapshot-closed}
 
 -- ---- the book's run r and its cache after job j, with the store's counts and jobs
 
@@ -94,7 +94,7 @@ module _ {s : Store} {b : Book} {r j : ℕ} (fine : Fine s) (F : Follows s b)
   stepCache-closed =
       let o = stepSite s r j in
       let l = site s r j fine a in
-      fetched-closed (s .counts .keys) (b .history) (b .master) (b .cache o) _
+      fetched-closed (now-laws F) (s .counts .keys) (b .master) (b .cache o) _
       (cache-part F o l) (master-closed F) (F .closed o l)
 
   -- ---- C
@@ -130,9 +130,9 @@ module _ {s : Store} {b : Book} {r j : ℕ} (fine : Fine s) (F : Follows s b)
       (copySnapshot s b r j)
   unfolding copySnapshot stepPlan
   stepSnapshot-closed =
-      pulled-closed (s .counts .keys) (b .history) (stepPlan s r j) (copyBranch s b r j .snapshot)
-      (copyCache s b r j) (stepReads s r j) (snapshot-closed F r (a .run-in)) stepCache-closed
-      (λ k _. step-planned s r j k (a .job-in))
+      pulled-closed (now-laws F) (s .counts .keys) (stepPlan s r j)
+      (copyBranch s b r j .snapshot) (copyCache s b r j) (stepReads s r j)
+      (snapshot-closed F r (a .run-in)) stepCache-closed (λ k _. step-planned s r j k (a .job-in))
 
   -- Outside of C the book's too is as it was.
   pub copySnapshot-out : (k : ℕ) → k < s .counts .keys → stepPull s r j k ≡ false

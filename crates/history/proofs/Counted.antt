@@ -161,7 +161,7 @@ module _ (K : ℕ) (h : History) where
       covers =
           rw (row-is v b e d, row-is w c f d)
           (tally-dominates K h W (saved h d) (reaches K h c d) (reaches K h b d) writers
-          (λ j _ y. reaches-saved K h laws c d j y .1) (reaches-session K h laws b d))
+          (λ j _ y. reaches-saved K h laws c d j y .1) (reaches-session K h laws d b g))
 
       own : (j : ℕ) → reaches K h b d j ≡ b j
       own = reaches-own K h laws d b g

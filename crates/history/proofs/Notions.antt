@@ -1,15 +1,12 @@
 -- What the proofs about histories and copies speak of.
 -- PastLaws: all that is used of "stands behind", apart from how it grows. Sound: a history that
 -- the calls made.
--- Good: a set of writes that a copy of a key can be. ClosedIn: a cut on copies, within a scope of
--- keys.
+-- Good: a set of writes that a copy of a key can be.
 -- Assumes nothing.
 use mathlib.Core.Path.{_≡_}
 use mathlib.Core.Bool.{So}
 use Prim.Native.Nat.{ℕ, _≤_, _<_}
 use lib.ListN.{length}
-use Rattle.words.specs.Tests.{Items}
-use Rattle.model.specs.Algebra.{Place, everything}
 use Rattle.history.specs.History.{History, writerOf, saved, readBy, inPast}
 use Rattle.history.specs.Copies.{Copy}
 
@@ -36,14 +33,3 @@ pub record Sound (K W : ℕ) (h : History) : Type 0 where
 pub record Good (K : ℕ) (h : History) (k : ℕ) (c : Copy) : Type 0 where
   pub writes : (i : ℕ) → So (c i) → (i < length h) × So (saved h k i)
   pub behind : (i j : ℕ) → So (c i) → So (inPast K h i k j) → So (c j)
-
--- Writes alone, only of keys in the scope, and with each one all of the scope's writes behind it.
-pub record ClosedIn (K : ℕ) (h : History) (scope : Items) (p : Place Copy) : Type 0 where
-  pub writes : (d i : ℕ) → d < K → So (p d i) → (i < length h) × So (saved h d i)
-  pub within : (d i : ℕ) → d < K → So (p d i) → So (scope d)
-  pub closed : (k i d j : ℕ) → k < K → d < K → So (scope d) → So (p k i) → So (inPast K h i d j)
-      → So (p d j)
-
--- A causal cut on copies.
-abbrev pub ClosedAll : ℕ → History → Place Copy → Type 0
-ClosedAll K h p = ClosedIn K h everything p

@@ -3,7 +3,7 @@
 -- good-..: no copy, a union, an issue's past. union-..: with one that is not held.
 -- copy-..: held, needs and meets as statements.
 -- Assumes nothing.
-use mathlib.Core.Path.{_≡_, fun-ext}
+use mathlib.Core.Path.{_≡_, _∙_, fun-ext}
 use mathlib.Core.Bool.{Bool, false, not, _&&_, _||_, So, false≢true}
 use mathlib.Core.Logic.{inl, inr, _↔_, _≢_}
 use Prim.Native.Nat.{ℕ, _≤_, _<_}
@@ -11,7 +11,7 @@ use native.Mathlib.Omega.{arith}
 use lib.Dec.{eqb}
 use lib.ListN.{length}
 use Rattle.words.specs.Tests.{Items, Within, anyBelow, none}
-use Rattle.words.proofs.Bools.{test, clash, same-test, and-intro, and-left, and-right, or-left, or-right, or-cases, or-false-right, not-intro, not-elim, ne-eqb, eqb-ne}
+use Rattle.words.proofs.Bools.{test, clash, same-test, _∙˙_, and-intro, and-left, and-right, or-left, or-right, or-cases, or-false-right, not-intro, not-elim, ne-eqb, eqb-ne}
 use Rattle.words.proofs.Tests.{any-intro, any-some, all-intro, all-at}
 use Rattle.model.specs.Algebra.{implies}
 use Rattle.model.proofs.Cuts.{implies-in, implies-out}
@@ -164,13 +164,6 @@ module _ (K : ℕ) (h : History) where
         let b = laws .bound (r .0) d j (r .1) (r .3) in
         (omega arith, b .1)
 
-    pub reaches-session : (c : Copy) (d i j : ℕ) → i < length h → So (reaches K h c d i) → j ≤ i
-        → writerOf h j ≡ writerOf h i → So (saved h d j) → So (reaches K h c d j)
-    reaches-session c d i j l p o w q =
-        let r = reaches-some c d i p in
-        let s = laws .session i d j l o w q in
-        reaches-intro c d j (r .0) (r .1) (r .2) (laws .trans (r .0) d i d j (r .1) (r .3) s)
-
     -- What the writes of issue i include of a key.
     pub good-past : (i k : ℕ) → i < length h → Good K h k (inPast K h i k)
     good-past i k l = record {
@@ -186,3 +179,11 @@ module _ (K : ℕ) (h : History) where
         (λ p.
         let w = g .writes j p in
         reaches-intro c k j j (w .0) p (laws .own j k (w .0) (w .1)))
+
+    -- A copy of a key that has a write of it has the earlier ones by the same writer.
+    pub reaches-session : (k : ℕ) (c : Copy) → Good K h k c → (i j : ℕ) → i < length h
+        → So (reaches K h c k i) → j ≤ i → writerOf h j ≡ writerOf h i → So (saved h k j)
+        → So (reaches K h c k j)
+    reaches-session k c g i j l p o w q =
+        let own = reaches-own k c g in
+        own j ∙ g .behind i j (own i ∙˙ p) (laws .session i k j l o w q)

@@ -14,7 +14,7 @@ use Rattle.words.specs.Lists.{putAt, upto, blocks}
 use Rattle.clock.specs.Clock.{exceeds, standing, present}
 use Rattle.sizes.specs.Bounds.{countsOf, between, ranged, pastSize, versionSize, placeSize, siteSize, writerSize, runSize, masterAt, sitesAt, writersAt, runsAt, tailSize, tailAt, totalOf, siteAt, staleAt}
 use Rattle.model.specs.Version.{held}
-use Rattle.model.specs.Store.{noSite, fresh, marked, withSites, withSite}
+use Rattle.model.specs.Store.{noSite, fresh, siteMarked, withSites, withSite}
 use Rattle.model.specs.Form.{zeroRows, zeroVersion, leadersFormed, versionFormed, placeFormed, zeroJob, freeFormed, runFormed, siteFormed, wellFormed}
 use Rattle.model.specs.Marks.{isStale, staleMask}
 use Rattle.masks.specs.Mask.{withBit, withIf, maskBelow}
@@ -37,8 +37,8 @@ put i x = sets right i (x ∷ [])
 -- The words of a store with marks 2 and 1.
 abbrev marks : List ℕ
 marks =
-    storeWords (withSite (withSite (fresh (countsOf 2 2 2 1)) 0 (marked noSite 2)) 1
-    (marked noSite 1))
+    storeWords (withSite (withSite (fresh (countsOf 2 2 2 1)) 0 (siteMarked noSite 2)) 1
+    (siteMarked noSite 1))
 
 -- One more, one less in a word.
 abbrev raised : ℕ → List ℕ

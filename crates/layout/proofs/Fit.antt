@@ -16,7 +16,7 @@ use Rattle.sizes.specs.declared.Counts.{Counts}
 use Rattle.model.specs.Algebra.{Place}
 use Rattle.model.specs.Version.{Version, unheld, held, larger, merge}
 use Rattle.model.specs.Marks.{isStale, staleMask}
-use Rattle.model.specs.Store.{Writer, Run, Site, Store, emptyPlace, noSite, freeRun, fresh, marked, siteWith, withLast, withMarks, withMaster, withSites, withCache, withCaches, withWriter, withRun}
+use Rattle.model.specs.Store.{Writer, Run, Site, Store, emptyPlace, noSite, freeRun, fresh, siteMarked, siteWith, withLast, withMarks, withMaster, withSites, withCache, withCaches, withWriter, withRun}
 use Rattle.model.proofs.Merges.{held-unheld, merge-cases, merge-unheld-left}
 use Rattle.layout.proofs.Codec.{FitMany}
 use Rattle.layout.proofs.Parts.{FitPast, FitVersion, FitPlace, FitSite, FitSites, FitWriter, FitRun}
@@ -140,7 +140,7 @@ unfolding siteWith staleMask isStale held
 no-marks s =
     let e : staleMask (s .counts) (s .master) emptyPlace ≡ 0 =
     mask-no (s .counts .keys) _ (λ k l. refl) in
-    λ i. marked noSite (e i)
+    λ i. siteMarked noSite (e i)
 
 -- ---- the store with one part changed
 

@@ -19,7 +19,7 @@ use Rattle.sizes.specs.Bounds.{doneOffset, snapshotOffset, placeSize, siteSize,
 use Rattle.model.specs.Algebra.{Place}
 use Rattle.model.specs.Version.{Version}
 use Rattle.model.specs.Marks.{staleMask}
-use Rattle.model.specs.Store.{Writer, Run, Site, Tail, Store, withLast, withMaster, withSites, withSite, cached, marked, siteWith, withCache, withWriter, withRun, withState, withSnapshot, withJobDone}
+use Rattle.model.specs.Store.{Writer, Run, Site, Tail, Store, withLast, withMaster, withSites, withSite, siteCached, siteMarked, siteWith, withCache, withWriter, withRun, withState, withSnapshot, withJobDone}
 use Rattle.layout.specs.Words.{headerWords, placeWords, siteWords, sitesWords, writerWords, writersWords, jobsWords, runWords, runsWords, storeWords}
 use Rattle.layout.specs.Buffer.{written}
 use Rattle.layout.specs.Reading.{storeOf}
@@ -114,7 +114,7 @@ put-twice {A} f i x y = fun-ext (λ j. last (eqb j i) j)
 
 pub put-cache : (s : Store) (l : List ℕ) (o : ℕ) (p : Place Version) → o < s .counts .sites
     → sets (written s l) (siteAt (s .counts) o) (placeWords (s .counts) p)
-    ≡ written (withSite s o (cached (s .site o) p)) l
+    ≡ written (withSite s o (siteCached (s .site o) p)) l
 unfolding siteWords siteSize
 put-cache s l o p h =
     let z = s .counts in
@@ -124,20 +124,20 @@ put-cache s l o p h =
     let new = placeWords z p in
     let e : siteAt z o ≡ siteAt z o + 0 = omega arith in
     let same : length new ≡ length (placeWords z c) = L .long p ∙ sym (L .long c) in
-    rw e (put-site-part s l o 0 new (cached x p) h (omega (arith, L .long p))
+    rw e (put-site-part s l o 0 new (siteCached x p) h (omega (arith, L .long p))
     (sets-left new (placeWords z c) (x .stale ∷ []) 0 (omega arith)
     ∙ ap (λ (t : List ℕ). t ++ (x .stale ∷ [])) (sets-all (placeWords z c) new same)))
 
 pub put-mark : (s : Store) (l : List ℕ) (o m : ℕ) → o < s .counts .sites
     → set (written s l) (staleAt (s .counts) (siteAt (s .counts) o)) m
-    ≡ written (withSite s o (marked (s .site o) m)) l
+    ≡ written (withSite s o (siteMarked (s .site o) m)) l
 unfolding siteWords siteSize
 put-mark s l o m h =
     let z = s .counts in
     let x = s .site o in
     let c = placeWords z (x .cache) in
     let long = place-laws z .long (x .cache) in
-    put-site-part s l o (placeSize z) (m ∷ []) (marked x m) h (omega arith)
+    put-site-part s l o (placeSize z) (m ∷ []) (siteMarked x m) h (omega arith)
     (ap (λ (i : ℕ). sets (c ++ (x .stale ∷ [])) i (m ∷ [])) (sym long ∙ sym (add-zero (length c)))
     ∙ sets-behind c (x .stale ∷ []) (m ∷ []) 0 (omega arith))
 
@@ -151,12 +151,13 @@ put-site s l o p h =
     let z = s .counts in
     let m = staleMask z (s .master) p in
     let x = s .site o in
-    let t = withSite s o (cached x p) in
+    let t = withSite s o (siteCached x p) in
     ap (λ (w : List ℕ). set w (staleAt z (siteAt z o)) m) (put-cache s l o p h)
     ∙ put-mark t l o m h
     ∙ ap (λ (f : ℕ → Site). written (withSites s f) l)
-    (put-twice (s .site) o (cached x p) _
-    ∙ ap (λ (y : Site). putAt (s .site) o (marked y m)) (putAt-same (s .site) o (cached x p)))
+    (put-twice (s .site) o (siteCached x p) _
+    ∙ ap (λ (y : Site). putAt (s .site) o (siteMarked y m))
+    (putAt-same (s .site) o (siteCached x p)))
 
 pub put-writer : (s : Store) (l : List ℕ) (w : ℕ) (y : Writer) → w < s .counts .writers
     → sets (written s l) (writerAt (s .counts) w) (writerWords (s .counts) y)

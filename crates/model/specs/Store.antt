@@ -146,15 +146,15 @@ abbrev pub withSite : Store → ℕ → Site → Store
 withSite s o x = withSites s (putAt (s .site) o x)
 
 -- A site with another cache, and one with another mark: its other words stay.
-abbrev pub cached : Site → Place Version → Site
-cached x p = record { cache = p; stale = x .stale }
+abbrev pub siteCached : Site → Place Version → Site
+siteCached x p = record { cache = p; stale = x .stale }
 
-abbrev pub marked : Site → ℕ → Site
-marked x m = record { cache = x .cache; stale = m }
+abbrev pub siteMarked : Site → ℕ → Site
+siteMarked x m = record { cache = x .cache; stale = m }
 
 -- The site x of a store with another cache: its mark is true.
 unfoldable pub siteWith : Store → Site → Place Version → Site
-siteWith s x p = marked (cached x p) (staleMask (s .counts) (s .master) p)
+siteWith s x p = siteMarked (siteCached x p) (staleMask (s .counts) (s .master) p)
 
 unfoldable pub withCache : Store → ℕ → Place Version → Store
 withCache s o p = withSite s o (siteWith s (s .site o) p)

@@ -27,7 +27,7 @@ use Rattle.sizes.specs.Bounds.{masterAt, siteAt}
 use Rattle.model.specs.Algebra.{Algebra, Place, everything, lacking}
 use Rattle.model.specs.Version.{Version, versions}
 use Rattle.model.specs.Sets.{draws, drawSet, fetchSet, fetched, unfetchable}
-use Rattle.model.specs.Store.{Store, marked, siteWith, withCaches, withSites, withCache}
+use Rattle.model.specs.Store.{Store, siteMarked, siteWith, withCaches, withSites, withCache}
 use Rattle.model.specs.Prepare.{jobStart, fetchReads, preparedCaches, siteCaches}
 use Rattle.model.proofs.Draws.{fetched-out}
 use Rattle.model.proofs.Formed.{well-out, formed-cache}
@@ -63,7 +63,7 @@ site-again : (s : Store) → Fine s → (o : ℕ) → siteWith s (s .site o) (s 
 unfolding siteWith
 site-again s F o =
     ⊎-elim
-    (λ h. ap (λ (m : ℕ). marked (s .site o) m) (sym (well-out s (F .formed) .mark o h)))
+    (λ h. ap (λ (m : ℕ). siteMarked (s .site o) m) (sym (well-out s (F .formed) .mark o h)))
     (marks-beyond s (F .fits) o) (below-or-not o (s .counts .sites))
 
 -- The cache of job j of run r after its fetch.

@@ -1,62 +1,78 @@
--- `compare` answers the standing of two clocks: equal if they don't differ, else by which of them
--- has a larger count.
+-- `compare` answers the standing of two clocks. The loop's invariant: whether some count passed
+-- is larger, whether some is smaller, and whether some is one of these.
 -- Assumes nothing.
-use mathlib.Core.Path.{sym, _∙_}
+use mathlib.Core.Path.{_≡_, refl, sym, ap₂, _∙_}
+use Prim.Native.Nat.{_≤_, _-_}
 use borrow.Author.Needs.{needs}
-use borrow.Author.Tests.{not-true, not-false}
-use Rattle.clock.specs.Clock.{standing, clockAt}
-use Rattle.clock.proofs.Standings.{standing-left, differing-not}
+use native.Mathlib.Omega.{arith}
+use Rattle.words.specs.Tests.{anyBelow}
+use Rattle.clock.specs.Clock.{exceeds, standingOf, standing, differing, clockAt}
+use Rattle.clock.proofs.Standings.{exceeds-more, differing-more}
 use Rattle.clock.proofs.compare.Statement.{statement}
 use Rattle.clock.proofs.compare.Tie as tie
 
-returns : tie.Need-returns
+abbrev Inv-loop : tie.InvT-loop
+Inv-loop p a q b w unequal₀ over₀ under₀ i₀ unequal over under i =
+    let c = clockAt p a in
+    let d = clockAt q b in
+    (i ≤ w) × (over ≡ exceeds i c d) × (under ≡ exceeds i d c)
+    × (unequal ≡ differing (standingOf over under))
+
+abbrev μ-loop : tie.MeasureT-loop
+μ-loop p a q b w unequal₀ over₀ under₀ i₀ unequal over under i = w - i
+
+loop-holds : tie.Need-loop-holds Inv-loop μ-loop
+unfolding exceeds anyBelow
+loop-holds c = (omega arith, refl, refl, refl)
+
+loop-again : tie.Need-loop-again Inv-loop μ-loop
+unfolding clockAt
+loop-again c =
+    let o = c .before in
+    let u = o .before in
+    let y = u .before in
+    let x = y .before in
+    let l = x .before .before in
+    let a = l .before .before .before .args in
+    let p = clockAt (a .p .now) (a .a) in
+    let q = clockAt (a .q .now) (a .b) in
+    let i = l .loop .i in
+    let m = x .count-at .ensures in
+    let n = y .count-at2 .ensures in (
+      omega arith,
+      rw (exceeds-more p q i, ← l .loop .inv .1, o .exceeds .ensures, m, n),
+      rw (exceeds-more q p i, ← l .loop .inv .2, c .exceeds2 .ensures, m, n),
+      rw (o .exceeds .ensures, c .exceeds2 .ensures, u .equals .ensures, m, n, l .loop .inv .3)
+          (sym (differing-more (l .loop .over) (l .loop .under) (p i) (q i))),
+    )
+
+standing-of-requires : tie.Need-standing-of-requires Inv-loop μ-loop
+standing-of-requires c κs = c .before .loop .inv .3
+
+returns : tie.Need-returns Inv-loop μ-loop
+unfolding standing
 returns c =
-    let d = c .before in
-    let a = d .before .before .before .args in
-    let p = clockAt (a .p .now) (a .a) in
-    let q = clockAt (a .q .now) (a .b) in
-    let e = sym (d .differs .ensures) ∙ not-true _ (c .if1 .taken) in
-    sym (differing-not (standing (a .w) p q) e)
-
-returns-2 : tie.Need-returns-2
-returns-2 c =
-    let u = c .before in
-    let l = u .before in
-    let d = l .before in
-    let a = d .before .before .before .args in
-    let p = clockAt (a .p .now) (a .a) in
-    let q = clockAt (a .q .now) (a .b) in
-    sym (standing-left (a .w) p q (sym (d .differs .ensures) ∙ not-false _ (l .if1 .left))
-    (sym (u .exceeds .ensures) ∙ not-true _ (c .if2 .taken)))
-
-returns-3 : tie.Need-returns-3
-unfolding standing
-returns-3 c =
-    let o = c .before in
-    let l = o .before in
-    rw (
-      sym (o .exceeds2 .ensures) ∙ c .if3 .taken,
-      sym (l .before .exceeds .ensures) ∙ not-false _ (l .if2 .left),
-    )
-
-returns-4 : tie.Need-returns-4
-unfolding standing
-returns-4 c =
-    let o = c .before in
-    let l = o .before in
-    rw (
-      sym (o .exceeds2 .ensures) ∙ c .if3 .left,
-      sym (l .before .exceeds .ensures) ∙ not-false _ (l .if2 .left),
-    )
+    let l = c .before .before in
+    let a = l .before .before .before .args in
+    let e : l .loop .i ≡ a .w = omega arith in
+    rw (← e) (c .standing-of .ensures ∙ ap₂ standingOf (l .loop .inv .1) (l .loop .inv .2))
 
 pub compare-spec : {M : Type 1} → statement M
 compare-spec =
     tie.close
     (tie.spec
+    Inv-loop
+    μ-loop
+    loop-holds
+    (λ c. omega arith)
+    (λ c κs. omega arith)
+    (λ c. omega arith)
+    (λ c κs. omega arith)
     (λ c κs. search needs)
-    returns
     (λ c κs. search needs)
-    returns-2
     (λ c κs. search needs)
-    returns-3
-    returns-4)
+    (λ c. omega arith)
+    (λ c. omega arith)
+    loop-again
+    standing-of-requires
+    returns)

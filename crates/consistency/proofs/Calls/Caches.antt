@@ -18,14 +18,14 @@ use Rattle.model.proofs.Outcomes.{no-cause}
 use Rattle.layout.proofs.Follow.{Fine}
 use Rattle.history.specs.Copies.{Copy, copies}
 use Rattle.history.specs.Book.{Book, bookFetch, bookEvict, bookRule, withBookCaches}
-use Rattle.history.proofs.Notions.{ClosedAll}
 use Rattle.consistency.specs.Roles.{roleOf}
 use Rattle.consistency.specs.Trace.{ReadSet, finishBy, finish}
 use Rattle.consistency.proofs.Simulation.{Related, fetched-rel, evicted-rel}
+use Rattle.consistency.proofs.Closing.{ClosedAll}
 use Rattle.consistency.proofs.ClosingSets.{fetched-closed, evicted-closed}
 use Rattle.consistency.proofs.Invariant.{Inv}
 use Rattle.consistency.proofs.Laws.{Laws, laws-unless}
-use Rattle.consistency.proofs.Following.{Stands, by-counts, now-simulates, master-closed, master-related, cache-related, cache-part}
+use Rattle.consistency.proofs.Following.{Stands, by-counts, now-simulates, now-laws, master-closed, master-related, cache-related, cache-part}
 use Rattle.consistency.proofs.Changing.{inv-cache}
 
 -- Cache o changed, in the book by a rule that takes the counts.
@@ -54,7 +54,7 @@ fetch-laws o k s _ =
           (only k))
           v (fetched-rel (now-simulates F) (s .master) (s .site o .cache) (b .master) (b .cache o)
           (only k) (only k) (master-related F) (cache-related F o l) (λ _ _. refl))
-          (fetched-closed K (b .history) (b .master) (b .cache o) (only k) (cache-part F o l)
+          (fetched-closed (now-laws F) K (b .master) (b .cache o) (only k) (cache-part F o l)
           (master-closed F) (F .closed o l));
       turns = refl;
     })
@@ -72,6 +72,6 @@ evict-laws o k s _ =
           (λ z. evicted (copies (z .keys) (b .history)) (z .keys) (b .cache o) (only k)) v
           (evicted-rel (now-simulates F) (s .site o .cache) (b .cache o) (only k) (only k)
           (cache-related F o l) (λ _ _. refl))
-          (evicted-closed K (b .history) (b .cache o) (only k) (F .closed o l));
+          (evicted-closed (now-laws F) K (b .cache o) (only k) (F .closed o l));
       turns = refl;
     })

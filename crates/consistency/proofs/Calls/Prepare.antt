@@ -19,16 +19,16 @@ use Rattle.layout.proofs.Rules.Prepare.{Accepted, accepted, was, unread}
 use Rattle.layout.proofs.Follow.{Fine}
 use Rattle.history.specs.Copies.{Copy, copies}
 use Rattle.history.specs.Book.{Book, BookRun, bookPrepare, bookRule, withBookRun, withBookCaches}
-use Rattle.history.proofs.Notions.{ClosedIn}
 use Rattle.consistency.specs.Roles.{roleOf}
 use Rattle.consistency.specs.Trace.{ReadSet, finishBy, finish}
 use Rattle.consistency.specs.Claim.{Named}
 use Rattle.consistency.proofs.Simulation.{Related}
 use Rattle.consistency.proofs.SimulationPrepare.{SitesBelow, RelatedSites, preparedCaches-rel, sitesMerged-rel}
+use Rattle.consistency.proofs.Closing.{bookSaves, ClosedIn}
 use Rattle.consistency.proofs.ClosingPrepare.{CutsWithin, sitesMerged-closed, preparedCaches-cuts}
 use Rattle.consistency.proofs.Invariant.{RunFollows, Follows, Inv, Moves}
 use Rattle.consistency.proofs.Laws.{works, Laws, laws-unless}
-use Rattle.consistency.proofs.Following.{Stands, now-simulates, now-named, master-closed, master-related, cache-related, cache-part}
+use Rattle.consistency.proofs.Following.{Stands, now-simulates, now-laws, now-named, master-closed, master-related, cache-related, cache-part}
 use Rattle.consistency.proofs.Changing.{HasRead, inv-caches, inv-run}
 
 -- ---- the book's caches and run r after prepare, with the store's counts and jobs
@@ -75,11 +75,11 @@ module _ {s : Store} {b : Book} {r : ℕ} (fine : Fine s) (F : Follows s b) (A :
       (a .job) (master-related F) (a .jobs) (siteCaches s) (b .cache) (λ _ _. refl) at-sites
       (cache-related F)
 
-  caches-cuts : CutsWithin (s .counts .keys) (b .history) (s .counts .sites) (b .master)
-      (copyCaches s b r)
+  caches-cuts : CutsWithin (bookSaves (s .counts .keys) (b .history)) (s .counts .keys)
+      (s .counts .sites) (b .master) (copyCaches s b r)
   unfolding copyCaches
   caches-cuts =
-      preparedCaches-cuts (s .counts .keys) (b .history) (s .counts .sites) (b .master)
+      preparedCaches-cuts (now-laws F) (s .counts .keys) (s .counts .sites) (b .master)
       (master-closed F) (s .run r .job) (s .run r .jobs) (b .cache)
       (λ o l. (F .closed o l, cache-part F o l))
 
@@ -117,7 +117,7 @@ module _ {s : Store} {b : Book} {r : ℕ} (fine : Fine s) (F : Follows s b) (A :
   unfolding copySnapshot
   snapshot-closed =
       let a = s .run r in
-      sitesMerged-closed (s .counts .keys) (b .history) (usesSite (a .jobs) (a .job))
+      sitesMerged-closed (now-laws F) (s .counts .keys) (usesSite (a .jobs) (a .job))
       (planned (a .jobs) (a .job)) (copyCaches s b r) (s .counts .sites)
       (λ o l. caches-cuts o l .0)
 

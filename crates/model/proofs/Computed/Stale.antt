@@ -9,7 +9,7 @@ use Prim.Native.Nat.{ℕ}
 use Rattle.sizes.specs.Bounds.{countsOf}
 use Rattle.model.specs.Algebra.{Place}
 use Rattle.model.specs.Version.{Version, zeroPast, unheld}
-use Rattle.model.specs.Store.{Store, noSite, noBranch, noJobs, fresh, cached, marked, withLast, withMaster, withSite, withCache, withWriter, withRun}
+use Rattle.model.specs.Store.{Store, noSite, noBranch, noJobs, fresh, siteCached, siteMarked, withLast, withMaster, withSite, withCache, withWriter, withRun}
 use Rattle.model.specs.Form.{wellFormed}
 use Rattle.model.specs.Calls.{StoreCall, openRun, fetch, evict, prepare, step, issue, ask, look, explain, stale}
 use Rattle.model.proofs.Scripts.{answers, ok₁, ok₃, broke, not-taken, seen}
@@ -135,7 +135,7 @@ taken m =
     let v = version 1 ((1 ∷ 0 ∷ []) ∷ []) in
     let w = version 1 ([] ∷ (1 ∷ 0 ∷ []) ∷ []) in
     let s = withMaster (fresh (countsOf 2 2 2 1)) (place (v ∷ [])) in
-    wellFormed (withSite s 1 (marked (cached noSite (place (v ∷ w ∷ []))) m))
+    wellFormed (withSite s 1 (siteMarked (siteCached noSite (place (v ∷ w ∷ []))) m))
 
 abbrev pub unmarked : List Bool
 unmarked =
