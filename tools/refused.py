@@ -13,8 +13,9 @@ FUNCTION = re.compile(r"^( *)(?:pub )?(?:extern \"C\" )?fn (\w+)")
 METHODS = re.compile(r"^impl (\w+) \{")
 PROOF_ERROR = re.compile(r"^\S*?/proofs/(\S+)/Proof\.antt:\d+:\d+: error: (.*)")
 UNPROVED = re.compile(r"^note: \S*?/(src/\S+?\.rt):(\d+):\d+: it is not proved that ")
-# What a proof file is told when the function's callee has no proof, or when its questions are other ones.
-FOLLOWS = re.compile(r"was not admitted|has no `Need-|expected type `tie\.Need-")
+# What a proof file is told when the function's callee has no proof, when its questions are other ones, or when a rewriting
+# finds no place in them, which doesn't say what is lost.
+FOLLOWS = re.compile(r"was not admitted|has no `Need-|expected type `tie\.Need-|`rw`: no occurrence")
 
 
 def read(path):

@@ -10,7 +10,7 @@ returns c =
     let m = c .before .before .before .before .before .before in
     let s = m .before .before .before .before .before .before in
     let e = m .make .ensures in
-    rw (c .before .wide .ensures) (e, rw (s .pre .0) (made-form _ _ _ _ _ _ e))
+    rw (c .before .wide .ensures) (e, rw (← s .pre .0) at (made-form _ _ _ _ _ _ e))
 
 pub perform-spec : {M : Type 1} → statement M
 perform-spec =

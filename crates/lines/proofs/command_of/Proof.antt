@@ -2,7 +2,13 @@
 -- Assumes nothing.
 use native.Mathlib.Omega.{arith}
 use borrow.Author.Needs.{needs}
-use mathlib.Core.Path.{refl}
+use mathlib.Core.Path.{refl, ap}
+use mathlib.Core.List.{List}
+use mathlib.Core.Option.{some}
+use Prim.Native.Nat.{ℕ}
+use lib.ListN.{getD, take}
+use Rattle.model.specs.Calls.{openRun}
+use Rattle.layout.specs.Calls.{on}
 use Rattle.lines.specs.Grammar.{formAt, calling}
 use Rattle.lines.proofs.Tables.{next, some-number, rest-first}
 use Rattle.lines.proofs.command_of.Statement.{statement}
@@ -29,7 +35,8 @@ returns-2 c =
     let p = some-number (c .match .keys2) (s .pre .0) in
     let a = c .before .before .before .before .number-at .ensures in
     let r = rest-first (s .args .numbers .now) (s .args .n) p in
-    (rw (c .match .keys2, a, r), omega (arith, p))
+    let run = getD (take (s .args .n) (s .args .numbers .now)) 0 0 in
+    (rw (c .match .keys2, a) (ap (λ (t : List ℕ). some (on (openRun run t))) r), omega (arith, p))
 
 returns-3 : tie.Need-returns-3
 unfolding calling formAt

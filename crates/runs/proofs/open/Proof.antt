@@ -75,9 +75,9 @@ returns-2 c =
     let n = e .before .before .before in
     let l = start e .args .words .now in
     let jobs = start e .args .jobs .now in
-    rw (← n .before .before .wide .ensures, put .0)
-    (open-done l (counted e) _ jobs _ (holds e) (free e)
-    (put .1 ∙ ap (λ (k : ℕ). putJobs l k jobs) (p .run-at .ensures)))
+    let done = open-done l (counted e) _ jobs _ (holds e) (free e)
+    (put .1 ∙ ap (λ (k : ℕ). putJobs l k jobs) (p .run-at .ensures)) in
+    rw (← n .before .before .wide .ensures) (rw (← put .0) at done)
 
 pub open-spec : {M : Type 1} → statement M
 open-spec =

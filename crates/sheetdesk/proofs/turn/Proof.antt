@@ -60,7 +60,7 @@ returns c =
     let z : g .got .result - 0 ≡ i .result .got = omega (arith, n) in (
       k .0 .0 ∙ f .feed .ensures .0,
       (
-        rw (x, y, k .0 .1, o .1) (rw z at (f .feed .ensures .1 .0)),
+        rw (x, y, k .0 .1, o .1, ← z) (f .feed .ensures .1 .0),
         (
           (rw x (i .ensures), rw y (o .0)),
           (rw (x, y, o .1) (omega (arith, e, z, f .feed .ensures)), rw (x, y) (k .1 .1)),

@@ -1,19 +1,27 @@
 -- `meets` tests that a version is held and that its own row dominates what is needed.
 -- Assumes nothing.
-use mathlib.Core.Path.{sym, _∙_}
+use mathlib.Core.Path.{sym, ap, ap₂, _∙_}
+use mathlib.Core.Bool.{not}
+use Prim.Native.Nat.{ℕ}
 use borrow.Author.Needs.{needs}
 use native.Mathlib.Omega.{arith}
-use borrow.Author.Tests.{not-true, not-false}
 use lib.ListN.{length}
-use Rattle.clock.specs.Clock.{dominates}
-use Rattle.model.specs.Version.{supersedes}
+use Rattle.words.proofs.Bools.{first-fails, first-passes}
+use Rattle.clock.specs.declared.Standing.{Standing}
+use Rattle.clock.specs.Clock.{standing, covering, dominates, clockAt}
+use Rattle.model.specs.Version.{held, supersedes}
+use Rattle.layout.specs.Reading.{readPlace}
 use Rattle.version.proofs.Areas.{row-in, standing-word}
 use Rattle.version.proofs.meets.Statement.{statement}
 use Rattle.version.proofs.meets.Tie as tie
 
 returns : tie.Need-returns
 unfolding supersedes
-returns c = rw (sym (c .before .held .ensures) ∙ not-true _ (c .if1 .taken))
+returns c =
+    let h = c .before in
+    let a = h .before .before .args in
+    first-fails (held (readPlace (a .z) (a .words .now) (a .target) (a .d))) _
+    (sym (ap not (h .held .ensures)) ∙ c .if1 .taken)
 
 compare-requires : tie.Need-compare-requires
 compare-requires c κs =
@@ -33,15 +41,15 @@ returns-2 c =
     let s = b .before .before .before .before in
     let a = s .args in
     let d = s .pre .1 .0 in
-    rw (
-      sym (b .before .before .held .ensures) ∙ not-false _ (b .before .if1 .left),
-      standing-word (a .z) (a .words .now) (a .target) (a .d) (a .source) (a .t) (a .d) d
-          (s .pre .1 .1) d,
-      ← b .row-of .ensures,
-      ← m .before .row-of2 .ensures,
-      ← m .compare .ensures,
-    )
-    (c .covering .ensures)
+    let l = a .words .now in
+    let at : ℕ → ℕ → Standing = λ x y. standing (a .z .writers) (clockAt l x) (clockAt l y) in
+    let rows = ap₂ at (b .row-of .ensures) (m .before .row-of2 .ensures) in
+    let read = standing-word (a .z) l (a .target) (a .d) (a .source) (a .t) (a .d) d
+    (s .pre .1 .1) d in
+    c .covering .ensures
+    ∙ ap covering (m .compare .ensures ∙ rows ∙ sym read)
+    ∙ first-passes (held (readPlace (a .z) l (a .target) (a .d))) _
+    (sym (ap not (b .before .before .held .ensures)) ∙ b .before .if1 .left)
 
 pub meets-spec : {M : Type 1} → statement M
 meets-spec =

@@ -6,6 +6,7 @@ use native.Mathlib.Omega.{arith}
 use lib.ListN.{length}
 use Rattle.words.specs.Numbers.{foldBelow}
 use Rattle.words.proofs.Numbers.{fold-more}
+use Rattle.sizes.specs.Bounds.{siteAt}
 use Rattle.version.proofs.Stores.{site-whole}
 use Rattle.issue.specs.Saves.{markAt}
 use Rattle.issue.proofs.marks.mark_sites.Statement.{statement}
@@ -39,10 +40,12 @@ loop-again : tie.Need-loop-again Inv-loop μ-loop
 loop-again c =
     let b = c .before .before in
     let m = b .before .before in
-    let l = m .before .before in (
+    let l = m .before .before in
+    let at : m .site-at .result ≡ siteAt (l .before .before .args .z) (l .loop .o) =
+    m .site-at .ensures in (
       omega arith,
       b .mark-site .kept .0 ∙ l .loop .inv .1,
-      rw (fold-more, ← l .loop .inv .2, ← m .site-at .ensures) (b .mark-site .ensures),
+      rw (fold-more, ← l .loop .inv .2, ← at) (b .mark-site .ensures),
     )
 
 returns : tie.Need-returns Inv-loop μ-loop

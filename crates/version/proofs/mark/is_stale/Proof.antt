@@ -1,18 +1,28 @@
 -- `is_stale` tests that a version is held and that its own row isn't the master's.
 -- Assumes nothing.
-use mathlib.Core.Path.{sym, _∙_}
+use mathlib.Core.Path.{sym, ap, ap₂, _∙_}
+use mathlib.Core.Bool.{not}
+use Prim.Native.Nat.{ℕ}
 use borrow.Author.Needs.{needs}
 use native.Mathlib.Omega.{arith}
-use borrow.Author.Tests.{not-true, not-false}
 use lib.ListN.{length}
+use Rattle.words.proofs.Bools.{first-fails, first-passes}
+use Rattle.clock.specs.declared.Standing.{Standing}
+use Rattle.clock.specs.Clock.{standing, differing, clockAt}
+use Rattle.model.specs.Version.{held}
 use Rattle.model.specs.Marks.{isStale}
+use Rattle.layout.specs.Reading.{readPlace}
 use Rattle.version.proofs.Areas.{row-in, standing-word}
 use Rattle.version.proofs.mark.is_stale.Statement.{statement}
 use Rattle.version.proofs.mark.is_stale.Tie as tie
 
 returns : tie.Need-returns
 unfolding isStale
-returns c = rw (sym (c .before .held .ensures) ∙ not-true _ (c .if1 .taken))
+returns c =
+    let h = c .before in
+    let a = h .before .before .args in
+    first-fails (held (readPlace (a .z) (a .words .now) (a .cache) (a .k))) _
+    (sym (ap not (h .held .ensures)) ∙ c .if1 .taken)
 
 compare-requires : tie.Need-compare-requires
 compare-requires c κs =
@@ -32,14 +42,14 @@ returns-2 c =
     let s = b .before .before .before .before in
     let a = s .args in
     let k = s .pre .1 in
-    rw (
-      sym (b .before .before .held .ensures) ∙ not-false _ (b .before .if1 .left),
-      standing-word (a .z) (a .words .now) (a .cache) (a .k) (a .master) (a .k) (a .k) k k k,
-      ← b .row-of .ensures,
-      ← m .before .row-of2 .ensures,
-      ← m .compare .ensures,
-    )
-    (c .differing .ensures)
+    let l = a .words .now in
+    let at : ℕ → ℕ → Standing = λ x y. standing (a .z .writers) (clockAt l x) (clockAt l y) in
+    let rows = ap₂ at (b .row-of .ensures) (m .before .row-of2 .ensures) in
+    let read = standing-word (a .z) l (a .cache) (a .k) (a .master) (a .k) (a .k) k k k in
+    c .differing .ensures
+    ∙ ap differing (m .compare .ensures ∙ rows ∙ sym read)
+    ∙ first-passes (held (readPlace (a .z) l (a .cache) (a .k))) _
+    (sym (ap not (b .before .before .held .ensures)) ∙ b .before .if1 .left)
 
 pub is-stale-spec : {M : Type 1} → statement M
 is-stale-spec =

@@ -1,8 +1,8 @@
 -- `merge_held` finds who leads, stores it behind the larger number, then the larger counts.
 -- Assumes nothing.
-use mathlib.Core.Path.{_≡_, _∙_}
+use mathlib.Core.Path.{_≡_, ap, _∙_}
 use mathlib.Core.Logic.{inl, inr, ⊎-elim}
-use Prim.Native.Nat.{_+_, max}
+use Prim.Native.Nat.{ℕ, _+_, max}
 use borrow.Author.Needs.{needs}
 use native.Mathlib.Omega.{arith}
 use lib.ListN.{length, getD, set, length-set}
@@ -94,9 +94,11 @@ returns c =
     (clockAt l (rowAt (a .z) (a .dst) (a .k))) (a .leaders)
     (clockAt l (pastRowAt (a .z) (a .past) (a .k))) =
     rw (← w .row-at .ensures, ← q .past-row-at .ensures) (m .merged-leaders .ensures) in
+    let number : ℕ → ℕ = λ n. max n (a .number .0) in
+    let later = g .later .ensures ∙ ap number (v .version-issue .ensures) in
     let stored : i .set-version-issue .last .0
     ≡ set l (a .dst) (max (getD l (a .dst) 0) (a .number .0)) =
-    rw (← v .version-issue .ensures, ← g .later .ensures) (i .set-version-issue .ensures) in
+    i .set-version-issue .ensures ∙ ap (set l (a .dst)) later in
     (rw (r .row-at2 .ensures ∙ row-first _ _, stored, lead) at (p .merge-past .ensures))
     ∙ merge-version (a .z) (a .k) l (a .dst) (a .number .0) (a .leaders) (a .past) (s .pre .1)
     (s .pre .0 .apart)
