@@ -1,7 +1,7 @@
 #!/usr/bin/env python3
 """Holds the logs of `rt must-fail` to the edits. rt wants a crate with an edit refused; where one edit plants faults in several
 functions, each of them must be refused, and for a fact of its own: a function that isn't proved only because it calls
-one that isn't doesn't count, nor does a proof that only fits no more. Usage, after `rt must-fail` or `rt ci`:
+one that isn't doesn't count, nor does a proof that only fits no more or a rewriting that finds no place. Usage, after `rt must-fail` or `rt ci`:
 tools/refused.py [CRATE/LABEL..]. Prints what isn't so and exits 1, or says how many faults there are."""
 import glob
 import os

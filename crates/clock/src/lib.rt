@@ -72,8 +72,8 @@ fn standing_of(unequal: bool, over: bool, under: bool) -> Standing
 }
 
 // How the clock at a in p stands against the clock at b in q, of w counts. The two may be lent
-// from one buffer. Whether they differ is asked for itself: a caller that asks for no more then
-// doesn't pay for the rest.
+// from one buffer. Whether some count differs follows from the other two, and is kept beside them
+// all the same: where a caller asks for that alone the compiler drops the others.
 pub fn compare(p: &[u32], a: usize, q: &[u32], b: usize, w: usize) -> Standing
     requires { ⌜ (a + w ≤ length (now p)) × (b + w ≤ length (now q)) ⌝ }
     ensures { λ r. ⌜ r ≡ standing w (clockAt (now (p .entry)) a) (clockAt (now (q .entry)) b) ⌝ }

@@ -1,6 +1,6 @@
 -- Cuts on the book's copies, and that they stay cuts as the history grows.
--- bookSaves, copy-laws: a write is told by its issue. PartOf: a place within another. ClosedIn,
--- ClosedAll: cuts. closed-grow: one issue more. every-..: of all writes.
+-- bookWrites, copy-laws: a write is told by its issue. ClosedIn, ClosedAll: cuts. closed-grow: one
+-- issue more. every-..: of all writes.
 -- Assumes nothing.
 use mathlib.Core.Path.{refl}
 use mathlib.Core.Bool.{So, false≢true}
@@ -18,30 +18,28 @@ use Rattle.history.proofs.Notions.{PastLaws, Good}
 use Rattle.history.proofs.Past.{saved-low, past-low, past-laws}
 use Rattle.history.proofs.Reached.{reaches-some, reaches-saved, reaches-union, copy-held, copy-needs, copy-meets, good-none, good-union}
 use Rattle.history.proofs.Grown.{reaches-grow}
-use Rattle.consistency.proofs.CopyLaws.{Saves, CopyLaws, CopyCut}
+use Rattle.consistency.proofs.CopyLaws.{Writes, CopyLaws, CopyCut, PartIn}
 
 -- ---- the book's copies
 
-abbrev pub bookSaves : ℕ → History → Saves Copy
-bookSaves K h = record {
-  Save = ℕ;
+abbrev pub bookWrites : ℕ → History → Writes Copy
+bookWrites K h = record {
+  Write = ℕ;
   good = Good K h;
   includes = λ k c i. So (c i);
   behind = λ d c j. So (reaches K h c d j);
 }
 
-pub copy-laws : (K : ℕ) (h : History) → CopyLaws (copies K h) (bookSaves K h)
+pub copy-laws : (K : ℕ) (h : History) → CopyLaws (copies K h) (bookWrites K h)
 unfolding union
 copy-laws K h = record {
   held = λ k c g. (
     λ y. let r = copy-held K h c .0 y in (r .0, r .2),
     λ r. copy-held K h c .1 (r .0, g .writes (r .0) (r .1) .0, r .1),
   );
-  leads = λ k d c j _ y. let r = reaches-some K h c d j y in copy-held K h c .1 (r .0, r .1, r .2);
-  needs = λ k d c. (
-    λ y. let r = copy-needs K h k c d .0 y in (r .0, r .1, r .3),
-    λ r. copy-needs K h k c d .1 (r .0, r .1, low d c (r .1) (r .2), r .2),
-  );
+  behind-held = λ k d c j _ y.
+      let r = reaches-some K h c d j y in copy-held K h c .1 (r .0, r .1, r .2);
+  needs = λ k d c j n y. copy-needs K h k c d .1 (n, j, low d c j y, y);
   meets = λ d b c. (
     λ y j r. copy-meets K h d b c .0 y j (low d c j r) r,
     λ f. copy-meets K h d b c .1 (λ j _ r. f j r),
@@ -62,12 +60,9 @@ copy-laws K h = record {
     either a b i (inl p) = or-left (b i) p
     either a b i (inr p) = or-right (a i) p
 
--- Below K, every write in p is in q.
-abbrev pub PartOf : ℕ → Place Copy → Place Copy → Type 0
-PartOf K p q = (d i : ℕ) → d < K → So (p d i) → So (q d i)
-
+-- A cut on copies, within a scope of keys.
 abbrev pub ClosedIn : ℕ → History → Items → Place Copy → Type 0
-ClosedIn K h scope p = CopyCut (bookSaves K h) K scope p
+ClosedIn K h scope p = CopyCut (bookWrites K h) K scope p
 
 -- A causal cut on copies.
 abbrev pub ClosedAll : ℕ → History → Place Copy → Type 0
@@ -95,7 +90,8 @@ closed-grow {K} {h} {scope} {p} c e = record {
 
 module _ {K : ℕ} {h : History} {m : Place Copy}
     (all : (d i : ℕ) → d < K → So (saved h d i) → So (m d i)) where
-  pub every-part : {scope : Items} {p : Place Copy} → ClosedIn K h scope p → PartOf K p m
+  pub every-part : {scope : Items} {p : Place Copy} → ClosedIn K h scope p
+      → PartIn (bookWrites K h) K p m
   every-part c d i l q = all d i l (c .good d l .writes i q .1)
 
   pub every-closed : PastLaws K h

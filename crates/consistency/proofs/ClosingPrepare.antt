@@ -17,15 +17,15 @@ use Rattle.words.proofs.Numbers.{fold-keeps}
 use Rattle.model.specs.Algebra.{Algebra, Place, everything}
 use Rattle.model.specs.Store.{Job}
 use Rattle.model.specs.Prepare.{jobStart, fetchReads, preparedCaches, sitesMerged}
-use Rattle.consistency.proofs.CopyLaws.{Saves, CopyLaws, CopyCut, PartIn}
+use Rattle.consistency.proofs.CopyLaws.{Writes, CopyLaws, CopyCut, PartIn}
 use Rattle.consistency.proofs.ClosingSets.{fetched-part, fetched-closed}
 
 -- Of every site below N the cache is a cut, within the master.
-abbrev pub CutsWithin : {A : Type 0} → Saves A → ℕ → ℕ → Place A → (ℕ → Place A) → Type 0
+abbrev pub CutsWithin : {A : Type 0} → Writes A → ℕ → ℕ → Place A → (ℕ → Place A) → Type 0
 CutsWithin S K N master f =
     (o : ℕ) → o < N → CopyCut S K everything (f o) × PartIn S K (f o) master
 
-module _ {A : Type 0} {alg : Algebra A} {S : Saves A} (L : CopyLaws alg S) (K : ℕ) where
+module _ {A : Type 0} {alg : Algebra A} {S : Writes A} (L : CopyLaws alg S) (K : ℕ) where
   -- ---- the merge of the caches of some sites, cut down to the plan
 
   module _ (sites plan : Items) (cache : ℕ → Place A) where
@@ -56,19 +56,19 @@ module _ {A : Type 0} {alg : Algebra A} {S : Saves A} (L : CopyLaws alg S) (K : 
         ])
         (λ y. one-more P n k (merged-one k P never split n (rw y at p)))
 
-    merged-from : (N k : ℕ) (x : S .Save) → S .includes k (merged N k) x
+    merged-from : (N k : ℕ) (x : S .Write) → S .includes k (merged N k) x
         → OnSite (λ a. S .includes k a x) N k
     merged-from N k x =
         merged-one k (λ a. S .includes k a x) (L .nothing-in k x)
         (λ a b. L .merge-in k a b x .0) N
 
-    merged-behind : (N k d : ℕ) (x : S .Save) → S .behind d (merged N k) x
+    merged-behind : (N k d : ℕ) (x : S .Write) → S .behind d (merged N k) x
         → OnSite (λ a. S .behind d a x) N k
     merged-behind N k d x =
         merged-one k (λ a. S .behind d a x) (L .nothing-behind d x)
         (λ a b. L .merge-behind k d a b x) N
 
-    merged-has : (N o k : ℕ) (x : S .Save) → o < N → So (sites o) → So (plan k)
+    merged-has : (N o k : ℕ) (x : S .Write) → o < N → So (sites o) → So (plan k)
         → S .includes k (cache o k) x → S .includes k (merged N k) x
     unfolding sitesMerged foldBelow
     merged-has (suc n) o k x l s p q =
@@ -104,7 +104,7 @@ module _ {A : Type 0} {alg : Algebra A} {S : Saves A} (L : CopyLaws alg S) (K : 
   -- ---- the caches after the fetches of jobs
 
   module _ (N : ℕ) (master : Place A) (cm : CopyCut S K everything master) (job : ℕ → Job) where
-    pub fetchReads-cuts : (j : ℕ) (f : ℕ → Place A) → CutsWithin S K N master f
+    fetchReads-cuts : (j : ℕ) (f : ℕ → Place A) → CutsWithin S K N master f
         → CutsWithin S K N master (fetchReads alg K master job j f)
     unfolding fetchReads putAt
     fetchReads-cuts j f c o l =

@@ -12,19 +12,19 @@ use Rattle.reach.proofs.Closures.{closure-closed}
 use Rattle.model.specs.Algebra.{Algebra, Place, everything, lacking}
 use Rattle.model.specs.Sets.{drawSet, fetchSet, fetched, evictSet, evicted, pullSet, pulled}
 use Rattle.model.proofs.Draws.{drawSet-closed, fetched-in, fetched-out, evicted-in, evicted-out, pullSet-plan, pulled-cases, pulled-in, pulled-out}
-use Rattle.consistency.proofs.CopyLaws.{Saves, CopyLaws, CopyCut, PartIn}
+use Rattle.consistency.proofs.CopyLaws.{Writes, CopyLaws, CopyCut, PartIn}
 
-module _ {A : Type 0} {alg : Algebra A} {S : Saves A} (L : CopyLaws alg S) (K : ℕ) where
+module _ {A : Type 0} {alg : Algebra A} {S : Writes A} (L : CopyLaws alg S) (K : ℕ) where
   -- ---- T and C: what a member of the set needs
 
   -- Of a key of the scope that is no member, the target has what a member needs.
   drawn-met : (scope : Items) (target source : Place A) (start : Items)
-      → CopyCut S K everything source → (k d : ℕ) (x : S .Save) → k < K → d < K → So (scope d)
+      → CopyCut S K everything source → (k d : ℕ) (x : S .Write) → k < K → d < K → So (scope d)
       → So (drawSet alg K scope target source start k)
       → drawSet alg K scope target source start d ≡ false
       → S .behind d (source k) x → S .includes d (target d) x
   drawn-met scope target source start c k d x lk ld s ik od y =
-      let n = L .needs k d (source k) .1 ((λ e. clash (rw e ik) od), x, y) in
+      let n = L .needs k d (source k) x (λ e. clash (rw e ik) od) y in
       let held = L .held d (source d) (c .good d ld) .1 (x, c .closed k d x lk ld refl y) in
       elim (drawSet-closed alg K scope target source start k d lk ld ik s n held) [
         | inl met ↦ L .meets d (target d) (source k) .0 met x y
@@ -45,7 +45,7 @@ module _ {A : Type 0} {alg : Algebra A} {S : Saves A} (L : CopyLaws alg S) (K : 
         test (T d) (λ y. rw (fetched-in alg K master cache start d y) at p)
         (λ n. part d x l (rw (fetched-out alg K master cache start d n) at p))
 
-    pub fetched-grows : PartIn S K cache after
+    fetched-grows : PartIn S K cache after
     fetched-grows d x l p =
         test (T d) (λ y. rw (fetched-in alg K master cache start d y) (part d x l p))
         (λ n. rw (fetched-out alg K master cache start d n) p)
@@ -61,7 +61,7 @@ module _ {A : Type 0} {alg : Algebra A} {S : Saves A} (L : CopyLaws alg S) (K : 
       closed = closed;
     }
       where
-        closed : (k d : ℕ) (x : S .Save) → k < K → d < K → So (everything d)
+        closed : (k d : ℕ) (x : S .Write) → k < K → d < K → So (everything d)
             → S .behind d (after k) x → S .includes d (after d) x
         closed k d x lk ld s y =
             test (T k)
@@ -84,7 +84,7 @@ module _ {A : Type 0} {alg : Algebra A} {S : Saves A} (L : CopyLaws alg S) (K : 
     E = evictSet alg K cache start
 
     -- What stands behind something that is left: its key stays.
-    left : (k d : ℕ) (x : S .Save) → S .behind d (evicted alg K cache start k) x
+    left : (k d : ℕ) (x : S .Write) → S .behind d (evicted alg K cache start k) x
         → (E k ≡ false) × S .behind d (cache k) x
     left k d x p =
         test (E k)
@@ -92,14 +92,14 @@ module _ {A : Type 0} {alg : Algebra A} {S : Saves A} (L : CopyLaws alg S) (K : 
         (λ n. (n, rw (evicted-out alg K cache start k n) at p))
 
     -- A key that stays needs no key that goes.
-    stays : CopyCut S K everything cache → (k d : ℕ) (x : S .Save) → k < K → d < K
+    stays : CopyCut S K everything cache → (k d : ℕ) (x : S .Write) → k < K → d < K
         → E k ≡ false → S .behind d (cache k) x → E d ≡ false
     unfolding evictSet
     stays c k d x lk ld n r =
-        let held = L .leads k d (cache k) x (c .good k lk) r in
+        let held = L .behind-held k d (cache k) x (c .good k lk) r in
         test (E d)
         (λ y.
-        let m = L .needs k d (cache k) .1 ((λ e. clash (rw e at y) n), x, r) in
+        let m = L .needs k d (cache k) x (λ e. clash (rw e at y) n) r in
         clash (closure-closed K (λ t d. alg .held (cache d) && alg .needs d (cache d) t) start
         d k ld lk y (and-intro held m)) n)
         (λ z. z)
@@ -126,7 +126,7 @@ module _ {A : Type 0} {alg : Algebra A} {S : Saves A} (L : CopyLaws alg S) (K : 
     abbrev carried : Place A
     carried = pulled alg K plan snapshot cache reads
 
-    pub pulled-from : (d : ℕ) (x : S .Save) → S .includes d (carried d) x
+    pulled-from : (d : ℕ) (x : S .Write) → S .includes d (carried d) x
         → S .includes d (snapshot d) x ⊎ (So (C d) × S .includes d (cache d) x)
     pulled-from d x p =
         test (C d)
@@ -136,7 +136,7 @@ module _ {A : Type 0} {alg : Algebra A} {S : Saves A} (L : CopyLaws alg S) (K : 
         elim (L .merge-in d (snapshot d) (cache d) x .0 q) [ inl c ↦ inl c | inr c ↦ inr (y, c) ])
         (λ n. inl (rw (pulled-out alg K plan snapshot cache reads d n) at p))
 
-    pub pulled-behind : (k d : ℕ) (x : S .Save) → S .behind d (carried k) x
+    pulled-behind : (k d : ℕ) (x : S .Write) → S .behind d (carried k) x
         → S .behind d (snapshot k) x ⊎ (So (C k) × S .behind d (cache k) x)
     pulled-behind k d x p =
         test (C k)
@@ -149,12 +149,12 @@ module _ {A : Type 0} {alg : Algebra A} {S : Saves A} (L : CopyLaws alg S) (K : 
         ])
         (λ n. inl (rw (pulled-out alg K plan snapshot cache reads k n) at p))
 
-    pub pulled-grows : PartIn S K snapshot carried
+    pulled-grows : PartIn S K snapshot carried
     pulled-grows d x _ p =
         pulled-cases alg K plan snapshot cache reads (λ c. S .includes d c x) d
         (λ _. L .merge-in d (snapshot d) (cache d) x .1 (inl p)) (λ _. p)
 
-    pub pulled-has : (d : ℕ) (x : S .Save) → So (C d) → S .includes d (cache d) x
+    pulled-has : (d : ℕ) (x : S .Write) → So (C d) → S .includes d (cache d) x
         → S .includes d (carried d) x
     pulled-has d x y p =
         rw (pulled-in alg K plan snapshot cache reads d y)
@@ -171,14 +171,14 @@ module _ {A : Type 0} {alg : Algebra A} {S : Saves A} (L : CopyLaws alg S) (K : 
             (λ _. L .merge-good k (snapshot k) (cache k) (cd .good k l) (cc .good k l))
             (λ _. cd .good k l)
 
-        within : (k : ℕ) (x : S .Save) → k < K → S .includes k (carried k) x → So (plan k)
+        within : (k : ℕ) (x : S .Write) → k < K → S .includes k (carried k) x → So (plan k)
         within k x l p =
             elim (pulled-from k x p) [
               | inl c ↦ cd .within k x l c
               | inr c ↦ pullSet-plan alg K plan snapshot cache reads f k l (c .0)
             ]
 
-        closed : (k d : ℕ) (x : S .Save) → k < K → d < K → So (plan d)
+        closed : (k d : ℕ) (x : S .Write) → k < K → d < K → So (plan d)
             → S .behind d (carried k) x → S .includes d (carried d) x
         closed k d x lk ld s p =
             elim (pulled-behind k d x p) [

@@ -20,8 +20,8 @@ use Rattle.history.proofs.Past.{past-laws}
 use Rattle.history.proofs.Counted.{counted-none}
 use Rattle.consistency.specs.Claim.{Named}
 use Rattle.consistency.proofs.Simulation.{Simulates, Related}
-use Rattle.consistency.proofs.CopyLaws.{CopyLaws, empty-cut}
-use Rattle.consistency.proofs.Closing.{bookSaves, copy-laws, PartOf, ClosedIn, ClosedAll, every-part, every-closed}
+use Rattle.consistency.proofs.CopyLaws.{CopyLaws, PartIn, empty-cut}
+use Rattle.consistency.proofs.Closing.{bookWrites, copy-laws, ClosedIn, ClosedAll, every-part, every-closed}
 use Rattle.consistency.proofs.Counting.{StandsFor, masked-none, stands-named, counted-simulates, counted-related}
 use Rattle.consistency.proofs.Invariant.{RunFollows, Follows}
 
@@ -43,7 +43,7 @@ module _ {s : Store} {b : Book} (F : Follows s b) where
       (F .sound .writers)
 
   pub now-laws : CopyLaws (copies (s .counts .keys) (b .history))
-      (bookSaves (s .counts .keys) (b .history))
+      (bookWrites (s .counts .keys) (b .history))
   now-laws = copy-laws (s .counts .keys) (b .history)
 
   -- In a merge of two versions of a key somebody is named.
@@ -66,7 +66,8 @@ module _ {s : Store} {b : Book} (F : Follows s b) where
         Related (s .counts .keys) (Stands s b) (s .site o .cache) (b .cache o)
     cache-related = counted-related (F .cache o l) (F .led-cache o l) (F .closed o l)
 
-    pub cache-part : PartOf (s .counts .keys) (b .cache o) (b .master)
+    pub cache-part : PartIn (bookWrites (s .counts .keys) (b .history)) (s .counts .keys)
+        (b .cache o) (b .master)
     cache-part = every-part (F .every) (F .closed o l)
 
   module _ (r : ℕ) (l : r < s .counts .runs) where

@@ -24,7 +24,7 @@ use Rattle.consistency.specs.Trace.{ReadSet, finishBy, finish}
 use Rattle.consistency.specs.Claim.{Named}
 use Rattle.consistency.proofs.Simulation.{Related}
 use Rattle.consistency.proofs.SimulationPrepare.{SitesBelow, RelatedSites, preparedCaches-rel, sitesMerged-rel}
-use Rattle.consistency.proofs.Closing.{bookSaves, ClosedIn}
+use Rattle.consistency.proofs.Closing.{bookWrites, ClosedIn}
 use Rattle.consistency.proofs.ClosingPrepare.{CutsWithin, sitesMerged-closed, preparedCaches-cuts}
 use Rattle.consistency.proofs.Invariant.{RunFollows, Follows, Inv, Moves}
 use Rattle.consistency.proofs.Laws.{works, Laws, laws-unless}
@@ -75,7 +75,7 @@ module _ {s : Store} {b : Book} {r : ℕ} (fine : Fine s) (F : Follows s b) (A :
       (a .job) (master-related F) (a .jobs) (siteCaches s) (b .cache) (λ _ _. refl) at-sites
       (cache-related F)
 
-  caches-cuts : CutsWithin (bookSaves (s .counts .keys) (b .history)) (s .counts .keys)
+  caches-cuts : CutsWithin (bookWrites (s .counts .keys) (b .history)) (s .counts .keys)
       (s .counts .sites) (b .master) (copyCaches s b r)
   unfolding copyCaches
   caches-cuts =
