@@ -3,7 +3,7 @@
 -- CutsWithin: caches that are cuts within the master, and ..-cuts: that they stay so.
 -- Assumes nothing.
 use mathlib.Core.Path.{_≡_, refl}
-use mathlib.Core.Bool.{Bool, true, false, _&&_, So, cond}
+use mathlib.Core.Bool.{_&&_, So}
 use mathlib.Core.Logic.{_⊎_, inl, inr, ⊎-elim}
 use Prim.Native.Nat.{ℕ, zero, suc, _<_}
 use native.Mathlib.Omega.{arith}

@@ -17,7 +17,7 @@ use Rattle.model.specs.Version.{held}
 use Rattle.model.specs.Store.{noSite, fresh, siteMarked, withSites, withSite}
 use Rattle.model.specs.Form.{zeroRows, zeroVersion, leadersFormed, versionFormed, placeFormed, zeroJob, freeFormed, runFormed, siteFormed, wellFormed}
 use Rattle.model.specs.Marks.{isStale, staleMask}
-use Rattle.masks.specs.Mask.{withBit, withIf, maskBelow}
+use Rattle.masks.specs.Mask.{withIf, maskBelow}
 use Rattle.model.specs.Outcome.{answer, refuse, unless, allowed, runCause}
 use Rattle.model.specs.Runs.{dropCause, dropDone, dropRule}
 use Rattle.model.specs.Calls.{dropRun, ruleOf}

@@ -15,18 +15,18 @@ use lib.Seq.{sets}
 use Rattle.words.specs.Lists.{putAt}
 use Rattle.words.proofs.Stores.{sets-left, sets-behind, sets-all}
 use Rattle.words.proofs.Lists.{putAt-same}
-use Rattle.sizes.specs.Bounds.{doneOffset, snapshotOffset, placeSize, siteSize, writerSize, runSize, masterAt, sitesAt, writersAt, runsAt, tailAt, siteAt, staleAt, writerAt, runAt, snapshotAt}
+use Rattle.sizes.specs.Bounds.{doneOffset, snapshotOffset, placeSize, siteSize, writerSize, runSize, masterAt, sitesAt, writersAt, runsAt, siteAt, staleAt, writerAt, runAt, snapshotAt}
 use Rattle.model.specs.Algebra.{Place}
 use Rattle.model.specs.Version.{Version}
 use Rattle.model.specs.Marks.{staleMask}
-use Rattle.model.specs.Store.{Writer, Run, Site, Tail, Store, withLast, withMaster, withSites, withSite, siteCached, siteMarked, siteWith, withCache, withWriter, withRun, withState, withSnapshot, withJobDone}
+use Rattle.model.specs.Store.{Writer, Run, Site, Store, withLast, withMaster, withSites, withSite, siteCached, siteMarked, siteWith, withCache, withWriter, withRun, withState, withSnapshot, withJobDone}
 use Rattle.layout.specs.Words.{headerWords, placeWords, siteWords, sitesWords, writerWords, writersWords, jobsWords, runWords, runsWords, storeWords}
 use Rattle.layout.specs.Buffer.{written}
 use Rattle.layout.specs.Reading.{storeOf}
 use Rattle.layout.proofs.Codec.{many-part, many-room}
 use Rattle.layout.proofs.Parts.{place-laws, site-laws, writer-laws, run-laws}
 use Rattle.layout.proofs.Jobs.{jobs-laws}
-use Rattle.layout.proofs.Whole.{FitStore, store-back, written-twice, toMaster, toSites, toWriters, toRuns, header-long, master-long, sites-long, writers-long, runs-long}
+use Rattle.layout.proofs.Whole.{FitStore, store-back, written-twice, toMaster, toSites, toWriters, header-long, master-long, sites-long, writers-long}
 use Rattle.layout.proofs.Views.{area-to, afterTail, afterRuns, afterWriters, afterSites, afterMaster, view-master, view-sites, view-writers, view-runs}
 
 -- ---- the last number and the master

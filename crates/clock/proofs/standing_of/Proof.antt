@@ -1,6 +1,6 @@
 -- `standing_of` answers the standing, equal first.
 -- Assumes nothing.
-use mathlib.Core.Path.{refl, sym, _∙_}
+use mathlib.Core.Path.{sym, _∙_}
 use borrow.Author.Tests.{not-true, not-false}
 use Rattle.clock.specs.Clock.{standingOf}
 use Rattle.clock.proofs.Standings.{differing-not, differing-newer}

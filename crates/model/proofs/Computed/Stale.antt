@@ -3,16 +3,15 @@
 -- of calls
 -- from new reaches. unmarked: marks that aren't the mask.
 -- Assumes nothing.
-use mathlib.Core.Bool.{Bool, true, not, _&&_}
+use mathlib.Core.Bool.{Bool, not}
 use mathlib.Core.List.{List, [], _∷_, _++_}
 use Prim.Native.Nat.{ℕ}
 use Rattle.sizes.specs.Bounds.{countsOf}
-use Rattle.model.specs.Algebra.{Place}
-use Rattle.model.specs.Version.{Version, zeroPast, unheld}
+use Rattle.model.specs.Version.{Version}
 use Rattle.model.specs.Store.{Store, noSite, noBranch, noJobs, fresh, siteCached, siteMarked, withLast, withMaster, withSite, withCache, withWriter, withRun}
 use Rattle.model.specs.Form.{wellFormed}
-use Rattle.model.specs.Calls.{StoreCall, openRun, fetch, evict, prepare, step, issue, ask, look, explain, stale}
-use Rattle.model.proofs.Scripts.{answers, ok₁, ok₃, broke, not-taken, seen}
+use Rattle.model.specs.Calls.{StoreCall, openRun, fetch, evict, prepare, step, issue, ask, explain, stale}
+use Rattle.model.proofs.Scripts.{answers, ok₁, ok₃, broke, not-taken}
 use Rattle.model.proofs.Readings.{led, version, clock, place, answered}
 
 -- ---- scripts

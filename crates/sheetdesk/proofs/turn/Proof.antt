@@ -1,7 +1,6 @@
 -- `sheetdesk::turn` meets its contract. Assumes what `libc` says of reading and writing.
 use mathlib.Core.Path.{_≡_, _∙_}
-use Prim.Native.Nat.{_-_, _≤_}
-use lib.ListN.{length}
+use Prim.Native.Nat.{_-_}
 use native.Mathlib.Omega.{arith}
 use borrow.Author.Needs.{needs}
 use Rattle.script.proofs.Serves.{front}
