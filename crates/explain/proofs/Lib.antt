@@ -1,4 +1,3 @@
 pub mod Drawings
 pub mod Found
 pub mod Explains
-pub mod Explaining

@@ -1,0 +1,1 @@
+// What calls promise over lists of calls: laws in proofs/. Nothing depends on them.
