@@ -11,19 +11,21 @@ use Prim.Native.Nat.{ℕ, suc, _≤_, _<_}
 use native.Mathlib.Omega.{arith}
 use lib.Dec.{eqb, leb, ltb}
 use lib.ListN.{length, getD, take}
-use borrow.Author.Tests.{lt-ltb, le-leb}
+use borrow.Author.Tests.{lt-ltb, le-leb, not-true, not-false}
 use Rattle.words.proofs.Bools.{clash, test, and-left, and-right, and-cases, or-true-right, or-false-right, leb-le, eqb-eq, eqb-ne}
 use Rattle.sizes.specs.Bounds.{countsOf}
 use Rattle.answers.specs.declared.Answered.{Answered}
 use Rattle.answers.specs.Answers.{maxAnswer, answerRoom, over, Lays, answeredWords}
 use Rattle.model.specs.Outcome.{Outcome, refused, broken, done, told, answer}
-use Rattle.model.specs.Calls.{StoreCall, openRun}
+use Rattle.model.specs.Calls.{StoreCall, Query, openRun, ask}
 use Rattle.layout.specs.Buffer.{inForm}
 use Rattle.layout.specs.Calls.{Call, new, on, newCause, callOn, leaves, isOk}
 use Rattle.layout.proofs.Follow.{fine-form}
-use Rattle.layout.proofs.Forms.{no-form, form-kept}
+use Rattle.layout.proofs.Forms.{no-form, form-kept, ask-leaves}
 use Rattle.layout.proofs.Rules.{new-fine, new-done, new-refused}
-use Rattle.calls.specs.Performs.{Does, Exported, TurnedDown, Made}
+use Rattle.command.specs.declared.Command.{Command}
+use Rattle.command.specs.Commands.{spelled}
+use Rattle.calls.specs.Performs.{Does, Exported, TurnedDown, Made, MadeOf}
 
 -- ---- one call
 
@@ -62,6 +64,19 @@ export-done c l m a b w n h p q r f = record {
   short = λ s. absurd (omega (arith, s, h));
 }
 
+-- A call that only answers.
+pub export-asked : (q : Query) (l a b w : List ℕ) (n : ℕ) → answerRoom ≤ length a
+    → w ≡ answer (callOn (on (ask q)) l) → Lays w a b n → length w ≤ maxAnswer
+    → Exported (on (ask q)) l l a b n
+export-asked q l a b w n h p r f = export-done _ l l a b w n h p (sym (ask-leaves q l)) r f
+
+-- The count of an answer's words, in fewer bits.
+pub count-fits : (a b w : List ℕ) (n : ℕ) → Lays w a b n → length w ≤ maxAnswer → n < 4294967296
+count-fits a b w n r f = omega (arith, r .count, f)
+
+pub count-same : (a b w : List ℕ) (n k : ℕ) → k ≡ n → Lays w a b n → Lays w a b k
+count-same a b w n k e r = rw e r
+
 -- f: whether the buffer is in form. g: whether the call is admitted.
 module _ (l a : List ℕ) (f g : Bool) (e : f ≡ inForm l)
     (d : g ≡ f && leb answerRoom (length a)) where
@@ -88,12 +103,33 @@ pub does-open : (r k j : ℕ) (ws l m a b : List ℕ) (n : ℕ) → k ≡ j
 does-open r k j ws l m a b n e d =
     subst (λ (i : ℕ). Does (on (openRun r (take i ws))) l m a b n) e d
 
+-- The call that a command spells.
+pub made-of : (k j : Command) (ws l m a b : List ℕ) (n : ℕ) (c : Call) → k ≡ j
+    → Exported c l m a b n → spelled j ws ≡ some c → answerRoom ≤ length a
+    → MadeOf k ws l m a b n
+unfolding Made MadeOf
+made-of k j ws l m a b n c e x s h = rw (e, s) (x .does h)
+
 -- ---- how many words an answer has
 
 pub few-answered : (r : Answered) → length (answeredWords r) ≤ maxAnswer
 unfolding answeredWords
 few-answered (Answered.Done n) = omega arith
 few-answered (Answered.Refused n) = omega arith
+
+-- What a function of `calls` is asked: whether it may make its call, and what that comes to.
+pub ruleset exports = (
+  export-short,
+  export-not,
+  export-done,
+  export-asked,
+  count-fits,
+  admitted-form,
+  admitted-room,
+  not-true,
+  not-false,
+  few-answered,
+)
 
 -- ---- the form of the buffer after a call
 

@@ -11,6 +11,8 @@ use Rattle.answers.specs.Answers.{maxAnswer, answerRoom, Lays}
 use Rattle.model.specs.Outcome.{answer}
 use Rattle.layout.specs.Buffer.{inForm}
 use Rattle.layout.specs.Calls.{Call, callOn, leaves}
+use Rattle.command.specs.declared.Command.{Command}
+use Rattle.command.specs.Commands.{spelled}
 use Rattle.calls.specs.declared.Performed.{Performed}
 
 -- Call c on buffer l left m, and in place of the answer slice a there is b: its first n words are
@@ -34,6 +36,10 @@ pub record TurnedDown (a b : List ℕ) (n : ℕ) : Type 0 where
 unfoldable pub Made : Option Call → List ℕ → List ℕ → List ℕ → List ℕ → ℕ → Type 0
 Made none l m a b n = (m ≡ l) × (b ≡ a) × (n ≡ 0)
 Made (some c) l m a b n = Does c l m a b n
+
+-- The call of a command, with the numbers that are lent beside it.
+unfoldable pub MadeOf : Command → List ℕ → List ℕ → List ℕ → List ℕ → List ℕ → ℕ → Type 0
+MadeOf k ws l m a b n = Made (spelled k ws) l m a b n
 
 -- The same, and whether the buffer is in form, so that the next call need not test it.
 abbrev pub Performs : Option Call → List ℕ → List ℕ → List ℕ → List ℕ → Performed → Type 0

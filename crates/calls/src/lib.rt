@@ -19,7 +19,7 @@ ghost use Rattle.model.specs.Calls.{look, explain, stale, openRun, fetch, evict
 ghost use Rattle.layout.specs.Buffer.{inForm};
 ghost use Rattle.layout.specs.Calls.{new, on};
 ghost use Rattle.command.specs.Commands.{spelled, numbersEnd};
-ghost use Rattle.calls.specs.Performs.{Exported, TurnedDown, Made, Performs};
+ghost use Rattle.calls.specs.Performs.{Exported, TurnedDown, MadeOf, Performs};
 
 // Whether the buffer is in form after a call, and how many words its answer has.
 pub struct Performed {
@@ -216,7 +216,7 @@ fn make(store: &mut [u32], ready: bool, command: Command, numbers: &[u32], out: 
     requires { ⌜ ready ≡ inForm (now store) ⌝ }
     requires { ⌜ numbersEnd command ≤ length (now numbers) ⌝ }
     requires { ⌜ answerRoom ≤ length (now out) ⌝ }
-    ensures { λ n. ⌜ Made (spelled command (now (numbers .entry))) (now (store .entry))
+    ensures { λ n. ⌜ MadeOf command (now (numbers .entry)) (now (store .entry))
         (now (store .exit)) (now (out .entry)) (now (out .exit)) n ⌝ }
 {
     match command {

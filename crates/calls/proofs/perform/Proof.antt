@@ -1,11 +1,13 @@
 -- `perform` makes the command; an accepted call leaves a buffer in form.
 -- Assumes nothing.
 use borrow.Author.Needs.{needs}
+use Rattle.calls.specs.Performs.{MadeOf}
 use Rattle.calls.proofs.Forms.{made-form}
 use Rattle.calls.proofs.perform.Statement.{statement}
 use Rattle.calls.proofs.perform.Tie as tie
 
 returns : tie.Need-returns
+unfolding MadeOf
 returns c =
     let m = c .before .before .before .before .before .before in
     let s = m .before .before .before .before .before .before in

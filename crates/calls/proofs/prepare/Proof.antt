@@ -1,46 +1,12 @@
 -- `prepare` makes the call where it is admitted, and turns it down elsewhere.
 -- Assumes nothing.
 use borrow.Author.Needs.{needs}
-use borrow.Author.Tests.{not-true, not-false}
-use Rattle.calls.proofs.Forms.{admitted-form, admitted-room, export-not, export-done, few-answered}
+use Rattle.calls.proofs.Forms.{exports}
 use Rattle.calls.proofs.prepare.Statement.{statement}
 use Rattle.calls.proofs.prepare.Tie as tie
 
-returns : tie.Need-returns
-returns c =
-    let i = c .before .before .before .before in
-    let g = i .before in
-    let s = g .before .before .before .before in
-    export-not _ _ _ _ (s .pre) (g .admitted .ensures) _ _ _ (not-true _ (i .if1 .taken))
-    (c .before .before .turn-down .ensures)
-
-prepare-requires : tie.Need-prepare-requires
-prepare-requires c κs =
-    let i = c .before in
-    let g = i .before in
-    let s = g .before .before .before .before in
-    admitted-form _ (s .args .out .now) _ _ (s .pre) (g .admitted .ensures)
-    (not-false _ (i .if1 .left))
-
-lay-requires : tie.Need-lay-requires
-lay-requires c κs =
-    let i = c .before .before .before .before .before in
-    let g = i .before in
-    let s = g .before .before .before .before in
-    admitted-room (s .args .store .now) (s .args .out .now) _ _ (s .pre) (g .admitted .ensures)
-    (not-false _ (i .if1 .left))
-
 returns-2 : tie.Need-returns-2
-returns-2 c =
-    let i = c .before .before .before .before .before .before .before .before in
-    let g = i .before in
-    let s = g .before .before .before .before in
-    let l = s .args .store .now in
-    let a = s .args .out .now in
-    let y = not-false _ (i .if1 .left) in
-    let h = admitted-room l a _ _ (s .pre) (g .admitted .ensures) y in
-    let e = c .before .before .before .before .before .before .prepare .ensures in
-    export-done _ _ _ _ _ _ _ h (e .0) (e .1) (c .before .before .lay .ensures) (few-answered _)
+returns-2 c = search exports
 
 pub prepare-spec : {M : Type 1} → statement M
 prepare-spec =
@@ -49,9 +15,9 @@ prepare-spec =
     (λ c κs. search needs)
     (λ c κs. search needs)
     (λ c. search needs)
-    returns
-    prepare-requires
-    lay-requires
+    (λ c. search exports)
+    (λ c κs. search exports)
+    (λ c κs. search exports)
     (λ c. search needs)
     (λ c. search needs)
     returns-2)
