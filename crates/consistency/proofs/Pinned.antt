@@ -12,10 +12,12 @@ use Rattle.words.proofs.Bools.{eqb-ne}
 use Rattle.words.proofs.Lists.{putAt-same, putAt-other}
 use Rattle.model.specs.Version.{Version, unheld, merge}
 use Rattle.model.specs.Store.{Store}
-use Rattle.model.specs.Calls.{Query, openRun, fetch, evict, prepare, step, issue, dropRun, ask}
+use Rattle.model.specs.Calls.{StoreCall, Query, openRun, fetch, evict, prepare, step, issue, dropRun, ask}
 use Rattle.history.specs.Book.{Book}
 use Rattle.consistency.specs.Roles.{Role, opening, working, freeing, elsewhere, roleOf, isOn}
-use Rattle.consistency.specs.Trace.{ReadSet, readNow, finishBy}
+use Rattle.consistency.specs.Trace.{ReadSet, Trace, readNow, finishBy, finish, advance}
+use Rattle.masks.specs.Mask.{testBit}
+use Rattle.layout.specs.Calls.{Call, on, callOn, isOk}
 use Rattle.consistency.specs.Claim.{Among, Among.first, Among.later, pickOf, Pick.ofSnapshot, Pick.ofCache, Pick.merged, Pick.neither}
 
 pub every-among : (xs ys : List ReadSet) (x : ReadSet) → Among x (xs ++ (x ∷ ys))
@@ -38,6 +40,11 @@ pub roles : (r j w S o k : ℕ) (l : List ℕ) (q : Query) → (roleOf (openRun 
 unfolding roleOf
 roles r j w S o k l q = (refl, refl, refl, refl, refl, refl, refl, refl)
 
+pub not-ok-finished : (c : Call) (t : Trace) → isOk (callOn c (t .buffer)) ≡ false
+    → advance c t .finished ≡ t .finished
+unfolding advance
+not-ok-finished c t n = rw n refl
+
 module _ (s : Store) (b : Book) (f : ℕ → List ReadSet) where
   -- "A job whose step is answered ok is finished and has read its sheets": beside those before it.
   pub step-finishes : (r j : ℕ) → finishBy (working r (some j)) s b f r ≡ readNow r j s b ∷ f r
@@ -49,6 +56,16 @@ module _ (s : Store) (b : Book) (f : ℕ → List ReadSet) where
       × (finishBy (freeing r) s b f r ≡ [])
   unfolding finishBy
   frees-finished r = (putAt-same f r [], putAt-same f r [])
+
+  pub read-now : (r j : ℕ) → (readNow r j s b .keys ≡ testBit (b .run r .job j .reads))
+      × (readNow r j s b .version ≡ s .run r .branch .snapshot)
+      × (readNow r j s b .copy ≡ b .run r .branch .snapshot)
+  unfolding readNow
+  read-now r j = (refl, refl, refl)
+
+  pub finish-by : (c : StoreCall) → finish (on c) s b f ≡ finishBy (roleOf c) s b f
+  unfolding finish
+  finish-by c = refl
 
   -- A call that finishes no job, and one that is not on the run, leave it.
   pub none-finished : (r x : ℕ) → finishBy (working x none) s b f r ≡ f r

@@ -25,7 +25,7 @@ use Rattle.layout.specs.Calls.{Call, on, newOn, callOn, isOk, after}
 use Rattle.history.specs.History.{History, HappensBefore, saved, inPast}
 use Rattle.history.specs.Copies.{CopyCount, CountedAs, counted}
 use Rattle.consistency.specs.Trace.{ReadSet, Trace, start, follow}
-use Rattle.consistency.specs.Claim.{Among, Choice, isRefused, isBroken, HoldsAt, Consistent, Demand3}
+use Rattle.consistency.specs.Claim.{Among, Pick, Works, Choice, isRefused, isBroken, HoldsAt, Consistent, Demand3}
 use Rattle.consistency.proofs.Rows.{after-append, follow-append, follow-buffer}
 
 -- ---- an outcome is refused, broken or done, and one of them alone
@@ -164,11 +164,19 @@ module _ (t : Trace) (H : HoldsAt t) where
   unfolding isOk
   done-works r j a u e = H .breaks r j .works (rw e refl)
 
+  pub done-pick : (r j : ℕ) (a : List ℕ) (u : Store)
+      → callOn (on (step r j)) (t .buffer) ≡ done a u → (pick : ℕ → Pick) × Works s r j pick
+  done-pick = done-works
+
   -- a broken one has none,
   pub broken-none : (r j m : ℕ) (u : Store) → callOn (on (step r j)) (t .buffer) ≡ broken m u
       → ¬ (Choice s r j)
   unfolding isRefused isBroken
   broken-none r j m u e = H .breaks r j .exactly (rw e refl) .0 (rw e refl)
+
+  pub broken-pick : (r j m : ℕ) (u : Store) → callOn (on (step r j)) (t .buffer) ≡ broken m u
+      → (pick : ℕ → Pick) → ¬ (Works s r j pick)
+  broken-pick r j m u e pick w = broken-none r j m u e (pick, w)
 
   -- and one that is not refused is broken if there is none.
   pub none-broken : (r j : ℕ) → isRefused (callOn (on (step r j)) (t .buffer)) ≡ false

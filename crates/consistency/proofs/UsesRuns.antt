@@ -9,7 +9,7 @@ use Prim.Native.Nat.{ℕ}
 use Rattle.words.proofs.Bools.{eq-eqb, ne-eqb, and-intro, and-left, and-right}
 use Rattle.model.specs.Store.{Run, freeRun}
 use Rattle.model.specs.Outcome.{freeState, openState}
-use Rattle.model.specs.Calls.{StoreCall, openRun, fetch, evict, step, dropRun, Query, ask}
+use Rattle.model.specs.Calls.{StoreCall, openRun, fetch, evict, prepare, step, dropRun, Query, ask}
 use Rattle.layout.specs.Reading.{storeOf}
 use Rattle.layout.specs.Buffer.{inForm}
 use Rattle.layout.specs.Calls.{on, callOn, leaves, isOk}
@@ -46,6 +46,15 @@ module _ (lasting : Lasting) (l : List ℕ) (r : ℕ) (F : So (inForm l)) where
   step-goes-on j u =
       let G = lasting l (step r j) r F .lasts u refl in
       (G .used, G .jobs)
+
+  pub works-on : (j i : ℕ) → storeOf l .run r .state ≢ freeState
+      → (next (step r j) .job i ≡ storeOf l .run r .job i) × (next (prepare r) .state ≢ freeState)
+      × (next (prepare r) .job i ≡ storeOf l .run r .job i)
+  unfolding roleOf frees
+  works-on j i u =
+      let G = lasting l (step r j) r F .lasts u refl in
+      let H = lasting l (prepare r) r F .lasts u refl in
+      (G .job i, H .used, H .job i)
 
   -- Fetch, evict and the calls that only answer leave every run, and a step every other one.
   pub others-stay : (o k x j : ℕ) (q : Query) → r ≢ x → let a = storeOf l .run r in
