@@ -2,19 +2,20 @@
 -- lacking-iff, draws-iff: the parts of these tests. drawSet-..: what is in T and C, and why.
 -- drawn-same: their masks.
 -- fetchSet-.., pullSet-..: T and C. fetched-, evicted-, pulled- with in: at a
--- member of the set; with out: at another key; with cases: at either.
+-- member of the set; with out: at another key; with cases: at either; with none: from nothing.
+-- unfetchable-set: the master lacks a key of the start exactly if it lacks one of T.
 -- Assumes nothing.
-use mathlib.Core.Path.{_≡_}
-use mathlib.Core.Bool.{false, not, _&&_, So}
+use mathlib.Core.Path.{_≡_, sym, ap, _∙_, fun-ext}
+use mathlib.Core.Bool.{false, not, _&&_, _||_, So}
 use mathlib.Core.Logic.{_⊎_, inl, inr, _↔_}
 use Prim.Native.Nat.{ℕ, _<_}
-use Rattle.words.specs.Tests.{Items, Within}
-use Rattle.words.proofs.Bools.{test, clash, and-intro, and-left, and-right, not-intro, not-elim}
-use Rattle.words.proofs.Tests.{any-none}
+use Rattle.words.specs.Tests.{Items, Within, none}
+use Rattle.words.proofs.Bools.{test, clash, same-test, and-intro, and-left, and-right, and-false-right, or-left, or-right, or-cases, not-intro, not-elim}
+use Rattle.words.proofs.Tests.{any-none, any-same}
 use Rattle.masks.specs.Mask.{maskBelow}
 use Rattle.masks.proofs.Sets.{mask-same}
 use Rattle.reach.specs.Closure.{Reach}
-use Rattle.reach.proofs.Closures.{closure-start, closure-closed, closure-reached, closure-least, closure-same}
+use Rattle.reach.proofs.Closures.{closure-start, closure-closed, closure-reached, closure-least, closure-same, closure-none}
 use Rattle.model.specs.Algebra.{Algebra, Place, everything, lacking}
 use Rattle.model.specs.Sets.{draws, drawSet, fetchSet, fetched, unfetchable, evictSet, evicted, pullSet, pulled}
 
@@ -139,6 +140,41 @@ module _ {A : Type 0} (alg : Algebra A) (K : ℕ) where
           | inl s ↦ clash (fetchSet-start k s) n
           | inr h ↦ h
         ]))
+
+    -- What a cache takes is asked for, or held by the master.
+    pub fetchSet-taken : Within K (fetchSet alg K master cache start)
+        (λ d. start d || alg .held (master d))
+    unfolding fetchSet drawSet
+    fetchSet-taken =
+        closure-least K (draws alg K everything cache master) start
+        (λ d. start d || alg .held (master d)) (λ d _ p. or-left (alg .held (master d)) p)
+        (λ t d _ _ _ e. or-right (start d) (draws-iff everything cache master t d .0 e .3))
+
+    -- So the master lacks a key of the start exactly if it lacks one of T.
+    pub unfetchable-set : unfetchable alg K master start
+        ≡ unfetchable alg K master (fetchSet alg K master cache start)
+    unfolding unfetchable lacking
+    unfetchable-set =
+        let T = fetchSet alg K master cache start in
+        let gone : Items = λ k. not (alg .held (master k)) in
+        any-same K (λ k. start k && gone k) (λ k. T k && gone k)
+        (λ k l. test (alg .held (master k))
+        (λ y. rw y (and-false-right (start k) ∙ sym (and-false-right (T k))))
+        (λ n. rw (same-test (fetchSet-start k) (λ p.
+        elim (or-cases (start k) (alg .held (master k)) (fetchSet-taken k l p)) [
+          | inl q ↦ q
+          | inr q ↦ clash q n
+        ]))))
+
+  -- From nothing nothing is fetched.
+  pub fetchSet-none : (master cache : Place A) → fetchSet alg K master cache none ≡ none
+  unfolding fetchSet drawSet
+  fetchSet-none master cache = closure-none K (draws alg K everything cache master)
+
+  pub fetched-none : (master cache : Place A) → fetched alg K master cache none ≡ cache
+  fetched-none master cache =
+      fun-ext (λ k. fetched-out master cache none k
+      (ap (λ (m : Items). m k) (fetchSet-none master cache)))
 
   -- ---- E
 

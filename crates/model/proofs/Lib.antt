@@ -8,6 +8,8 @@ pub mod Merges
 pub mod Needs
 pub mod Cuts
 pub mod Draws
+pub mod Twice
+pub mod AtOnce
 pub mod Pulls
 pub mod Steps
 pub mod DoneReads

@@ -21,15 +21,14 @@ use Rattle.words.proofs.Tests.{below-or-not}
 use Rattle.masks.specs.Mask.{testBit, maskBelow}
 use Rattle.masks.proofs.Bits.{test-high, test-none}
 use Rattle.masks.proofs.Sets.{mask-lt, test-mask}
-use Rattle.reach.proofs.Closures.{closure-none}
 use Rattle.sizes.specs.declared.Counts.{Counts}
 use Rattle.sizes.specs.Bounds.{masterAt, siteAt}
-use Rattle.model.specs.Algebra.{Algebra, Place, everything, lacking}
+use Rattle.model.specs.Algebra.{Algebra, Place, lacking}
 use Rattle.model.specs.Version.{Version, versions}
-use Rattle.model.specs.Sets.{draws, drawSet, fetchSet, fetched, unfetchable}
+use Rattle.model.specs.Sets.{fetched, unfetchable}
 use Rattle.model.specs.Store.{Store, siteMarked, siteWith, withCaches, withSites, withCache}
 use Rattle.model.specs.Prepare.{jobStart, fetchReads, preparedCaches, siteCaches}
-use Rattle.model.proofs.Draws.{fetched-out}
+use Rattle.model.proofs.Draws.{fetched-none}
 use Rattle.model.proofs.Formed.{well-out, formed-cache}
 use Rattle.layout.specs.Reading.{readPlace, storeOf}
 use Rattle.layout.specs.Stored.{putPlace}
@@ -99,14 +98,6 @@ job-fine s r j h F =
     rw (← job-cache s r j F)
     (fine-next s (withCache s o p) F (fit-cache s (F .fits) o p h fits)
     (formed-cache s G o p formed) refl)
-
--- From nothing nothing is fetched.
-fetched-none : {A : Type 0} (alg : Algebra A) (K : ℕ) (master cache : Place A)
-    → fetched alg K master cache none ≡ cache
-unfolding fetchSet drawSet
-fetched-none alg K master cache =
-    let e = closure-none K (draws alg K everything cache master) in
-    fun-ext (λ k. fetched-out alg K master cache none k (ap (λ (m : Items). m k) e))
 
 -- A job that has nothing to fetch leaves the store.
 job-idle : (s : Store) (r j : ℕ) → Fine s → startOf (s .counts) s r j ≡ none → fetchedJob s r j ≡ s

@@ -2,33 +2,22 @@
 -- it is the same as asked in turn, for every algebra. A fetch brings no key that the master lacks,
 -- and what is held stays held.
 -- Assumes nothing.
-use mathlib.Core.Path.{_≡_, refl, sym, ap, _∙_}
-use mathlib.Core.Bool.{false, not, _&&_, _||_}
+use mathlib.Core.Path.{_≡_, sym, ap, _∙_}
+use mathlib.Core.Bool.{false, not, _&&_}
 use mathlib.Core.Logic.{⊎-elim}
 use Prim.Native.Nat.{ℕ, _<_}
-use Rattle.words.specs.Tests.{Items, Within, anyBelow}
-use Rattle.words.proofs.Bools.{test, clash, or-left, or-right, or-cases, and-false-right}
+use Rattle.words.specs.Tests.{Items, anyBelow}
+use Rattle.words.proofs.Bools.{test, clash, or-cases, and-false-right}
 use Rattle.words.proofs.Tests.{any-same}
-use Rattle.words.proofs.Numbers.{fold-keeps}
-use Rattle.words.proofs.Lists.{putAt-cases}
 use Rattle.masks.specs.Mask.{testBit}
-use Rattle.reach.proofs.Closures.{closure-least}
-use Rattle.model.specs.Algebra.{Algebra, Place, everything, lacking}
-use Rattle.model.specs.Sets.{draws, drawSet, fetchSet, fetched, unfetchable}
+use Rattle.model.specs.Algebra.{Algebra, Place, lacking}
+use Rattle.model.specs.Sets.{fetchSet, fetched, unfetchable}
 use Rattle.model.specs.Store.{Job}
-use Rattle.model.specs.Prepare.{jobStart, fetchReads, preparedCaches, unpreparable}
-use Rattle.model.proofs.Draws.{lacking-iff, draws-iff, fetched-in, fetched-out}
+use Rattle.model.specs.Prepare.{jobStart, preparedCaches, unpreparable}
+use Rattle.model.proofs.Draws.{lacking-iff, fetched-in, fetched-out, fetchSet-taken}
+use Rattle.model.proofs.AtOnce.{siteReads, prepared-at-once}
 
 module _ {A : Type 0} (alg : Algebra A) (K : ℕ) (master : Place A) where
-  -- What a cache takes is asked for, or held by the master.
-  taken : (cache : Place A) (start : Items)
-      → Within K (fetchSet alg K master cache start) (λ d. start d || alg .held (master d))
-  unfolding fetchSet drawSet
-  taken cache start =
-      closure-least K (draws alg K everything cache master) start
-      (λ d. start d || alg .held (master d)) (λ d _ p. or-left (alg .held (master d)) p)
-      (λ t d _ _ _ e. or-right (start d) (draws-iff alg K everything cache master t d .0 e .3))
-
   -- A key that the master lacks is held after a fetch of lacking keys as it was before.
   fetched-alike : (cache : Place A) (S : Items) (k : ℕ) → k < K → alg .held (master k) ≡ false
       → alg .held (fetched alg K master cache (lacking alg K cache S) k) ≡ alg .held (cache k)
@@ -37,7 +26,8 @@ module _ {A : Type 0} (alg : Algebra A) (K : ℕ) (master : Place A) where
       test (fetchSet alg K master cache start k)
       (λ y. ap (alg .held) (fetched-in alg K master cache start k y) ∙ n
       ∙ sym (⊎-elim (λ p. lacking-iff alg K cache S k .0 p .1) (λ p. clash p n)
-      (or-cases (start k) (alg .held (master k)) (taken cache start k l y))))
+      (or-cases (start k) (alg .held (master k))
+      (fetchSet-taken alg K master cache start k l y))))
       (λ y. ap (alg .held) (fetched-out alg K master cache start k y))
 
   -- Keys to be fetched that the master lacks, where two caches hold those alike.
@@ -56,17 +46,9 @@ module _ {A : Type 0} (alg : Algebra A) (K : ℕ) (master : Place A) where
   module _ (job : ℕ → Job) (cache : ℕ → Place A) where
     prepared-alike : (n o k : ℕ) → k < K → alg .held (master k) ≡ false
         → alg .held (preparedCaches alg K master job n cache o k) ≡ alg .held (cache o k)
-    unfolding preparedCaches fetchReads jobStart
     prepared-alike n o k l m =
-        fold-keeps
-        (λ (c : ℕ → Place A). (o : ℕ) → alg .held (c o k) ≡ alg .held (cache o k)) n
-        (fetchReads alg K master job)
-        (λ j c _ e o. putAt-cases (λ (p : Place A). alg .held (p k) ≡ alg .held (cache o k)) c
-        (job j .site) (fetched alg K master (c (job j .site)) (jobStart alg K master job j c)) o
-        (λ s. fetched-alike (c (job j .site)) (testBit (job j .reads)) k l m
-        ∙ rw s (e (job j .site)))
-        (λ _. e o))
-        cache (λ o. refl) o
+        ap (λ (p : Place A). alg .held (p k)) (prepared-at-once alg K master job cache n o)
+        ∙ fetched-alike (cache o) (siteReads n job o) k l m
 
     -- On the caches at entry.
     pub unpreparable-entry : (n : ℕ)
