@@ -1,7 +1,7 @@
 -- Which refusal comes first, which jobs a rule asks and which office it takes, by examples
 -- (`Computed` proves that they pass).
--- orders-, upstream-, prepares-, fifth-, shelf-..: scripts, and what they answer. full-..: where no
--- number or count is left. cards: a broken run's card in form.
+-- orders-, upstream-, prepares-, fifth-, shelf-..: scripts, and what they answer. full-..: where
+-- no number or count is left. cards: a broken run's card in form.
 -- Assumes nothing.
 use mathlib.Core.Bool.{Bool, not}
 use mathlib.Core.List.{List, [], _∷_, _++_}
@@ -43,7 +43,7 @@ abbrev pub upstream-answers : List (List ℕ)
 upstream-answers =
     ok₁ 4 ∷ not-taken 6 ∷ ok₃ 0 0 0 ∷ ok₃ 0 0 0 ∷ not-taken 6 ∷ ok₃ 0 0 0 ∷ ok₃ 0 0 0 ∷ []
 
--- ---- after `new 2 2 2 2`: prepare after job 1 alone was done; one that lacks its second job's read
+-- ---- after `new 2 2 2 2`: a prepare after job 1 alone was done; one that lacks job 1's read
 
 abbrev pub prepares-script : List StoreCall
 prepares-script =
