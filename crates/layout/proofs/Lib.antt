@@ -1,4 +1,5 @@
 pub mod Buffers
+pub mod Numerals
 pub mod Older
 pub mod Scripted
 pub mod Codec

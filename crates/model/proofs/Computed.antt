@@ -35,9 +35,11 @@ use Rattle.model.proofs.Scripts.{ok₁, ok₃, seen, answers, case-a-sc
 use Rattle.model.proofs.Leaders as leaders
 use Rattle.model.proofs.Computed.Stale as stales
 use Rattle.model.proofs.Computed.Explain as explained
+use Rattle.model.proofs.Computed.Orders as ordered
 pub mod Look
 pub mod Explain
 pub mod Stale
+pub mod Orders
 
 -- The ten marked readings pass, and each script is answered as it should be, answer by answer.
 pub record Computed : Type 0 where
@@ -103,6 +105,16 @@ pub record Computed : Type 0 where
       explained.old-read-calls (fresh (countsOf 4 5 2 2)) ≡ explained.old-read-answers
   pub refusing : answers explained.refusing-calls (fresh (countsOf 2 2 1 2))
       ≡ explained.refusing-answers
+  pub orders : answers ordered.orders-script (fresh (countsOf 2 2 2 2)) ≡ ordered.orders-answers
+  pub upstream : answers ordered.upstream-script (fresh (countsOf 1 1 1 1))
+      ≡ ordered.upstream-answers
+  pub prepares : answers ordered.prepares-script (fresh (countsOf 2 2 2 2))
+      ≡ ordered.prepares-answers
+  pub fifth : answers ordered.fifth-script (fresh (countsOf 1 2 2 2)) ≡ ordered.fifth-answers
+  pub by-shelf : explained.toldAfter ordered.shelf-before ordered.shelf-calls
+      (fresh (countsOf 3 4 2 2)) ≡ ordered.shelf-answers
+  pub full : ordered.full-told ≡ ordered.full-answers
+  pub cards : ordered.cards ≡ replicate 6 true
 
 pub computed : Computed
 unfolding needsMet causalCut overlappingCut concurrent doneReads zeroRows zeroVersion
@@ -170,4 +182,11 @@ computed = record {
   carried = refl;
   old-read = refl;
   refusing = refl;
+  orders = refl;
+  upstream = refl;
+  prepares = refl;
+  fifth = refl;
+  by-shelf = refl;
+  full = refl;
+  cards = refl;
 }

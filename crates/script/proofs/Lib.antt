@@ -4,3 +4,4 @@ pub mod Steps
 pub mod Ties
 pub mod Serves
 pub mod Examples
+pub mod Uses

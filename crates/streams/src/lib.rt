@@ -4,9 +4,10 @@ use libc::STDIN_FILENO;
 use libc::STDOUT_FILENO;
 use script::Buffers;
 ghost use mathlib.Core.Path.{_≡_};
-ghost use mathlib.Core.Bool.{false};
+ghost use mathlib.Core.Bool.{false, not};
 ghost use Prim.Native.Nat.{_+_, _*_, _≤_, _<_};
 ghost use lib.ListN.{length};
+ghost use Rattle.io.specs.Counts.{clamped};
 ghost use Rattle.print.specs.Print.{lineRoom};
 ghost use Rattle.script.specs.Limits.{readRoom, outRoom, maxInput};
 ghost use Rattle.streams.specs.Streams.{Reads, Hands, inputOver, goesOn};
@@ -47,6 +48,21 @@ impl Input {
     {
         self.got
     }
+
+    // After a read to the front of chunk. told: what read answered, negative if it failed.
+    fn after_read(self, told: isize, chunk: &[u8]) -> Input
+        requires { ⌜ (self .all < maxInput) × (length (now chunk) ≤ readRoom) ⌝ }
+        ensures { λ i. ⌜ Reads self i (now (chunk .entry)) ⌝ }
+        ensures { λ i. ⌜ i .got ≡ clamped told (length (now (chunk .entry))) ⌝ }
+    {
+        let got = io::count(told, chunk);
+        Input {
+            all: self.all + got,
+            got,
+            room: chunk.len(),
+            ended: got == 0,
+        }
+    }
 }
 
 impl Output {
@@ -67,6 +83,22 @@ impl Output {
     {
         self.failed
     }
+
+    // After the first count bytes of a buffer of room bytes were handed to write. taken: it took
+    // them all.
+    fn after_write(self, count: usize, room: usize, taken: bool) -> Output
+        requires { ⌜ (count ≤ room) × (count ≤ outRoom) ⌝ }
+        requires { ⌜ self .all ≤ lineRoom * (maxInput + readRoom) ⌝ }
+        ensures { λ o. ⌜ (o .all ≡ self .all + count) × (o .count ≡ count) ⌝ }
+        ensures { λ o. ⌜ (o .room ≡ room) × (o .failed ≡ not taken) ⌝ }
+    {
+        Output {
+            all: self.all + count,
+            count,
+            room,
+            failed: !taken,
+        }
+    }
 }
 
 // Reads once, to the front of chunk.
@@ -75,13 +107,7 @@ pub fn read_chunk(input: Input, chunk: &mut [u8]) -> Input
     ensures { λ i. ⌜ Reads input i (now (chunk .exit)) ⌝ }
 {
     let told = libc::read(STDIN_FILENO, chunk);
-    let got = io::count(told, chunk);
-    Input {
-        all: input.all + got,
-        got,
-        room: chunk.len(),
-        ended: got == 0,
-    }
+    input.after_read(told, chunk)
 }
 
 // Hands the first end bytes of out to write. If there are none there is no call.
@@ -92,13 +118,7 @@ pub fn hand_over(output: Output, out: &[u8], end: usize) -> Output
 {
     let text = &out[0..end];
     let taken = io::write_all(STDOUT_FILENO, text);
-    let count = text.len();
-    Output {
-        all: output.all + count,
-        count,
-        room: out.len(),
-        failed: !taken,
-    }
+    output.after_write(text.len(), out.len(), taken)
 }
 
 // Whether the program reads on.
