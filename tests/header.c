@@ -4,6 +4,7 @@
 #include <string.h>
 
 #include "../embed/sheetdesk.h"
+#include "../embed/sheetdesk_reason.h"
 
 #define ANSWER answer, SHEETDESK_ANSWER_WORDS
 
@@ -94,9 +95,36 @@ static int versions_fit(void)
     return sheetdesk_version() == SHEETDESK_VERSION && sheetdesk_layout() == SHEETDESK_LAYOUT;
 }
 
+/* Whether the reason of a refusal of the call is that text. */
+static int says(const char *call, uint32_t number, const char *text)
+{
+    const char *reason = sheetdesk_reason(call, number);
+
+    return reason != NULL && strcmp(reason, text) == 0;
+}
+
+/* The largest number of a refusal. */
+enum { LAST = SHEETDESK_WRITER_SPENT };
+
+/* Each refusal has words, for a call that isn't known too, and no other number has. */
+static int reasons_fit(void)
+{
+    uint32_t number;
+
+    for (number = 0; number < 40; number++)
+        if ((sheetdesk_reason("", number) != NULL) != (number >= 1 && number <= LAST)
+            || (sheetdesk_reason("a call to come", number) != NULL) != (number >= 1 && number <= LAST))
+            return 0;
+    return says("fetch", 3, "there is no such office or sheet") && says("evict 9 0", 3, "there is no such office or sheet")
+        && says("look 1 0 0", 8, "the shelf does not hold the sheet: fetch it")
+        && says("look 0 0 0", 8, "the master does not hold the sheet: issue it")
+        && says("look", 8, "the master does not hold the sheet: issue it") && says("", 8, "the sheet is not held there")
+        && says("opened", 4, "the run is not open: it is free, or broken");
+}
+
 int main(void)
 {
-    if (!versions_fit() || !sizes_fit() || !other_layouts_refused()) {
+    if (!versions_fit() || !sizes_fit() || !other_layouts_refused() || !reasons_fit()) {
         puts("header: a promise of sheetdesk.h isn't kept");
         return 1;
     }
