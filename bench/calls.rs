@@ -1,4 +1,4 @@
-//! What each of the eleven calls costs: the static library against the reference, on the same
+//! What each of the calls costs: the static library against the reference, on the same
 //! desks, in one run, in turns.
 //!
 //! `calls`: a row for each call and size: median nanoseconds of both, and the ratio's least,
@@ -14,16 +14,13 @@ mod reference {
     pub mod desk;
     pub mod text;
 }
-#[path = "../tests/differential"]
-mod parts {
-    pub mod library;
-}
+#[path = "../embed/library.rs"]
+mod library;
 #[path = "calls/desks.rs"]
 mod desks;
 #[path = "calls/rounds.rs"]
 mod rounds;
 
-use parts::library;
 use reference::{desk, text};
 
 /// Small, middle and largest.
@@ -48,7 +45,7 @@ fn main() {
             let [least, middle, most] = cost.ratio;
             println!(
                 "| {k} {w} {n} {p} | {} | {:.0} | {:.0} | {least:.2} {middle:.2} {most:.2} |",
-                case.name, cost.library, cost.reference
+                case.call.name(), cost.library, cost.reference
             );
         }
     }
@@ -61,7 +58,7 @@ fn growth() {
     println!("| Call | Count | Values | Library ns | Reference ns |");
     println!("|---|---|---|---|---|");
     let steps = [[4, 8, 16, 32], [2, 4, 8, 16], [1, 2, 4, 8], [1, 2, 4, 8]];
-    let names = desks::cases(SIZES[1]).iter().map(|case| case.name).collect::<Vec<&str>>();
+    let names = desks::cases(SIZES[1]).iter().map(|case| case.call.name()).collect::<Vec<&str>>();
     for (call, name) in names.iter().enumerate() {
         for (count, values) in steps.iter().enumerate() {
             let costs = values.map(|value| {
@@ -88,8 +85,8 @@ fn count(sizes: [u32; 4]) {
         let mut answer = [0; 40];
         counted_library(&mut mine, &case.call, &mut answer);
         counted_reference(&mut theirs, &case.call);
-        assert!(mine == theirs, "{}: the two differ", case.name);
-        println!("{}", case.name);
+        assert!(mine == theirs, "{}: the two differ", case.call.name());
+        println!("{}", case.call.name());
     }
 }
 

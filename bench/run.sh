@@ -70,5 +70,31 @@ instructions() {
     fi
 } >"$out/figures.md"
 
-cp "$out/figures.md" "$page"
+# This state's row of a table over the requests: of fetch, prepare and step on each desk the median ratio, or with `one` the
+# library's instructions.
+state="version $(sed -n 's/^#define SHEETDESK_VERSION //p' embed/sheetdesk.h), layout $(
+    sed -n 's/^#define SHEETDESK_LAYOUT //p' embed/sheetdesk.h)"
+row() {
+    awk -F ' *[|] *' -v state="$state" -v one="${1:-}" '
+        { parts = split($6, part, " ") }
+        NF == 7 && $3 ~ /^(fetch|prepare|step)$/ && (one ? parts == 1 : parts == 3) {
+            told[$2] = told[$2] (told[$2] ? " " : "") (one ? $4 : part[2]) }
+        END { print "| " state " | " told["2 2 2 1"] " | " told["8 4 4 4"] " | " told["32 16 8 8"] " |" }' "$out/figures.md"
+}
+
+# The tables over the requests, as the page has them, each with this state's row at its end.
+over() {
+    awk -v title="## From request to request: $1" -v row="| $state |" '
+        /^## / { on = $0 == title; gap = on }
+        on && $0 == "" { gap = 1 }
+        on && $0 != "" && index($0, row) != 1 { printf "%s%s\n", gap ? "\n" : "", $0; gap = 0 }' "$page"
+}
+{
+    over ratios
+    row
+    over instructions
+    row one
+} >"$out/over.md"
+
+cat "$out/figures.md" "$out/over.md" >"$page"
 echo "bench: $page has the figures"

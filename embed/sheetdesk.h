@@ -3,8 +3,8 @@
  * shows the lines.
  *
  * A slice is a pointer and a length in words. The pointer must be valid for so many words and
- * aligned to 4 bytes; it may not be null, even with length 0; `desk` and `answer` (`target` and
- * `source`) may not overlap. Any content and any numbers are fine: what a call can't work on it
+ * aligned to 4 bytes; it may not be null, even with length 0; the slices of a call (`desk`,
+ * `answer` and open's `jobs`; `target` and `source`) may not overlap. Any content and any numbers are fine: what a call can't work on it
  * refuses. No call reads or writes outside its slices, or allocates.
  *
  * Whose memory it is: the caller owns both buffers, desk and answer, always; a call borrows them

@@ -33,47 +33,35 @@ pub const fn words(sheets: u32, writers: u32, offices: u32, runs: u32) -> usize 
 
 /// The exports as C has them: a slice is a pointer and a length in words.
 pub mod exports {
+    // Calls of a desk and numbers, a line each: how the desk is taken, and what the numbers are.
+    macro_rules! calls {
+        ($($name:ident($desk:ty $(, $number:ident)*);)+) => {
+            extern "C" {
+                $(pub fn $name(
+                    desk: $desk, desk_len: usize, $($number: u32,)*
+                    answer: *mut u32, answer_len: usize,
+                ) -> u32;)+
+            }
+        };
+    }
+
+    calls! {
+        sheetdesk_new(*mut u32, k, w, n, p);
+        sheetdesk_fetch(*mut u32, office, sheet);
+        sheetdesk_evict(*mut u32, office, sheet);
+        sheetdesk_prepare(*mut u32, run);
+        sheetdesk_step(*mut u32, run, job);
+        sheetdesk_issue(*mut u32, run, writer, mask);
+        sheetdesk_drop(*mut u32, run);
+        sheetdesk_look(*const u32, place, number, sheet);
+        sheetdesk_explain(*const u32, run, job);
+        sheetdesk_stale(*const u32, office);
+    }
+
     extern "C" {
-        pub fn sheetdesk_new(
-            desk: *mut u32, desk_len: usize, k: u32, w: u32, n: u32, p: u32,
-            answer: *mut u32, answer_len: usize,
-        ) -> u32;
         pub fn sheetdesk_open(
             desk: *mut u32, desk_len: usize, run: u32, jobs: *const u32, jobs_len: usize,
             answer: *mut u32, answer_len: usize,
-        ) -> u32;
-        pub fn sheetdesk_fetch(
-            desk: *mut u32, desk_len: usize, office: u32, sheet: u32,
-            answer: *mut u32, answer_len: usize,
-        ) -> u32;
-        pub fn sheetdesk_evict(
-            desk: *mut u32, desk_len: usize, office: u32, sheet: u32,
-            answer: *mut u32, answer_len: usize,
-        ) -> u32;
-        pub fn sheetdesk_prepare(
-            desk: *mut u32, desk_len: usize, run: u32, answer: *mut u32, answer_len: usize,
-        ) -> u32;
-        pub fn sheetdesk_step(
-            desk: *mut u32, desk_len: usize, run: u32, job: u32,
-            answer: *mut u32, answer_len: usize,
-        ) -> u32;
-        pub fn sheetdesk_issue(
-            desk: *mut u32, desk_len: usize, run: u32, writer: u32, mask: u32,
-            answer: *mut u32, answer_len: usize,
-        ) -> u32;
-        pub fn sheetdesk_drop(
-            desk: *mut u32, desk_len: usize, run: u32, answer: *mut u32, answer_len: usize,
-        ) -> u32;
-        pub fn sheetdesk_look(
-            desk: *const u32, desk_len: usize, place: u32, number: u32, sheet: u32,
-            answer: *mut u32, answer_len: usize,
-        ) -> u32;
-        pub fn sheetdesk_explain(
-            desk: *const u32, desk_len: usize, run: u32, job: u32,
-            answer: *mut u32, answer_len: usize,
-        ) -> u32;
-        pub fn sheetdesk_stale(
-            desk: *const u32, desk_len: usize, office: u32, answer: *mut u32, answer_len: usize,
         ) -> u32;
         pub fn sheetdesk_compare(p: *const u32, p_len: usize, q: *const u32, q_len: usize) -> u32;
         pub fn sheetdesk_covers(p: *const u32, p_len: usize, q: *const u32, q_len: usize) -> u32;
@@ -321,6 +309,30 @@ fn answer(call: impl FnOnce(*mut u32, usize) -> u32) -> Answer {
     }
 }
 
+// Calls that write the desk, a line each: the method, what its numbers are, the export.
+macro_rules! writes {
+    ($($(#[$doc:meta])* $name:ident($($number:ident),*) = $export:ident;)+) => { $(
+        $(#[$doc])*
+        pub fn $name(&mut self, $($number: u32),*) -> Answer {
+            let (desk, len) = (self.words.as_mut_ptr(), self.words.len());
+            let made = answer(|a, n| unsafe { $export(desk, len, $($number,)* a, n) });
+            self.hand(made, stringify!($name), &[$($number),*], &[])
+        }
+    )+ };
+}
+
+// The same for those that only answer.
+macro_rules! tells {
+    ($($(#[$doc:meta])* $name:ident($($number:ident),*) = $export:ident;)+) => { $(
+        $(#[$doc])*
+        pub fn $name(&self, $($number: u32),*) -> Answer {
+            let (desk, len) = (self.words.as_ptr(), self.words.len());
+            let made = answer(|a, n| unsafe { $export(desk, len, $($number,)* a, n) });
+            self.hand(made, stringify!($name), &[$($number),*], &[])
+        }
+    )+ };
+}
+
 // In each call a pointer goes with the length of what it points to, and the slices don't
 // overlap: that is all that the exports ask.
 impl<'a> Desk<'a> {
@@ -359,69 +371,31 @@ impl<'a> Desk<'a> {
         self.words
     }
 
-    fn lent(&mut self) -> (*mut u32, usize) {
-        (self.words.as_mut_ptr(), self.words.len())
+    writes! {
+        /// A fresh desk of so many sheets, writers, offices and runs.
+        new(sheets, writers, offices, runs) = sheetdesk_new;
+        fetch(office, sheet) = sheetdesk_fetch;
+        evict(office, sheet) = sheetdesk_evict;
+        prepare(run) = sheetdesk_prepare;
+        step(run, job) = sheetdesk_step;
+        issue(run, writer, mask) = sheetdesk_issue;
+        /// Frees the run (not the desk, which only borrows its words).
+        drop(run) = sheetdesk_drop;
     }
 
-    /// A fresh desk of so many sheets, writers, offices and runs.
-    pub fn new(&mut self, sheets: u32, writers: u32, offices: u32, runs: u32) -> Answer {
-        let (desk, len) = self.lent();
-        let made = answer(|a, n| unsafe {
-            sheetdesk_new(desk, len, sheets, writers, offices, runs, a, n)
-        });
-        self.hand(made, "new", &[sheets, writers, offices, runs], &[])
+    tells! {
+        /// What a step of the job would come to: clear, or the path behind the break.
+        explain(run, job) = sheetdesk_explain;
+        /// The mask of the sheets on the office's shelf that are behind the master's.
+        stale(office) = sheetdesk_stale;
     }
 
     pub fn open(&mut self, run: u32, jobs: &[Job]) -> Answer {
-        let (desk, len) = self.lent();
+        let (desk, len) = (self.words.as_mut_ptr(), self.words.len());
         // A job is three words in C's layout.
         let (list, count) = (jobs.as_ptr().cast::<u32>(), 3 * jobs.len());
         let made = answer(|a, n| unsafe { sheetdesk_open(desk, len, run, list, count, a, n) });
         self.hand(made, "open", &[run], jobs)
-    }
-
-    pub fn fetch(&mut self, office: u32, sheet: u32) -> Answer {
-        let (desk, len) = self.lent();
-        let made = answer(|a, n| unsafe { sheetdesk_fetch(desk, len, office, sheet, a, n) });
-        self.hand(made, "fetch", &[office, sheet], &[])
-    }
-
-    pub fn evict(&mut self, office: u32, sheet: u32) -> Answer {
-        let (desk, len) = self.lent();
-        let made = answer(|a, n| unsafe { sheetdesk_evict(desk, len, office, sheet, a, n) });
-        self.hand(made, "evict", &[office, sheet], &[])
-    }
-
-    pub fn prepare(&mut self, run: u32) -> Answer {
-        let (desk, len) = self.lent();
-        let made = answer(|a, n| unsafe { sheetdesk_prepare(desk, len, run, a, n) });
-        self.hand(made, "prepare", &[run], &[])
-    }
-
-    pub fn step(&mut self, run: u32, job: u32) -> Answer {
-        let (desk, len) = self.lent();
-        let made = answer(|a, n| unsafe { sheetdesk_step(desk, len, run, job, a, n) });
-        self.hand(made, "step", &[run, job], &[])
-    }
-
-    /// What a step of the job would come to: clear, or the path behind the break.
-    pub fn explain(&self, run: u32, job: u32) -> Answer {
-        let (desk, len) = (self.words.as_ptr(), self.words.len());
-        let made = answer(|a, n| unsafe { sheetdesk_explain(desk, len, run, job, a, n) });
-        self.hand(made, "explain", &[run, job], &[])
-    }
-
-    pub fn issue(&mut self, run: u32, writer: u32, mask: u32) -> Answer {
-        let (desk, len) = self.lent();
-        let made = answer(|a, n| unsafe { sheetdesk_issue(desk, len, run, writer, mask, a, n) });
-        self.hand(made, "issue", &[run, writer, mask], &[])
-    }
-
-    /// Frees the run (not the desk, which only borrows its words).
-    pub fn drop(&mut self, run: u32) -> Answer {
-        let (desk, len) = self.lent();
-        let made = answer(|a, n| unsafe { sheetdesk_drop(desk, len, run, a, n) });
-        self.hand(made, "drop", &[run], &[])
     }
 
     /// The issue number, the leading writers, the own clock, and the standing against the
@@ -435,13 +409,6 @@ impl<'a> Desk<'a> {
         };
         let made = answer(|a, n| unsafe { sheetdesk_look(desk, len, place, number, sheet, a, n) });
         self.hand(made, "look", &[place, number, sheet], &[])
-    }
-
-    /// The mask of the sheets on the office's shelf that are behind the master's.
-    pub fn stale(&self, office: u32) -> Answer {
-        let (desk, len) = (self.words.as_ptr(), self.words.len());
-        let made = answer(|a, n| unsafe { sheetdesk_stale(desk, len, office, a, n) });
-        self.hand(made, "stale", &[office], &[])
     }
 }
 

@@ -94,20 +94,33 @@ static inline uint32_t sheetdesk_hand(const struct sheetdesk_record *record, con
     return words;
 }
 
-static inline uint32_t sheetdesk_new_recorded(const struct sheetdesk_record *record,
-                                              uint32_t *desk, size_t desk_len, uint32_t k,
-                                              uint32_t w, uint32_t n, uint32_t p,
-                                              uint32_t *answer, size_t answer_len)
-{
-    uint32_t numbers[4];
+/* A call of a desk and numbers, a line each below: its name, how it takes the desk, how many numbers
+ * there are, and what they are. */
+#define SHEETDESK_TAKES_1(a) uint32_t a
+#define SHEETDESK_TAKES_2(a, b) uint32_t a, uint32_t b
+#define SHEETDESK_TAKES_3(a, b, c) uint32_t a, uint32_t b, uint32_t c
+#define SHEETDESK_TAKES_4(a, b, c, d) uint32_t a, uint32_t b, uint32_t c, uint32_t d
+#define SHEETDESK_RECORDED(name, word, count, ...) \
+    static inline uint32_t sheetdesk_##name##_recorded( \
+        const struct sheetdesk_record *record, word *desk, size_t desk_len, \
+        SHEETDESK_TAKES_##count(__VA_ARGS__), uint32_t *answer, size_t answer_len) \
+    { \
+        const uint32_t numbers[] = {__VA_ARGS__}; \
+\
+        return sheetdesk_hand(record, #name, numbers, count, numbers, 0, answer, \
+                              sheetdesk_##name(desk, desk_len, __VA_ARGS__, answer, answer_len)); \
+    }
 
-    numbers[0] = k;
-    numbers[1] = w;
-    numbers[2] = n;
-    numbers[3] = p;
-    return sheetdesk_hand(record, "new", numbers, 4, numbers, 0, answer,
-                          sheetdesk_new(desk, desk_len, k, w, n, p, answer, answer_len));
-}
+SHEETDESK_RECORDED(new, uint32_t, 4, k, w, n, p)
+SHEETDESK_RECORDED(fetch, uint32_t, 2, office, sheet)
+SHEETDESK_RECORDED(evict, uint32_t, 2, office, sheet)
+SHEETDESK_RECORDED(prepare, uint32_t, 1, run)
+SHEETDESK_RECORDED(step, uint32_t, 2, run, job)
+SHEETDESK_RECORDED(explain, const uint32_t, 2, run, job)
+SHEETDESK_RECORDED(issue, uint32_t, 3, run, writer, mask)
+SHEETDESK_RECORDED(drop, uint32_t, 1, run)
+SHEETDESK_RECORDED(look, const uint32_t, 3, place, number, sheet)
+SHEETDESK_RECORDED(stale, const uint32_t, 1, office)
 
 static inline uint32_t sheetdesk_open_recorded(const struct sheetdesk_record *record,
                                                uint32_t *desk, size_t desk_len, uint32_t run,
@@ -117,101 +130,6 @@ static inline uint32_t sheetdesk_open_recorded(const struct sheetdesk_record *re
     return sheetdesk_hand(record, "open", &run, 1, jobs, jobs_len, answer,
                           sheetdesk_open(desk, desk_len, run, jobs, jobs_len, answer,
                                          answer_len));
-}
-
-/* A call of up to three numbers; `made` is what it returned. */
-static inline uint32_t sheetdesk_hand_three(const struct sheetdesk_record *record,
-                                            const char *name, size_t count, uint32_t a, uint32_t b,
-                                            uint32_t c, const uint32_t *answer, uint32_t made)
-{
-    uint32_t numbers[3];
-
-    numbers[0] = a;
-    numbers[1] = b;
-    numbers[2] = c;
-    return sheetdesk_hand(record, name, numbers, count, numbers, 0, answer, made);
-}
-
-static inline uint32_t sheetdesk_fetch_recorded(const struct sheetdesk_record *record,
-                                                uint32_t *desk, size_t desk_len, uint32_t office,
-                                                uint32_t sheet, uint32_t *answer,
-                                                size_t answer_len)
-{
-    return sheetdesk_hand_three(record, "fetch", 2, office, sheet, 0, answer,
-                                sheetdesk_fetch(desk, desk_len, office, sheet, answer,
-                                                answer_len));
-}
-
-static inline uint32_t sheetdesk_evict_recorded(const struct sheetdesk_record *record,
-                                                uint32_t *desk, size_t desk_len, uint32_t office,
-                                                uint32_t sheet, uint32_t *answer,
-                                                size_t answer_len)
-{
-    return sheetdesk_hand_three(record, "evict", 2, office, sheet, 0, answer,
-                                sheetdesk_evict(desk, desk_len, office, sheet, answer,
-                                                answer_len));
-}
-
-static inline uint32_t sheetdesk_prepare_recorded(const struct sheetdesk_record *record,
-                                                  uint32_t *desk, size_t desk_len, uint32_t run,
-                                                  uint32_t *answer, size_t answer_len)
-{
-    return sheetdesk_hand_three(record, "prepare", 1, run, 0, 0, answer,
-                                sheetdesk_prepare(desk, desk_len, run, answer, answer_len));
-}
-
-static inline uint32_t sheetdesk_step_recorded(const struct sheetdesk_record *record,
-                                               uint32_t *desk, size_t desk_len, uint32_t run,
-                                               uint32_t job, uint32_t *answer, size_t answer_len)
-{
-    return sheetdesk_hand_three(record, "step", 2, run, job, 0, answer,
-                                sheetdesk_step(desk, desk_len, run, job, answer, answer_len));
-}
-
-static inline uint32_t sheetdesk_explain_recorded(const struct sheetdesk_record *record,
-                                                  const uint32_t *desk, size_t desk_len,
-                                                  uint32_t run, uint32_t job, uint32_t *answer,
-                                                  size_t answer_len)
-{
-    return sheetdesk_hand_three(record, "explain", 2, run, job, 0, answer,
-                                sheetdesk_explain(desk, desk_len, run, job, answer, answer_len));
-}
-
-static inline uint32_t sheetdesk_issue_recorded(const struct sheetdesk_record *record,
-                                                uint32_t *desk, size_t desk_len, uint32_t run,
-                                                uint32_t writer, uint32_t mask, uint32_t *answer,
-                                                size_t answer_len)
-{
-    return sheetdesk_hand_three(record, "issue", 3, run, writer, mask, answer,
-                                sheetdesk_issue(desk, desk_len, run, writer, mask, answer,
-                                                answer_len));
-}
-
-static inline uint32_t sheetdesk_drop_recorded(const struct sheetdesk_record *record,
-                                               uint32_t *desk, size_t desk_len, uint32_t run,
-                                               uint32_t *answer, size_t answer_len)
-{
-    return sheetdesk_hand_three(record, "drop", 1, run, 0, 0, answer,
-                                sheetdesk_drop(desk, desk_len, run, answer, answer_len));
-}
-
-static inline uint32_t sheetdesk_look_recorded(const struct sheetdesk_record *record,
-                                               const uint32_t *desk, size_t desk_len,
-                                               uint32_t place, uint32_t number, uint32_t sheet,
-                                               uint32_t *answer, size_t answer_len)
-{
-    return sheetdesk_hand_three(record, "look", 3, place, number, sheet, answer,
-                                sheetdesk_look(desk, desk_len, place, number, sheet, answer,
-                                               answer_len));
-}
-
-static inline uint32_t sheetdesk_stale_recorded(const struct sheetdesk_record *record,
-                                                const uint32_t *desk, size_t desk_len,
-                                                uint32_t office, uint32_t *answer,
-                                                size_t answer_len)
-{
-    return sheetdesk_hand_three(record, "stale", 1, office, 0, 0, answer,
-                                sheetdesk_stale(desk, desk_len, office, answer, answer_len));
 }
 
 #endif

@@ -22,6 +22,53 @@ pub enum Call {
     Stale(u32),
 }
 
+impl Call {
+    /// Its word and its numbers, as they stand in its line.
+    fn parts(&self) -> (&'static str, Vec<u32>) {
+        match self {
+            Call::New(sizes) => ("new", sizes.to_vec()),
+            Call::Open(run, list) => ("open", [&[*run][..], list].concat()),
+            Call::Fetch(office, sheet) => ("fetch", vec![*office, *sheet]),
+            Call::Evict(office, sheet) => ("evict", vec![*office, *sheet]),
+            Call::Prepare(run) => ("prepare", vec![*run]),
+            Call::Step(run, job) => ("step", vec![*run, *job]),
+            Call::Issue(run, writer, mask) => ("issue", vec![*run, *writer, *mask]),
+            Call::Drop(run) => ("drop", vec![*run]),
+            Call::Look(place, number, sheet) => ("look", vec![*place, *number, *sheet]),
+            Call::Explain(run, job) => ("explain", vec![*run, *job]),
+            Call::Stale(office) => ("stale", vec![*office]),
+        }
+    }
+
+    pub fn name(&self) -> &'static str {
+        self.parts().0
+    }
+
+    pub fn numbers(&self) -> Vec<u32> {
+        self.parts().1
+    }
+
+    /// The line that it is read from.
+    pub fn line(&self) -> String {
+        let (name, numbers) = self.parts();
+        listed(name, &numbers)
+    }
+
+    /// Whether it only answers: it writes nothing, whatever the answer is.
+    pub fn only_answers(&self) -> bool {
+        matches!(self, Call::Look(..) | Call::Explain(..) | Call::Stale(_))
+    }
+
+    /// The run that it is about, if it is about one.
+    pub fn run(&self) -> Option<u32> {
+        match self {
+            Call::Open(run, _) | Call::Prepare(run) | Call::Step(run, _) => Some(*run),
+            Call::Issue(run, ..) | Call::Drop(run) | Call::Explain(run, _) => Some(*run),
+            _ => None,
+        }
+    }
+}
+
 /// The call that a line holds (without its line end), or nothing if it is unread.
 pub fn read_line(line: &[u8]) -> Option<Call> {
     if line.len() > LONGEST {
@@ -78,15 +125,38 @@ pub fn run(words: &mut [u32], call: &Call) -> Answer {
     }
 }
 
+/// What an answer begins with: a word in the program, its place in this list in the library.
+pub const ANSWERS: [&str; 5] = ["ok", "broken", "refused", "clear", "path"];
+
+impl Answer {
+    /// The answer as the library writes it: what it begins with, then its numbers.
+    pub fn words(&self) -> Vec<u32> {
+        match self {
+            Answer::Ok(numbers) => [&[0][..], numbers].concat(),
+            Answer::Broken(mask) => vec![1, *mask],
+            Answer::Refused(number) => vec![2, *number],
+            Answer::Clear => vec![3],
+            Answer::Path(sheets) => [&[4][..], sheets].concat(),
+        }
+    }
+
+    /// The answer that the library wrote; nothing if these are no answer's words.
+    pub fn of(words: &[u32]) -> Option<Answer> {
+        match words {
+            [0, numbers @ ..] => Some(Answer::Ok(numbers.to_vec())),
+            [1, mask] => Some(Answer::Broken(*mask)),
+            [2, number] => Some(Answer::Refused(*number)),
+            [3] => Some(Answer::Clear),
+            [4, sheets @ ..] => Some(Answer::Path(sheets.to_vec())),
+            _ => None,
+        }
+    }
+}
+
 /// The line that is printed for an answer, without its line end.
 pub fn print(answer: &Answer) -> String {
-    match answer {
-        Answer::Ok(numbers) => listed("ok", numbers),
-        Answer::Broken(mask) => format!("broken {mask}"),
-        Answer::Refused(number) => format!("refused {number}"),
-        Answer::Clear => String::from("clear"),
-        Answer::Path(sheets) => listed("path", sheets),
-    }
+    let words = answer.words();
+    listed(ANSWERS[words[0] as usize], &words[1..])
 }
 
 /// A word and numbers, one space apart.

@@ -57,8 +57,7 @@ fn one_call(
     let answer = text::run(words, call);
     seen.calls += 1;
     let refused = matches!(answer, Answer::Refused(_));
-    let only_answers = matches!(call, Call::Look(..) | Call::Explain(..) | Call::Stale(_));
-    if (refused || only_answers) && before != words {
+    if (refused || call.only_answers()) && before != words {
         return Err("a call that is refused or only answers changed the desk".into());
     }
     if let Call::Explain(run, job) = call {

@@ -9,6 +9,8 @@
 
 #[path = "../embed/sheetdesk.rs"]
 mod embed;
+#[path = "../embed/library.rs"]
+mod library;
 
 #[path = "../reference"]
 mod reference {
@@ -35,7 +37,6 @@ mod parts {
     pub mod built;
     pub mod clocks;
     pub mod damaged;
-    pub mod library;
     pub mod met;
     pub mod pair;
     pub mod random;
@@ -44,7 +45,7 @@ mod parts {
 }
 
 use generate::{chains, counts, everyday, odd, plots, rivals, teller};
-use parts::{arguments, built, clocks, damaged, library, met, pair, random, script, stories};
+use parts::{arguments, built, clocks, damaged, met, pair, random, script, stories};
 use reference::{desk, text};
 
 use met::Met;

@@ -4,6 +4,7 @@
 #include <string.h>
 
 #include "../embed/sheetdesk.h"
+#include "../embed/sheetdesk_reason.h"
 
 #define ANSWER answer, SHEETDESK_ANSWER_WORDS
 
@@ -43,37 +44,49 @@ static int sizes_fit(void)
     return SHEETDESK_WORDS(32, 16, 8, 8) == SHEETDESK_MOST_WORDS && SHEETDESK_WORDS(-1, 1, 1, 1) == 0;
 }
 
+/* Words of the header: four counts and the last issue number, then four offsets and the total. */
+enum { OFFSETS = 5, HEADER = 10 };
+/* More words than a desk 2 2 1 1 has in any layout. */
+enum { LENT = 200 };
+
 /* Every call but new refuses a desk of two sheets and writers with these offsets and total. */
-static int layout_refused(const uint32_t offsets[5])
+#define NOT_TAKEN(call, ...) refused(call(other, LENT, __VA_ARGS__, ANSWER), SHEETDESK_NOT_IN_FORM)
+static int layout_refused(const uint32_t offsets[HEADER - OFFSETS])
 {
     static const uint32_t job[] = {0, 0, 0};
-    static uint32_t before[100];
-    uint32_t other[100] = {2, 2, 1, 1, 0};
+    static uint32_t before[LENT];
+    uint32_t other[LENT] = {2, 2, 1, 1, 0};
     int good;
 
-    memcpy(other + 5, offsets, 5 * sizeof *offsets);
+    memcpy(other + OFFSETS, offsets, (HEADER - OFFSETS) * sizeof *offsets);
     memcpy(before, other, sizeof other);
-    good = refused(sheetdesk_open(other, 100, 0, job, 3, ANSWER), SHEETDESK_NOT_IN_FORM)
-        && refused(sheetdesk_fetch(other, 100, 0, 0, ANSWER), SHEETDESK_NOT_IN_FORM)
-        && refused(sheetdesk_evict(other, 100, 0, 0, ANSWER), SHEETDESK_NOT_IN_FORM)
-        && refused(sheetdesk_prepare(other, 100, 0, ANSWER), SHEETDESK_NOT_IN_FORM)
-        && refused(sheetdesk_step(other, 100, 0, 0, ANSWER), SHEETDESK_NOT_IN_FORM)
-        && refused(sheetdesk_explain(other, 100, 0, 0, ANSWER), SHEETDESK_NOT_IN_FORM)
-        && refused(sheetdesk_issue(other, 100, 0, 0, 0, ANSWER), SHEETDESK_NOT_IN_FORM)
-        && refused(sheetdesk_drop(other, 100, 0, ANSWER), SHEETDESK_NOT_IN_FORM)
-        && refused(sheetdesk_look(other, 100, 0, 0, 0, ANSWER), SHEETDESK_NOT_IN_FORM)
-        && refused(sheetdesk_stale(other, 100, 0, ANSWER), SHEETDESK_NOT_IN_FORM);
+    good = NOT_TAKEN(sheetdesk_open, 0, job, 3)
+        && NOT_TAKEN(sheetdesk_fetch, 0, 0)
+        && NOT_TAKEN(sheetdesk_evict, 0, 0)
+        && NOT_TAKEN(sheetdesk_prepare, 0)
+        && NOT_TAKEN(sheetdesk_step, 0, 0)
+        && NOT_TAKEN(sheetdesk_explain, 0, 0)
+        && NOT_TAKEN(sheetdesk_issue, 0, 0, 0)
+        && NOT_TAKEN(sheetdesk_drop, 0)
+        && NOT_TAKEN(sheetdesk_look, 0, 0, 0)
+        && NOT_TAKEN(sheetdesk_stale, 0);
     return good && memcmp(before, other, sizeof other) == 0;
 }
 
-/* Layouts 1 and 2, and one whose writers are as long as versions. */
+/* Offsets and total of the layouts before this one, and of one whose writers are as long as versions. */
 static int other_layouts_refused(void)
 {
-    static const uint32_t first[] = {10, 20, 30, 40, 78};
-    static const uint32_t second[] = {10, 22, 34, 44, 84};
-    static const uint32_t long_writers[] = {10, 22, 35, 47, 87};
+    static const uint32_t others[][HEADER - OFFSETS] = {
+        {10, 20, 30, 40, 78}, /* layout 1 */
+        {10, 22, 34, 44, 84}, /* layout 2 */
+        {10, 22, 35, 47, 87}, /* long writers */
+    };
+    size_t each;
 
-    return layout_refused(first) && layout_refused(second) && layout_refused(long_writers);
+    for (each = 0; each < sizeof others / sizeof others[0]; each++)
+        if (!layout_refused(others[each]))
+            return 0;
+    return 1;
 }
 
 /* The library that is linked is the header's. */
@@ -82,9 +95,36 @@ static int versions_fit(void)
     return sheetdesk_version() == SHEETDESK_VERSION && sheetdesk_layout() == SHEETDESK_LAYOUT;
 }
 
+/* Whether the reason of a refusal of the call is that text. */
+static int says(const char *call, uint32_t number, const char *text)
+{
+    const char *reason = sheetdesk_reason(call, number);
+
+    return reason != NULL && strcmp(reason, text) == 0;
+}
+
+/* The largest number of a refusal. */
+enum { LAST = SHEETDESK_WRITER_SPENT };
+
+/* Each refusal has words, for a call that isn't known too, and no other number has. */
+static int reasons_fit(void)
+{
+    uint32_t number;
+
+    for (number = 0; number < 40; number++)
+        if ((sheetdesk_reason("", number) != NULL) != (number >= 1 && number <= LAST)
+            || (sheetdesk_reason("a call to come", number) != NULL) != (number >= 1 && number <= LAST))
+            return 0;
+    return says("fetch", 3, "there is no such office or sheet") && says("evict 9 0", 3, "there is no such office or sheet")
+        && says("look 1 0 0", 8, "the shelf does not hold the sheet: fetch it")
+        && says("look 0 0 0", 8, "the master does not hold the sheet: issue it")
+        && says("look", 8, "the master does not hold the sheet: issue it") && says("", 8, "the sheet is not held there")
+        && says("opened", 4, "the run is not open: it is free, or broken");
+}
+
 int main(void)
 {
-    if (!versions_fit() || !sizes_fit() || !other_layouts_refused()) {
+    if (!versions_fit() || !sizes_fit() || !other_layouts_refused() || !reasons_fit()) {
         puts("header: a promise of sheetdesk.h isn't kept");
         return 1;
     }

@@ -165,9 +165,8 @@ without() {
 # The command, on a copy with an rt that proves nothing (tests/fake/rt).
 trial_command() {
   export REAL=$top FAKE=$work/fake
-  mkdir -p "$FAKE" "$work/a desk/crates/sheetdesk_c" "$work/a desk/tests" || exit 2
+  mkdir -p "$FAKE" "$work/a desk/crates/sheetdesk_c" || exit 2
   cp -R sheetdesk tools docs embed reference scripts "$work/a desk/" || exit 2
-  cp -R tests/differential "$work/a desk/tests/" || exit 2
   printf 'sheetdesk_c:\nsheetdesk:\n' >"$work/a desk/crates.txt"
   # A rustc that takes what is built here.
   mkdir "$work/rust" && cat >"$work/rust/rustc" <<END || exit 2

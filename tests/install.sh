@@ -16,9 +16,8 @@ bad() {
   exit 1
 }
 
-mkdir -p "$FAKE" "$work/a copy/tests" "$work/use" || exit 2
+mkdir -p "$FAKE" "$work/a copy" "$work/use" || exit 2
 cp -R Makefile README.md sheetdesk tools embed docs reference crates crates.txt "$work/a copy/" || exit 2
-cp -R tests/differential "$work/a copy/tests/" || exit 2
 make=(make -s -C "$work/a copy")
 command -v make >/dev/null || make=(bash "$work/a copy/tools/install.sh")
 

@@ -74,7 +74,7 @@ trial_sizes() {
 trial_alone() {
   local name
   { echo '#include "embed/sheetdesk_record.h"'
-    sed -n 's/.*uint32_t sheetdesk_\([a-z]*\)_recorded(.*/\1/p' embed/sheetdesk_record.h |
+    sed -n -E 's/^(SHEETDESK_RECORDED\(|static inline uint32_t sheetdesk_)([a-z]+)(,|_recorded\().*/\2/p' embed/sheetdesk_record.h |
       sed 's/.*/void *use_&(void); void *use_&(void) { return (void *)sheetdesk_&_recorded; }/'; } >"$work/alone.c"
   [ "$(grep -c '^void' "$work/alone.c")" -eq "$(grep -c '^uint32_t sheetdesk_.*desk' embed/sheetdesk.h)" ] ||
     bad "a call isn't recorded"

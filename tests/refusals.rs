@@ -3,86 +3,119 @@
 // looks, leading writers and stale marks on desks that no list of calls from new leaves; the longest path; clocks compared.
 // Usage: refusals. Prints what went wrong and exits 1, or how many trials there were.
 
+#![allow(dead_code)]
+
+#[path = "../embed/sheetdesk.rs"]
+mod embed;
 #[path = "refusals/lent.rs"]
 mod lent;
+#[path = "../embed/library.rs"]
+mod library;
+#[path = "../reference"]
+mod reference {
+    pub mod desk;
+    pub mod text;
+}
 #[path = "refusals/trials.rs"]
 mod trials;
 
-use trials::{sheetdesk_compare, sheetdesk_covers, Call, Desk, Trials};
+use desk::layout::{DONE, HEADER, JOBS, JOB_LIST, LEADERS, NUMBER, OFFSETS, PAST, READ, STATE};
+use library::{compare, covers};
+use reference::{desk, text};
+use text::Call;
+use trials::{total, Desk, Trials};
 
 // The master's version of each sheet: issue 1, led by writer 0, own row present, and a need of the sheet before it.
-fn chain(desk: &mut Desk, sheets: usize, writers: usize) {
-    let size = 2 + sheets * writers;
-    for k in 0..sheets {
-        let at = desk.words[5] as usize + k * size;
-        (desk.words[at], desk.words[at + 1]) = (1, 1);
-        desk.words[at + 2 + k * writers] = 1;
-        if k > 0 {
-            desk.words[at + 2 + (k - 1) * writers] = 1;
+fn chain(desk: &mut Desk) {
+    let s = desk.sizes();
+    for k in 0..s.k {
+        let at = s.master_at(k);
+        (desk.words[at + NUMBER], desk.words[at + LEADERS]) = (1, 1);
+        for row in k.saturating_sub(1)..=k {
+            desk.words[at + PAST + row * s.w] = 1;
         }
     }
 }
 
 fn of_new(t: &mut Trials) {
-    for (k, w, n, p) in [(0, 1, 1, 1), (33, 1, 1, 1), (1, 0, 1, 1), (1, 17, 1, 1), (1, 1, 0, 1), (1, 1, 9, 1), (1, 1, 1, 0),
-        (1, 1, 1, 9), (u32::MAX, 1, 1, 1), (1, u32::MAX, u32::MAX, 1)] {
-        t.refused("new 2", &mut Desk::of(300, 7), Call::New(k, w, n, p), 2);
-        t.refused("new 2 before 1", &mut Desk::of(0, 7), Call::New(k, w, n, p), 2);
+    for counts in [[0, 1, 1, 1], [33, 1, 1, 1], [1, 0, 1, 1], [1, 17, 1, 1], [1, 1, 0, 1], [1, 1, 9, 1], [1, 1, 1, 0],
+        [1, 1, 1, 9], [u32::MAX, 1, 1, 1], [1, u32::MAX, u32::MAX, 1]] {
+        t.refused("new 2", &mut Desk::of(300, 7), Call::New(counts), 2);
+        t.refused("new 2 before 1", &mut Desk::of(0, 7), Call::New(counts), 2);
     }
-    t.refused("new 1, a word short", &mut Desk::of(84, 7), Call::New(2, 2, 1, 1), 1);
-    t.refused("new 1, empty", &mut Desk::of(0, 7), Call::New(1, 1, 1, 1), 1);
+    let counts = [2, 2, 1, 1];
+    t.refused("new 1, a word short", &mut Desk::of(total(counts) - 1, 7), Call::New(counts), 1);
+    t.refused("new 1, empty", &mut Desk::of(0, 7), Call::New([1, 1, 1, 1]), 1);
     let mut desk = Desk::of(87, 7);
-    t.ok("new", &mut desk, Call::New(2, 2, 1, 1), &[85]);
-    t.check("offsets", desk.words[..10] == [2, 2, 1, 1, 0, 10, 22, 35, 45, 85]);
-    t.check("fresh, and past the total as it was", desk.words[10..85].iter().all(|&w| w == 0) && desk.words[85..87] == [7, 7]);
+    t.ok("new", &mut desk, Call::New(counts), &[85]);
+    t.check("offsets", desk.words[..HEADER] == [2, 2, 1, 1, 0, 10, 22, 35, 45, 85]);
+    t.check("fresh, and past the total as it was", desk.words[HEADER..85].iter().all(|&w| w == 0) && desk.words[85..87] == [7, 7]);
+}
+
+// One word of a new desk 2 2 2 1 changed, such that it isn't in form any more.
+fn spoiled(fresh: &Desk) -> Vec<(usize, u32)> {
+    let s = fresh.sizes();
+    let [master, shelves, writers, runs, total] = [0, 1, 2, 3, 4].map(|at| OFFSETS + at);
+    let run = s.run_at(0);
+    vec![
+        // The counts, the offsets and the total.
+        (0, 0), (0, 33), (1, 17), (2, 9), (3, 9), (master, 11), (shelves, s.shelves() as u32 + 1), (writers, 0), (runs, u32::MAX),
+        (total, s.total() as u32 - 1), (total, s.total() as u32 + 1),
+        // Versions: a number alone; leading writers or a count of one that isn't held.
+        (s.master_at(0) + NUMBER, 1), (s.master_at(0) + LEADERS, 1), (s.master_at(0) + PAST, 1),
+        (s.shelf_at(0, 0) + NUMBER, 5), (s.shelf_at(0, 1) + LEADERS, 1), (s.card_at(0, 0) + LEADERS, 1), (s.total() - 1, 1),
+        // Stale marks of what isn't held.
+        (s.stale_at(0), 1), (s.stale_at(1), 2),
+        // A run: a state that there isn't, an open one without jobs, a free one with words.
+        (run + STATE, 3), (run + STATE, 1), (run + JOBS, 9), (run + DONE, 1), (run + READ, 1), (run + JOB_LIST + 6, 1),
+    ]
 }
 
 // A desk that is not in form is refused by 1, whatever else is wrong.
 fn of_form(t: &mut Trials) {
-    let mut fresh = Desk::of(98, 0);
-    fresh.call(&Call::New(2, 2, 2, 1));
+    let fresh = Desk::fresh([2, 2, 2, 1]);
     let mut broken: Vec<Desk> = vec![Desk::of(0, 0), Desk::of(9, 1), Desk::of(300, 0), Desk::of(300, u32::MAX)];
-    for (at, word) in [(0, 0), (0, 33), (1, 17), (2, 9), (3, 9), (5, 11), (6, 23), (7, 0), (8, u32::MAX), (9, 97), (9, 99),
-        (10, 1), (11, 1), (12, 1), (22, 5), (29, 1), (34, 1), (47, 2), (58, 3), (58, 1), (59, 9), (60, 1), (61, 1), (68, 1), (87, 1),
-        (97, 1)] {
-        let mut d = Desk { words: fresh.words.clone(), len: fresh.len };
+    for (at, word) in spoiled(&fresh) {
+        let mut d = fresh.clone();
         d.words[at] = word;
         broken.push(d);
     }
-    broken.push(Desk { words: fresh.words.clone(), len: 97 });
+    broken.push(Desk { len: fresh.sizes().total() - 1, ..fresh });
     for d in &mut broken {
-        t.refused("open 1", d, Call::Open(9, &[]), 1);
-        t.refused("drop 1", d, Call::Drop(9), 1);
-        t.refused("fetch 1", d, Call::Fetch(9, 9), 1);
-        t.refused("evict 1", d, Call::Evict(9, 9), 1);
-        t.refused("look 1", d, Call::Look(9, 9, 9), 1);
-        t.refused("explain 1", d, Call::Explain(9, 9), 1);
-        t.refused("stale 1", d, Call::Stale(9), 1);
+        for call in calls_but_new() {
+            t.refused(&format!("{} 1", call.name()), d, call, 1);
+        }
     }
+}
+
+// Each call but new, with numbers that are out of range on any desk but a large one.
+pub fn calls_but_new() -> Vec<Call> {
+    vec![
+        Call::Open(9, vec![]), Call::Fetch(9, 9), Call::Evict(9, 9), Call::Prepare(9), Call::Step(9, 9), Call::Issue(9, 9, 9),
+        Call::Drop(9), Call::Look(9, 9, 9), Call::Explain(9, 9), Call::Stale(9),
+    ]
 }
 
 fn of_runs(t: &mut Trials) {
-    let mut d = Desk::of(140, 0);
-    d.call(&Call::New(2, 2, 2, 2));
+    let mut d = Desk::fresh([2, 2, 2, 2]);
     let nine = [0u32; 27];
-    t.refused("open 3", &mut d, Call::Open(2, &[0, 0, 0]), 3);
-    t.refused("open 3 before 5", &mut d, Call::Open(u32::MAX, &[]), 3);
+    t.refused("open 3", &mut d, Call::Open(2, vec![0, 0, 0]), 3);
+    t.refused("open 3 before 5", &mut d, Call::Open(u32::MAX, vec![]), 3);
     for bad in [&[][..], &[0], &[0, 0, 0, 0], &nine, &[2, 0, 0], &[0, 4, 0], &[0, 0, 1], &[0, 1, 0, 0, 1, 2], &[u32::MAX; 3]] {
-        t.refused("open 5", &mut d, Call::Open(0, bad), 5);
+        t.refused("open 5", &mut d, Call::Open(0, bad.to_vec()), 5);
     }
-    t.refused("open 5, a long list", &mut d, Call::Open(0, &vec![0; 100_001]), 5);
+    t.refused("open 5, a long list", &mut d, Call::Open(0, vec![0; 100_001]), 5);
     t.refused("drop 4, free", &mut d, Call::Drop(0), 4);
     t.refused("drop 3", &mut d, Call::Drop(2), 3);
-    t.ok("open", &mut d, Call::Open(0, &[1, 3, 0, 0, 0, 1]), &[2]);
-    t.refused("open 4 before 5", &mut d, Call::Open(0, &[]), 4);
-    t.ok("open 8 jobs", &mut d, Call::Open(1, &nine[..24]), &[8]);
+    t.ok("open", &mut d, Call::Open(0, vec![1, 3, 0, 0, 0, 1]), &[2]);
+    t.refused("open 4 before 5", &mut d, Call::Open(0, vec![]), 4);
+    t.ok("open 8 jobs", &mut d, Call::Open(1, nine[..24].to_vec()), &[8]);
     t.ok("drop", &mut d, Call::Drop(0), &[0]);
-    t.ok("open again", &mut d, Call::Open(0, &[0, 0, 0]), &[1]);
+    t.ok("open again", &mut d, Call::Open(0, vec![0, 0, 0]), &[1]);
 }
 
 fn of_caches(t: &mut Trials) {
-    let mut d = Desk::of(140, 0);
-    d.call(&Call::New(2, 2, 2, 2));
+    let mut d = Desk::fresh([2, 2, 2, 2]);
     t.refused("fetch 3, office", &mut d, Call::Fetch(2, 0), 3);
     t.refused("fetch 3, sheet", &mut d, Call::Fetch(0, 2), 3);
     t.refused("fetch 7", &mut d, Call::Fetch(0, 0), 7);
@@ -98,7 +131,7 @@ fn of_caches(t: &mut Trials) {
     for (p, i) in [(0, 0), (1, 1), (2, 0)] {
         t.refused("look 8", &mut d, Call::Look(p, i, 1), 8);
     }
-    chain(&mut d, 2, 2);
+    chain(&mut d);
     t.ok("fetch 1 takes 0", &mut d, Call::Fetch(1, 1), &[3]);
     t.ok("fetch 0 again", &mut d, Call::Fetch(1, 0), &[1]);
     t.ok("look", &mut d, Call::Look(1, 1, 1), &[1, 1, 1, 0, 0]);
@@ -108,17 +141,16 @@ fn of_caches(t: &mut Trials) {
 
 // The refusals of explain are those of the step, and clear is answered exactly where the step is ok.
 fn of_explain(t: &mut Trials) {
-    let mut d = Desk::of(140, 0);
-    d.call(&Call::New(2, 2, 1, 2));
+    let mut d = Desk::fresh([2, 2, 1, 2]);
     t.refused("explain 3, run", &mut d, Call::Explain(2, 0), 3);
     t.refused("explain 3, job", &mut d, Call::Explain(0, 8), 3);
     t.refused("explain 3, both", &mut d, Call::Explain(u32::MAX, u32::MAX), 3);
     t.refused("explain 4, free", &mut d, Call::Explain(0, 7), 4);
-    d.call(&Call::Open(0, &[0, 1, 0, 0, 2, 1]));
+    d.call(&Call::Open(0, vec![0, 1, 0, 0, 2, 1]));
     t.refused("explain 3, no such job", &mut d, Call::Explain(0, 2), 3);
     t.refused("explain 6, waits", &mut d, Call::Explain(0, 1), 6);
     t.refused("explain 7", &mut d, Call::Explain(0, 0), 7);
-    d.call(&Call::Open(1, &[0, 0, 0]));
+    d.call(&Call::Open(1, vec![0, 0, 0]));
     t.told("explain, nothing read", &mut d, Call::Explain(1, 0), &[3]);
     t.ok("step, nothing read", &mut d, Call::Step(1, 0), &[0, 0, 0]);
     d.call(&Call::Issue(1, 0, 1));
@@ -126,7 +158,7 @@ fn of_explain(t: &mut Trials) {
     t.ok("step, from the master", &mut d, Call::Step(0, 0), &[0, 0, 1]);
     t.refused("explain 6, done", &mut d, Call::Explain(0, 0), 6);
     t.refused("explain 7, the next", &mut d, Call::Explain(0, 1), 7);
-    d.call(&Call::Open(1, &[0, 0, 0]));
+    d.call(&Call::Open(1, vec![0, 0, 0]));
     d.call(&Call::Step(1, 0));
     d.call(&Call::Issue(1, 0, 3));
     t.told("explain, a path", &mut d, Call::Explain(0, 1), &[4, 1, 0]);
@@ -135,12 +167,12 @@ fn of_explain(t: &mut Trials) {
 }
 
 fn of_the_largest(t: &mut Trials) {
-    t.refused("largest, a word short", &mut Desk::of(288_065, 7), Call::New(32, 16, 8, 8), 1);
+    t.refused("largest, a word short", &mut Desk::of(288_065, 7), Call::New([32, 16, 8, 8]), 1);
     let mut d = Desk::of(288_066, 7);
-    t.ok("largest", &mut d, Call::New(32, 16, 8, 8), &[288_066]);
+    t.ok("largest", &mut d, Call::New([32, 16, 8, 8]), &[288_066]);
     t.refused("largest, fetch 7", &mut d, Call::Fetch(7, 31), 7);
-    t.ok("largest, open", &mut d, Call::Open(7, &[7, u32::MAX, 0].repeat(8)), &[8]);
-    chain(&mut d, 32, 16);
+    t.ok("largest, open", &mut d, Call::Open(7, [7, u32::MAX, 0].repeat(8)), &[8]);
+    chain(&mut d);
     t.ok("largest, fetch", &mut d, Call::Fetch(7, 31), &[u32::MAX]);
     t.ok("largest, fetch 15", &mut d, Call::Fetch(0, 15), &[0xFFFF]);
     // The issue number, the leading writers, 16 counts and the standing.
@@ -153,8 +185,6 @@ fn of_the_largest(t: &mut Trials) {
 
 // Compare and covers on clocks of these lengths: equal ones, and with one count larger or smaller, first and last.
 fn of_clocks(t: &mut Trials) {
-    let compare = |p: &[u32], q: &[u32]| unsafe { sheetdesk_compare(p.as_ptr(), p.len(), q.as_ptr(), q.len()) };
-    let covers = |p: &[u32], q: &[u32]| unsafe { sheetdesk_covers(p.as_ptr(), p.len(), q.as_ptr(), q.len()) };
     for len in [0, 1, 2, 15, 16] {
         let p = vec![5; len];
         t.check("compare 0", compare(&p, &p) == 0 && covers(&p, &p) == 1);

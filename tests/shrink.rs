@@ -10,7 +10,7 @@
 
 #[path = "../embed/sheetdesk.rs"]
 mod embed;
-#[path = "differential/library.rs"]
+#[path = "../embed/library.rs"]
 mod library;
 #[path = "../reference"]
 mod reference {

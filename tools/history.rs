@@ -8,7 +8,7 @@
 
 #[path = "../embed/sheetdesk.rs"]
 mod embed;
-#[path = "../tests/differential/library.rs"]
+#[path = "../embed/library.rs"]
 mod library;
 #[path = "../reference"]
 mod reference {

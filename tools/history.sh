@@ -4,7 +4,7 @@ history_tool=$top/target/tools/history
 
 # What target/tools/history.built must say of a tool that is built from these files and this library.
 history_state() {
-  (cd "$top" && find tools/history.rs tools/history reference embed/sheetdesk.rs tests/differential/library.rs \
+  (cd "$top" && find tools/history.rs tools/history reference embed/sheetdesk.rs embed/library.rs embed/sheetdesk_reason.h \
     target/staticlib/libsheetdesk_c.a -type f -print0 2>/dev/null | LC_ALL=C sort -z | xargs -0 sha256sum | sha256sum)
 }
 

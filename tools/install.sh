@@ -7,7 +7,7 @@
 #   PREFIX/lib/sheetdesk/                   the command with its program, its page and its tools
 #   PREFIX/lib/libsheetdesk_c.a, .so        the libraries; the shared one has the version of the calls in its name
 #   PREFIX/lib/pkgconfig/sheetdesk.pc       for pkg-config
-#   PREFIX/include/sheetdesk.h              the header for C and C++; sheetdesk_record.h, to record calls
+#   PREFIX/include/sheetdesk.h              the header for C and C++; sheetdesk_record.h, to record calls; sheetdesk_reason.h, refusals in words
 #   PREFIX/share/sheetdesk/                 the wrappers for Rust and Python, the examples, their page
 set -u
 unset CDPATH
@@ -65,13 +65,14 @@ place() {
   install -m 755 sheetdesk "$at/lib/sheetdesk/" && install -m 755 "$program" "$at/lib/sheetdesk/target/bin/" &&
     install -m 644 tools/run.sh tools/words.sh tools/history.sh "$at/lib/sheetdesk/tools/" &&
     install -m 644 docs/USER.md docs/page.png "$at/lib/sheetdesk/docs/" &&
-    install -m 644 embed/sheetdesk.h embed/sheetdesk_record.h "$at/include/" &&
+    install -m 644 embed/sheetdesk.h embed/sheetdesk_record.h embed/sheetdesk_reason.h "$at/include/" &&
     install -m 644 "$library" "$at/lib/" && install -m 755 "target/shared/$shared" "$at/lib/" &&
     install -m 644 embed/{README.md,sheetdesk.rs,sheetdesk.py,example.c,example.rs,example.py} "$at/share/sheetdesk/" || exit 2
   [ ! -x target/tools/history ] || install -m 755 target/tools/history "$at/lib/sheetdesk/target/tools/" || exit 2
   [ ! -r target/sheetdesk.built ] || install -m 644 target/sheetdesk.built "$at/lib/sheetdesk/target/" || exit 2
   ln -sfn ../lib/sheetdesk/sheetdesk "$at/bin/sheetdesk" && ln -sfn "$shared" "$at/lib/libsheetdesk_c.so" &&
-    ln -sfn ../../../include/sheetdesk.h "$at/lib/sheetdesk/embed/sheetdesk.h" || exit 2
+    ln -sfn ../../../include/sheetdesk.h "$at/lib/sheetdesk/embed/sheetdesk.h" &&
+    ln -sfn ../../../include/sheetdesk_reason.h "$at/lib/sheetdesk/embed/sheetdesk_reason.h" || exit 2
   description >"$at/lib/pkgconfig/sheetdesk.pc" || exit 2
   echo "install: in $at: bin/sheetdesk, lib/libsheetdesk_c.a and .so, include/sheetdesk.h, share/sheetdesk/"
 }
@@ -79,7 +80,8 @@ place() {
 remove() {
   local at=$dest$prefix
   rm -rf "$at/lib/sheetdesk" "$at/share/sheetdesk" "$at/bin/sheetdesk" "$at/lib/libsheetdesk_c.a" "$at/lib/libsheetdesk_c.so" \
-    "$at/lib/$shared" "$at/lib/pkgconfig/sheetdesk.pc" "$at/include/sheetdesk.h" "$at/include/sheetdesk_record.h"
+    "$at/lib/$shared" "$at/lib/pkgconfig/sheetdesk.pc" "$at/include/sheetdesk.h" "$at/include/sheetdesk_record.h" \
+    "$at/include/sheetdesk_reason.h"
 }
 
 prefix=${2:-/usr/local}

@@ -1,62 +1,38 @@
 # Sourced by tools/run.sh: an answer with its line's number, its call, and in words what isn't ok. Words of the user page.
+# Wants $top.
 
-# Sets `said` to why there is no such thing, for each call.
-out_of_range() {
-  case $1 in
-    fetch* | evict*) said="there is no such office or sheet" ;;
-    stale*) said="there is no such office" ;;
-    step* | explain*) said="there is no such run or job" ;;
-    issue*) said="there is no such run or writer, or the mask names a sheet that there isn't" ;;
-    look*) said="there is no such place, number or sheet (the master's number is 0)" ;;
-    *) said="there is no such run" ;;
-  esac
+# Reads embed/sheetdesk_reason.h: for each number its rows, a line each, "CALLS|REASON".
+read_reasons() {
+  local line
+  reasons=()
+  while IFS= read -r line; do
+    [[ $line =~ ^\ *\{([0-9]+),\ \"(.*)\",\ \"(.*)\"\},$ ]] || continue
+    reasons[BASH_REMATCH[1]]+="${BASH_REMATCH[2]}|${BASH_REMATCH[3]}"$'\n'
+  done <"$top/embed/sheetdesk_reason.h"
 }
 
-# Sets `said` to what the state of the run should be, for each call.
-wrong_state() {
-  case $1 in
-    open*) said="the run is not free" ;;
-    drop*) said="the run is free: nothing to do" ;;
-    *) said="the run is not open: it is free, or broken" ;;
-  esac
+# is_for CALLS CALL: whether a row is for the call, as sheetdesk_is_for says.
+is_for() {
+  local calls=$1,
+  [ "$1" != "" ] && [ "$1" != "*" ] || return 0
+  while [ -n "$calls" ]; do
+    case "$2 " in "${calls%%,*} "*) return 0 ;; esac
+    calls=${calls#*,}
+  done
+  return 1
 }
 
-# Sets `said` to what is done or isn't, for each call.
-wrong_turn() {
-  case $1 in
-    prepare*) said="a job of the run is done: prepare comes before the first step" ;;
-    issue*) said="a job of the run is not done" ;;
-    *) said="the job is done already, or one that it waits for is not done" ;;
-  esac
-}
-
-# Sets `said` to what doesn't hold the sheet, and what helps.
-not_held() {
-  local place=${1#look }
-  place=${place%% *}
-  case $1:${place##*0} in
-    evict*) said="the shelf does not hold the sheet: nothing to do" ;;
-    look*:1) said="the shelf does not hold the sheet: fetch it" ;;
-    look*:2) said="the card does not hold the sheet: step or prepare brings it" ;;
-    *) said="the master does not hold the sheet: issue it" ;;
-  esac
-}
-
-# refusal CALL NUMBER: sets `said` to the cause in words; to nothing for a number that isn't on the page.
+# refusal CALL NUMBER: sets `said` to the cause in words; to nothing for a number that isn't in the table.
 refusal() {
-  case $2 in
-    1) case $1 in new*) said="the desk has no room for so many" ;; *) said="there is no desk yet" ;; esac ;;
-    2) said="a count is out of range (1 to 32 sheets, 16 writers, 8 offices, 8 runs)" ;;
-    3) out_of_range "$1" ;;
-    4) wrong_state "$1" ;;
-    5) said="the list of jobs is not valid" ;;
-    6) wrong_turn "$1" ;;
-    7) said="the master does not hold a sheet to be fetched" ;;
-    8) not_held "$1" ;;
-    9) said="the last issue number is the largest" ;;
-    10) said="the writer's count is the largest" ;;
-    *) said= ;;
-  esac
+  local call=$1 place=${1#look } row
+  # A place may have zeros in front.
+  [ "$place" = "$1" ] || place=${place%% *} call="look ${place##*0}"
+  [ -n "${reasons[1]-}" ] || read_reasons
+  while IFS= read -r row; do
+    said=${row#*|}
+    ! is_for "${row%%|*}" "$call" || return
+  done <<<"${reasons[$2]-}"
+  said=
 }
 
 # unread LINE: sets `said` to why it is no call.

@@ -5,7 +5,6 @@ use crate::desk::Sizes;
 use crate::text::{run, Call};
 
 pub struct Case {
-    pub name: &'static str,
     pub words: Vec<u32>,
     pub call: Call,
 }
@@ -87,18 +86,18 @@ pub fn cases(sizes: [u32; 4]) -> Vec<Case> {
     let open = Call::Open(0, eight_jobs(k, n));
     let reader = [Call::Open(0, vec![0, all(k), 0]), Call::Step(0, 0)];
     let filled = [Call::Fetch(0, k - 1)];
-    let case = |name, words, call| Case { name, words, call };
+    let case = |words, call| Case { words, call };
     vec![
-        case("new", full.clone(), Call::New(sizes)),
-        case("open", full.clone(), open.clone()),
-        case("fetch", full.clone(), Call::Fetch(0, k - 1)),
-        case("evict", after(&full, &filled), Call::Evict(0, 0)),
-        case("prepare", after(&full, &[open]), Call::Prepare(0)),
-        case("step", after(&full, &reader[..1]), Call::Step(0, 0)),
-        case("explain", chained(&full, sizes), Call::Explain(0, 1)),
-        case("issue", after(&full, &reader), Call::Issue(0, 0, all(k))),
-        case("drop", after(&full, &reader), Call::Drop(0)),
-        case("look", full.clone(), Call::Look(0, 0, k - 1)),
-        case("stale", full.clone(), Call::Stale(n - 1)),
+        case(full.clone(), Call::New(sizes)),
+        case(full.clone(), open.clone()),
+        case(full.clone(), Call::Fetch(0, k - 1)),
+        case(after(&full, &filled), Call::Evict(0, 0)),
+        case(after(&full, &[open]), Call::Prepare(0)),
+        case(after(&full, &reader[..1]), Call::Step(0, 0)),
+        case(chained(&full, sizes), Call::Explain(0, 1)),
+        case(after(&full, &reader), Call::Issue(0, 0, all(k))),
+        case(after(&full, &reader), Call::Drop(0)),
+        case(full.clone(), Call::Look(0, 0, k - 1)),
+        case(full.clone(), Call::Stale(n - 1)),
     ]
 }

@@ -73,10 +73,7 @@ pub fn check(case: &Case) {
     let (mut mine, mut theirs) = (case.words.clone(), case.words.clone());
     let mut answer = [0; 40];
     let count = library::call(&mut mine, &case.call, &mut answer) as usize;
-    let (first, due) = match text::run(&mut theirs, &case.call) {
-        Answer::Ok(numbers) => (0, numbers),
-        Answer::Path(sheets) => (4, sheets),
-        _ => panic!("{}: not answered ok", case.name),
-    };
-    assert!(answer[0] == first && answer[1..count] == due && mine == theirs, "{}", case.name);
+    let (name, due) = (case.call.name(), text::run(&mut theirs, &case.call));
+    assert!(matches!(due, Answer::Ok(_) | Answer::Path(_)), "{name}: not answered ok");
+    assert!(answer[..count] == due.words() && mine == theirs, "{name}");
 }

@@ -69,8 +69,7 @@ fn one(words: &mut [u32], call: &Call) -> bool {
     }
     let s = in_form(words).expect("an accepted call leaves the form");
     assert_eq!(words[s.total()..], before[s.total()..]);
-    let only_answers = matches!(call, Call::Look(..) | Call::Explain(..) | Call::Stale(_));
-    assert!(!only_answers || words == before);
+    assert!(!call.only_answers() || words == before);
     true
 }
 

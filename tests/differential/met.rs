@@ -52,22 +52,6 @@ pub struct Met {
     no_room: u64,
 }
 
-fn index(call: &Call) -> usize {
-    match call {
-        Call::New(..) => 0,
-        Call::Open(..) => 1,
-        Call::Fetch(..) => 2,
-        Call::Evict(..) => 3,
-        Call::Prepare(..) => 4,
-        Call::Step(..) => 5,
-        Call::Issue(..) => 6,
-        Call::Drop(..) => 7,
-        Call::Look(..) => 8,
-        Call::Stale(..) => 9,
-        Call::Explain(..) => 10,
-    }
-}
-
 impl Met {
     pub fn enter(&mut self, source: Source, call: &Call, answer: &Option<Answer>) {
         self.calls += 1;
@@ -82,7 +66,8 @@ impl Met {
             Some(Answer::Refused(number)) => self.refused[*number as usize] += 1,
             Some(Answer::Ok(numbers)) => {
                 self.by_source[source as usize] += 1;
-                self.ok[index(call)] += 1;
+                let place = CALLS.iter().position(|name| *name == call.name());
+                place.into_iter().for_each(|place| self.ok[place] += 1);
                 let several = u64::from(numbers[0].count_ones() > 1);
                 match call {
                     Call::Fetch(..) => self.fetches_of_more += several,

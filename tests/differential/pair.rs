@@ -29,18 +29,6 @@ pub struct Pair {
     events: Vec<Event>,
 }
 
-/// The answer's words: the outcome (0 ok, 1 broken, 2 refused, 3 clear, 4 path) and then the
-/// numbers.
-pub fn answer_words(answer: &Answer) -> Vec<u32> {
-    match answer {
-        Answer::Ok(numbers) => [&[0][..], numbers].concat(),
-        Answer::Broken(mask) => vec![1, *mask],
-        Answer::Refused(number) => vec![2, *number],
-        Answer::Clear => vec![3],
-        Answer::Path(sheets) => [&[4][..], sheets].concat(),
-    }
-}
-
 impl Pair {
     /// So many lent words, each of them the mark.
     pub fn lend(lent: usize) -> Pair {
@@ -87,7 +75,7 @@ impl Pair {
             true => None,
             false => Some(text::run(&mut self.reference[..self.lent], call)),
         };
-        let due = answer.as_ref().map_or(Vec::new(), answer_words);
+        let due = answer.as_ref().map_or(Vec::new(), Answer::words);
         let given = slice.get(..count as usize).unwrap_or(&slice);
         // Every word behind the answer stays; a short slice stays whole.
         let guarded = slice[due.len()..].iter().all(|word| *word == MARK);
@@ -117,29 +105,11 @@ impl Pair {
                     if *room != ANSWER {
                         script.push_str(&format!("room {room}\n"));
                     }
-                    script.push_str(&print_call(call));
+                    script.push_str(&call.line());
                     script.push('\n');
                 }
             }
         }
         script
     }
-}
-
-/// A call as a line of the program's input.
-pub fn print_call(call: &Call) -> String {
-    let (name, numbers) = match call {
-        Call::New(sizes) => ("new", sizes.to_vec()),
-        Call::Open(run, list) => ("open", [&[*run][..], list].concat()),
-        Call::Fetch(office, sheet) => ("fetch", vec![*office, *sheet]),
-        Call::Evict(office, sheet) => ("evict", vec![*office, *sheet]),
-        Call::Prepare(run) => ("prepare", vec![*run]),
-        Call::Step(run, job) => ("step", vec![*run, *job]),
-        Call::Issue(run, writer, mask) => ("issue", vec![*run, *writer, *mask]),
-        Call::Drop(run) => ("drop", vec![*run]),
-        Call::Look(place, number, sheet) => ("look", vec![*place, *number, *sheet]),
-        Call::Explain(run, job) => ("explain", vec![*run, *job]),
-        Call::Stale(office) => ("stale", vec![*office]),
-    };
-    numbers.iter().fold(name.to_string(), |line, number| format!("{line} {number}"))
 }

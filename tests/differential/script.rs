@@ -2,7 +2,7 @@
 //! slice), calls as the program reads them; `#` starts a remark. What the test prints behind a
 //! case is passed over, so that its output can be taken as it is.
 
-use crate::pair::{answer_words, Pair, ANSWER};
+use crate::pair::{Pair, ANSWER};
 use crate::text::{self, Call};
 
 /// Gives the exit status.
@@ -28,7 +28,7 @@ pub fn work(file: &str) -> i32 {
                     return 2;
                 };
                 match pair.call(&call, room) {
-                    Ok(answer) => println!("{line}: {:?}", answer.map(|a| answer_words(&a))),
+                    Ok(answer) => println!("{line}: {:?}", answer.map(|a| a.words())),
                     Err(case) => {
                         println!("{case}");
                         return 1;

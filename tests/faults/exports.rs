@@ -1,9 +1,10 @@
-//! The reference's eleven calls under the library's names, so that the differential test can be
+//! The reference's calls under the library's names, so that the differential test can be
 //! tried on a copy of the reference with a fault in it. Copied next to that copy and built as
 //! a shared library.
 #![allow(dead_code)]
 
 mod desk;
+mod text;
 
 use desk::Answer;
 
@@ -17,13 +18,7 @@ fn answer(out: &mut [u32], call: impl FnOnce() -> Answer) -> u32 {
     if out.len() < 40 {
         return 0;
     }
-    let words = match call() {
-        Answer::Ok(numbers) => [&[0][..], &numbers].concat(),
-        Answer::Broken(mask) => vec![1, mask],
-        Answer::Refused(number) => vec![2, number],
-        Answer::Clear => vec![3],
-        Answer::Path(sheets) => [&[4][..], &sheets].concat(),
-    };
+    let words = call().words();
     out[..words.len()].copy_from_slice(&words);
     words.len() as u32
 }

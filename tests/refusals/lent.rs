@@ -1,27 +1,33 @@
 //! Desks that no list of calls from new leaves: looks, leading writers, stale marks, the longest
 //! path.
 
-use crate::trials::{Call, Desk, Trials};
+use crate::calls_but_new;
+use crate::desk::layout::{COUNT, DONE, JOBS, JOB_LIST, LAST_ISSUE, LEADERS, NUMBER, PAST, READ, STATE, WRITER_PAST};
+use crate::text::Call;
+use crate::trials::{Desk, Trials};
 
 // A desk 32 1 1 1 on whose shelf each sheet needs the next one, and sheet 31 was read at an older
 // count: the path has all.
 pub fn of_the_longest_path(t: &mut Trials) {
-    let mut d = Desk::of(3400, 0);
-    d.call(&Call::New(32, 1, 1, 1));
-    d.words[4] = 9;
-    let (shelf, run) = (d.words[6] as usize, d.words[8] as usize);
+    let mut d = Desk::fresh([32, 1, 1, 1]);
+    let s = d.sizes();
+    d.words[LAST_ISSUE] = 9;
     for k in 0..32 {
-        let at = shelf + 34 * k;
-        (d.words[at], d.words[at + 1]) = (2, 1);
-        let row = at + 2 + k;
+        let at = s.shelf_at(0, k);
+        (d.words[at + NUMBER], d.words[at + LEADERS]) = (2, 1);
+        let row = at + PAST + k;
         d.words[row..row + (32 - k).min(2)].fill(2);
     }
     d.put_marks();
     let last = 1 << 31;
-    d.words[run..run + 4].copy_from_slice(&[1, 3, 1, last]);
-    d.words[run + 4..run + 13].copy_from_slice(&[0, last, 0, 0, 1, 0, 0, !last & !1, 0]);
-    let card = run + 28 + 34 * 31;
-    (d.words[card], d.words[card + 1], d.words[card + 33]) = (1, 1, 1);
+    let (run, card) = (s.run_at(0), s.card_at(0, 31));
+    for (word, value) in [(STATE, 1), (JOBS, 3), (DONE, 1), (READ, last)] {
+        d.words[run + word] = value;
+    }
+    d.put(run + JOB_LIST, &[0, last, 0, 0, 1, 0, 0, !last & !1, 0]);
+    for (word, value) in [(NUMBER, 1), (LEADERS, 1), (PAST + 31, 1)] {
+        d.words[card + word] = value;
+    }
     let path: Vec<u32> = [4].into_iter().chain(0..32).collect();
     t.told("the longest path", &mut d, Call::Explain(0, 1), &path);
     t.told("the last two of it", &mut d, Call::Explain(0, 2), &[4, 30, 31]);
@@ -37,11 +43,11 @@ pub fn of_the_longest_path(t: &mut Trials) {
 // A desk 2 2 1 1 whose master has sheet 0 at (1,1), in issue 3, led by writer 1, and lacks sheet
 // 1; the shelf's versions are given: issue number, leading writers, rows.
 fn lent(shelf: [[u32; 6]; 2]) -> Desk {
-    let mut d = Desk::of(87, 7);
-    d.call(&Call::New(2, 2, 1, 1));
-    d.words[4] = 9;
-    d.words[10..16].copy_from_slice(&[3, 2, 1, 1, 0, 0]);
-    d.words[22..34].copy_from_slice(&shelf.concat());
+    let mut d = Desk::fresh([2, 2, 1, 1]);
+    let s = d.sizes();
+    d.words[LAST_ISSUE] = 9;
+    d.put(s.master_at(0), &[3, 2, 1, 1, 0, 0]);
+    d.put(s.shelf_at(0, 0), &shelf.concat());
     d.put_marks();
     d
 }
@@ -67,15 +73,14 @@ pub fn of_looks(t: &mut Trials) {
 // with a job at each office that reads the sheet.
 fn one_sheet(master: [u32; 4], shelves: &[[u32; 4]]) -> Desk {
     let offices = shelves.len() as u32;
-    let mut d = Desk::of(100, 7);
-    d.call(&Call::New(1, 2, offices, 1));
-    d.words[10..14].copy_from_slice(&master);
+    let mut d = Desk::fresh([1, 2, offices, 1]);
+    let s = d.sizes();
+    d.put(s.master_at(0), &master);
     for (office, version) in shelves.iter().enumerate() {
-        d.words[14 + 5 * office..18 + 5 * office].copy_from_slice(version);
+        d.put(s.shelf_at(office, 0), version);
     }
     d.put_marks();
-    let jobs: Vec<u32> = (0..offices).flat_map(|office| [office, 1, 0]).collect();
-    d.call(&Call::Open(0, &jobs));
+    d.call(&Call::Open(0, (0..offices).flat_map(|office| [office, 1, 0]).collect()));
     d
 }
 
@@ -115,19 +120,18 @@ pub fn of_masks(t: &mut Trials) {
         (16, 32_768, true),
         (16, 65_536, false),
     ] {
-        let mut d = Desk::of(400, 7);
-        d.call(&Call::New(1, writers, 1, 1));
-        d.words[10..13].copy_from_slice(&[1, mask, 1]);
+        let mut d = Desk::fresh([1, writers, 1, 1]);
+        d.put(d.sizes().master_at(0), &[1, mask, 1]);
         if taken {
             t.ok("mask taken", &mut d, Call::Fetch(0, 0), &[1]);
         } else {
             t.refused("mask 1", &mut d, Call::Drop(5), 1);
         }
     }
-    let mut d = Desk::of(400, 7);
-    d.call(&Call::New(1, 2, 1, 1));
+    let mut d = Desk::fresh([1, 2, 1, 1]);
+    let mask = d.sizes().master_at(0) + LEADERS;
     t.refused("drop 3, in form", &mut d, Call::Drop(5), 3);
-    d.words[11] = 1;
+    d.words[mask] = 1;
     t.refused("mask 1, not held", &mut d, Call::Drop(5), 1);
 }
 
@@ -135,11 +139,13 @@ pub fn of_masks(t: &mut Trials) {
 // that are equal in their own row alone.
 pub fn of_marks(t: &mut Trials) {
     let mut d = one_sheet([1, 1, 1, 0], &[[2, 1, 2, 0]]);
-    d.words[4] = 5;
-    let (writers, run) = (d.words[7] as usize, d.words[8] as usize);
-    d.words[writers..writers + 2].copy_from_slice(&[1, 1]);
+    let (writer, run) = (d.sizes().writer_at(0), d.sizes().run_at(0));
+    d.words[LAST_ISSUE] = 5;
+    (d.words[writer + COUNT], d.words[writer + WRITER_PAST]) = (1, 1);
     // One job that is done and has read nothing.
-    d.words[run..run + 7].copy_from_slice(&[1, 1, 1, 0, 0, 0, 0]);
+    for (word, value) in [(STATE, 1), (JOBS, 1), (DONE, 1), (JOB_LIST + 1, 0)] {
+        d.words[run + word] = value;
+    }
     t.told("stale, newer than the master", &mut d, Call::Stale(0), &[0, 1]);
     t.ok("issue, up to the shelf", &mut d, Call::Issue(0, 0, 1), &[6]);
     t.told("stale, caught up", &mut d, Call::Stale(0), &[0, 0]);
@@ -155,23 +161,17 @@ pub fn of_marks(t: &mut Trials) {
     t.told("stale, none", &mut d, Call::Stale(0), &[0, 0]);
 }
 
-// On the desk 2 2 1 1 the mark is word 34; one that isn't the mask is refused by every call.
+// A mark that isn't the mask is refused by every call.
 pub fn of_marks_in_form(t: &mut Trials) {
     let mut d = lent([[7, 2, 2, 0, 0, 0], [1, 1, 0, 0, 1, 0]]);
+    let at = d.sizes().stale_at(0);
     t.refused("mark, drop 3", &mut d, Call::Drop(5), 3);
     for mark in [0, 1, 2, 4, 7, u32::MAX] {
-        d.words[34] = mark;
-        t.refused("mark 1, drop", &mut d, Call::Drop(5), 1);
-        t.refused("mark 1, stale", &mut d, Call::Stale(0), 1);
-        t.refused("mark 1, look", &mut d, Call::Look(1, 0, 0), 1);
-        t.refused("mark 1, open", &mut d, Call::Open(0, &[0, 0, 0]), 1);
-        t.refused("mark 1, fetch", &mut d, Call::Fetch(0, 0), 1);
-        t.refused("mark 1, evict", &mut d, Call::Evict(0, 0), 1);
-        t.refused("mark 1, prepare", &mut d, Call::Prepare(0), 1);
-        t.refused("mark 1, step", &mut d, Call::Step(0, 0), 1);
-        t.refused("mark 1, explain", &mut d, Call::Explain(0, 0), 1);
-        t.refused("mark 1, issue", &mut d, Call::Issue(0, 0, 0), 1);
+        d.words[at] = mark;
+        for call in calls_but_new() {
+            t.refused(&format!("mark 1, {}", call.name()), &mut d, call, 1);
+        }
     }
-    d.words[34] = 3;
+    d.words[at] = 3;
     t.told("mark, stale", &mut d, Call::Stale(0), &[0, 3]);
 }

@@ -23,9 +23,6 @@ pub struct Log {
     pub lines: usize,
 }
 
-/// The first words of answers.
-const ANSWERS: [&[u8]; 6] = [b"ok", b"broken", b"refused", b"clear", b"path", b"unread"];
-
 /// A line is an answer if it stands behind a call that has none yet. A file whose first two lines
 /// have no form of an answer is a script: in it such a line is unread, as the program takes it.
 pub fn read(bytes: &[u8]) -> Log {
@@ -50,7 +47,8 @@ pub fn read(bytes: &[u8]) -> Log {
 fn is_answer(line: &[u8]) -> bool {
     let mut words = line.split(|byte| *byte == b' ');
     let first = words.next().unwrap_or(b"");
-    ANSWERS.contains(&first)
+    let mut known = text::ANSWERS.iter().chain(&["unread"]);
+    known.any(|known| known.as_bytes() == first)
         && words.all(|word| !word.is_empty() && word.iter().all(u8::is_ascii_digit))
 }
 

@@ -80,14 +80,7 @@ fn mixed(number: u128) -> u128 {
 fn call_on(desk: &mut [u32], call: &Call) -> Answer {
     let mut words = [0; ANSWER_WORDS];
     let count = library::call(desk, call, &mut words) as usize;
-    let numbers = words.get(1..count).unwrap_or(&[]).to_vec();
-    match words[0] {
-        0 => Answer::Ok(numbers),
-        1 => Answer::Broken(words[1]),
-        3 => Answer::Clear,
-        4 => Answer::Path(numbers),
-        _ => Answer::Refused(words[1]),
-    }
+    Answer::of(&words[..count]).expect("the library writes an answer")
 }
 
 /// The answer as the program prints it.
@@ -97,6 +90,5 @@ pub fn printed(answer: &Option<Answer>) -> String {
 
 /// Whether the call changed the desk: it was done or broke its run, and doesn't only answer.
 pub fn changed(call: &Call, answer: &Answer) -> bool {
-    matches!(answer, Answer::Ok(_) | Answer::Broken(_))
-        && !matches!(call, Call::Look(..) | Call::Explain(..) | Call::Stale(_))
+    matches!(answer, Answer::Ok(_) | Answer::Broken(_)) && !call.only_answers()
 }

@@ -20,10 +20,10 @@ pub fn shrink(entries: &[Entry]) -> Vec<usize> {
     let (list, answer) = changing(entries);
     let goal = Goal::of(entries, answer);
     // The last call's own run comes last, so that the list is more likely the one that was meant.
-    let run = entries[last].call.as_ref().and_then(run_of);
+    let run = entries[last].call.as_ref().and_then(Call::run);
     let opened = list.iter().rposition(|place| is_open(&entries[*place], run));
     let opened = opened.map_or(last, |at| list[at]);
-    let others = |place: usize, call: &Call| place < opened || run_of(call) != run;
+    let others = |place: usize, call: &Call| place < opened || call.run() != run;
     let mut trial = Trial::of(&goal, list);
     if goal.number.least > 0 {
         untaken(&mut trial, others);
@@ -54,15 +54,6 @@ fn untaken(trial: &mut Trial, may: impl Fn(usize, &Call) -> bool) {
 
 fn is_open(entry: &Entry, run: Option<u32>) -> bool {
     matches!(&entry.call, Some(Call::Open(opened, _)) if Some(*opened) == run)
-}
-
-/// The run that a call is about.
-fn run_of(call: &Call) -> Option<u32> {
-    match call {
-        Call::Open(run, _) | Call::Prepare(run) | Call::Step(run, _) => Some(*run),
-        Call::Issue(run, ..) | Call::Drop(run) | Call::Explain(run, _) => Some(*run),
-        _ => None,
-    }
 }
 
 /// Those of the calls before the last that change the desk, from the last accepted new on, and

@@ -31,7 +31,7 @@ impl Told {
     /// Feeds the book with the call and fills the row; `path` is what explain gives for its job.
     pub fn work(&mut self, row: &mut Row, call: &Call, answer: &Answer, path: Option<Vec<u32>>) {
         row.lane = self.lane_of(call);
-        row.only_answers = matches!(call, Call::Look(..) | Call::Explain(..) | Call::Stale(_));
+        row.only_answers = call.only_answers();
         if let (Call::Step(run, job) | Call::Explain(run, job), Some(path)) = (call, path) {
             let would = matches!(call, Call::Explain(..));
             row.chain = breaks::chain(self, *run as usize, *job as usize, &path, would);
@@ -56,22 +56,19 @@ impl Told {
 
     /// The lane that a call is about, if there is one.
     fn lane_of(&self, call: &Call) -> Option<Lane> {
-        let (number, offices) = match call {
+        let (office, run) = match call {
             Call::Look(0, ..) => return Some(Lane::Master),
-            Call::Look(1, office, _) => (*office, true),
-            Call::Look(2, run, _) => (*run, false),
-            Call::New(_) | Call::Look(..) => return None,
+            Call::Look(1, office, _) => (Some(*office), None),
+            Call::Look(2, run, _) => (None, Some(*run)),
             Call::Fetch(office, _) | Call::Evict(office, _) | Call::Stale(office) => {
-                (*office, true)
+                (Some(*office), None)
             }
-            Call::Open(run, _) | Call::Prepare(run) | Call::Drop(run) => (*run, false),
-            Call::Step(run, _) | Call::Explain(run, _) | Call::Issue(run, ..) => (*run, false),
+            _ => (None, call.run()),
         };
-        let number = number as usize;
-        match offices {
-            true => (number < self.book.shelves.len()).then_some(Lane::Office(number)),
-            false => (number < self.runs.len()).then_some(Lane::Run(number)),
-        }
+        let office = office.map(|office| office as usize);
+        let run = run.map(|run| run as usize).filter(|run| *run < self.runs.len());
+        let office = office.filter(|office| *office < self.book.shelves.len());
+        office.map(Lane::Office).or(run.map(Lane::Run))
     }
 
     /// A call that was answered ok.

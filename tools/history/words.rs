@@ -139,58 +139,21 @@ pub fn unread(line: &[u8]) -> &'static str {
     }
 }
 
-/// Why a call is refused, in the words of `--echo`.
+/// The table of reasons, as the header for C has it: a row is one line.
+const REASONS: &str = include_str!("../../embed/sheetdesk_reason.h");
+
+/// Why a call is refused, in the words of `--echo`: the first row with the number that is for it.
 pub fn refusal(call: &Call, number: u32) -> &'static str {
-    match number {
-        1 if matches!(call, Call::New(_)) => "the desk has no room for so many",
-        1 => "there is no desk yet",
-        2 => "a count is out of range (1 to 32 sheets, 16 writers, 8 offices, 8 runs)",
-        3 => out_of_range(call),
-        4 => wrong_state(call),
-        5 => "the list of jobs is not valid",
-        6 => wrong_turn(call),
-        7 => "the master does not hold a sheet to be fetched",
-        8 => not_held(call),
-        9 => "the last issue number is the largest",
-        10 => "the writer's count is the largest",
-        _ => "for a cause that this page has no words for",
-    }
-}
-
-fn out_of_range(call: &Call) -> &'static str {
-    match call {
-        Call::Fetch(..) | Call::Evict(..) => "there is no such office or sheet",
-        Call::Stale(_) => "there is no such office",
-        Call::Step(..) | Call::Explain(..) => "there is no such run or job",
-        Call::Issue(..) => {
-            "there is no such run or writer, or the mask names a sheet that there isn't"
-        }
-        Call::Look(..) => "there is no such place, number or sheet (the master's number is 0)",
-        _ => "there is no such run",
-    }
-}
-
-fn wrong_state(call: &Call) -> &'static str {
-    match call {
-        Call::Open(..) => "the run is not free",
-        Call::Drop(_) => "the run is free: nothing to do",
-        _ => "the run is not open: it is free, or broken",
-    }
-}
-
-fn wrong_turn(call: &Call) -> &'static str {
-    match call {
-        Call::Prepare(_) => "a job of the run is done: prepare comes before the first step",
-        Call::Issue(..) => "a job of the run is not done",
-        _ => "the job is done already, or one that it waits for is not done",
-    }
-}
-
-fn not_held(call: &Call) -> &'static str {
-    match call {
-        Call::Evict(..) => "the shelf does not hold the sheet: nothing to do",
-        Call::Look(1, ..) => "the shelf does not hold the sheet: fetch it",
-        Call::Look(2, ..) => "the card does not hold the sheet: step or prepare brings it",
-        _ => "the master does not hold the sheet: issue it",
-    }
+    let (line, number) = (call.line() + " ", number.to_string());
+    let row = |line: &'static str| {
+        let row = line.trim_start().strip_prefix('{')?.strip_suffix("\"},")?;
+        let (of, rest) = row.split_once(", \"")?;
+        rest.split_once("\", \"").filter(|_| of == number)
+    };
+    let is_for = |calls: &str| {
+        let begins = |name: &str| line.starts_with(&format!("{name} "));
+        calls.is_empty() || calls == "*" || calls.split(',').any(begins)
+    };
+    let found = REASONS.lines().filter_map(row).find(|row| is_for(row.0));
+    found.map_or("for a cause that this page has no words for", |row| row.1)
 }

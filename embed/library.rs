@@ -1,4 +1,5 @@
-//! The library's calls by the C convention: a slice is a pointer and a length in words.
+//! The library's calls over the exports, for tests, benchmarks and tools: a call as the reference
+//! reads it (reference/text.rs), on words of any content and with an answer's slice of any length.
 
 use crate::embed::exports::*;
 use crate::text::Call;
