@@ -3,29 +3,14 @@ use crate::Explained;
 use crate::Finding;
 use answers::put_one;
 use answers::put_two;
+use words::copy_from;
 ghost use mathlib.Core.List.{_∷_};
-ghost use mathlib.Core.Path.{_≡_};
 ghost use Prim.Native.Nat.{_≤_};
-ghost use lib.ListN.{length, getD};
+ghost use lib.ListN.{length};
 ghost use Rattle.words.specs.Lists.{window};
-ghost use Rattle.words.specs.Words.{put};
 ghost use Rattle.model.specs.Calls.Explain.{pathWord};
 ghost use Rattle.answers.specs.Answers.{answerRoom, Lays};
 ghost use Rattle.explain.specs.Answers.{explainedWords, Listed};
-
-// The first n keys, behind a first word.
-fn put_keys(answer: &mut [u32], keys: &[u32], n: usize)
-    requires { ⌜ (n ≤ length (now keys)) × (n ≤ 32) ⌝ }
-    requires { ⌜ answerRoom ≤ length (now answer) ⌝ }
-    ensures { λ _. ⌜ now (answer .exit)
-        ≡ put (now (answer .entry)) 1 n (λ i. getD (now (keys .entry)) i 0) ⌝ }
-{
-    let mut i = 0;
-    while i < n {
-        answer[1 + i] = keys[i];
-        i += 1;
-    }
-}
 
 // The word of a path, and its keys.
 fn put_path(answer: &mut [u32], keys: &[u32], n: usize) -> usize
@@ -35,7 +20,7 @@ fn put_path(answer: &mut [u32], keys: &[u32], n: usize) -> usize
         (now (answer .entry)) (now (answer .exit)) r ⌝ }
 {
     let one = put_one(answer, 4);
-    put_keys(answer, keys, n);
+    copy_from(answer, one, keys, 0, n);
     one + n
 }
 

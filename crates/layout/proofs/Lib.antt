@@ -11,7 +11,6 @@ pub mod Whole
 pub mod Fit
 pub mod Views
 pub mod Updates
-pub mod Tails
 pub mod Windows
 pub mod Places
 pub mod Merges

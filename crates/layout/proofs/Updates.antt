@@ -23,11 +23,10 @@ use Rattle.model.specs.Store.{Writer, Run, Site, Store, withLast, withMaster, w
 use Rattle.layout.specs.Words.{headerWords, placeWords, siteWords, sitesWords, writerWords, writersWords, jobsWords, runWords, runsWords, storeWords}
 use Rattle.layout.specs.Buffer.{written}
 use Rattle.layout.specs.Reading.{storeOf}
-use Rattle.layout.proofs.Codec.{many-part, many-room}
 use Rattle.layout.proofs.Parts.{place-laws, site-laws, writer-laws, run-laws}
 use Rattle.layout.proofs.Jobs.{jobs-laws}
-use Rattle.layout.proofs.Whole.{FitStore, store-back, written-twice, toMaster, toSites, toWriters, header-long, master-long, sites-long, writers-long}
-use Rattle.layout.proofs.Views.{area-to, afterTail, afterRuns, afterWriters, afterSites, afterMaster, view-master, view-sites, view-writers, view-runs}
+use Rattle.layout.proofs.Whole.{FitStore, store-back, written-twice}
+use Rattle.layout.proofs.Views.{put-area, put-row-part, withRuns, master-area, sites-area, writers-area, runs-area}
 
 -- ---- the last number and the master
 
@@ -38,68 +37,38 @@ put-last s l n = refl
 pub put-master : (s : Store) (l : List ℕ) (p : Place Version)
     → sets (written s l) (masterAt (s .counts)) (placeWords (s .counts) p)
     ≡ written (withMaster s p) l
-unfolding withMaster afterMaster afterSites afterWriters afterRuns afterTail
+unfolding withMaster
 put-master s l p =
     let z = s .counts in
-    let words = placeWords z p in
     let old = placeWords z (s .master) in
-    let same : length words ≡ length old =
+    let same : length (placeWords z p) ≡ length old =
     place-laws z .long p ∙ sym (place-laws z .long (s .master)) in
     let e : masterAt z ≡ masterAt z + 0 = omega arith in
-    rw (view-master s l, e)
-    (area-to (headerWords z (s .last)) old (afterMaster s l) words words (masterAt z) 0
-    (header-long s) (omega (arith, same)) (sets-all old words same)
-    ∙ sym (view-master (withMaster s p) l))
+    rw e (put-area (master-area s l) (s .master) p 0 (placeWords z p) (omega (arith, same))
+    (sets-all old (placeWords z p) same))
 
--- ---- a store within one part of a row: what it does to the part, it does to the store
+-- ---- a store within one part of a row, and into the tail
 
-pub put-site-part : (s : Store) (l : List ℕ) (o i : ℕ) (x : List ℕ) (y : Site)
+put-site-part : (s : Store) (l : List ℕ) (o i : ℕ) (x : List ℕ) (y : Site)
     → o < s .counts .sites → i + length x ≤ siteSize (s .counts)
     → sets (siteWords (s .counts) (s .site o)) i x ≡ siteWords (s .counts) y
     → sets (written s l) (siteAt (s .counts) o + i) x ≡ written (withSite s o y) l
-unfolding withSites siteAt toMaster afterSites afterWriters afterRuns afterTail sitesWords
-put-site-part s l o i x y h j e =
-    let z = s .counts in
-    let L = site-laws z in
-    let k = o * siteSize z + i in
-    let g : sitesAt z + o * siteSize z + i ≡ sitesAt z + k = omega arith in
-    rw (view-sites s l, g)
-    (area-to (toMaster s) (sitesWords z (s .site)) (afterSites s l) _ x (sitesAt z) k
-    (master-long s) (many-room (z .sites) L (s .site) o i x h j)
-    (many-part (z .sites) L (s .site) o i x y h j e)
-    ∙ sym (view-sites (withSite s o y) l))
+unfolding withSites siteAt sitesWords
+put-site-part s l = put-row-part (site-laws (s .counts)) (sites-area s l) (s .site)
 
-pub put-writer-part : (s : Store) (l : List ℕ) (w i : ℕ) (x : List ℕ) (y : Writer)
+put-writer-part : (s : Store) (l : List ℕ) (w i : ℕ) (x : List ℕ) (y : Writer)
     → w < s .counts .writers → i + length x ≤ writerSize (s .counts)
     → sets (writerWords (s .counts) (s .writer w)) i x ≡ writerWords (s .counts) y
     → sets (written s l) (writerAt (s .counts) w + i) x ≡ written (withWriter s w y) l
-unfolding withWriter writerAt toMaster toSites afterWriters afterRuns afterTail writersWords
-put-writer-part s l w i x y h j e =
-    let z = s .counts in
-    let L = writer-laws z in
-    let k = w * writerSize z + i in
-    let g : writersAt z + w * writerSize z + i ≡ writersAt z + k = omega arith in
-    rw (view-writers s l, g)
-    (area-to (toSites s) (writersWords z (s .writer)) (afterWriters s l) _ x (writersAt z) k
-    (sites-long s) (many-room (z .writers) L (s .writer) w i x h j)
-    (many-part (z .writers) L (s .writer) w i x y h j e)
-    ∙ sym (view-writers (withWriter s w y) l))
+unfolding withWriter writerAt writersWords
+put-writer-part s l = put-row-part (writer-laws (s .counts)) (writers-area s l) (s .writer)
 
-pub put-run-part : (s : Store) (l : List ℕ) (r i : ℕ) (x : List ℕ) (y : Run)
+put-run-part : (s : Store) (l : List ℕ) (r i : ℕ) (x : List ℕ) (y : Run)
     → r < s .counts .runs → i + length x ≤ runSize (s .counts)
     → sets (runWords (s .counts) (s .run r)) i x ≡ runWords (s .counts) y
     → sets (written s l) (runAt (s .counts) r + i) x ≡ written (withRun s r y) l
-unfolding withRun runAt toMaster toSites toWriters afterRuns afterTail runsWords
-put-run-part s l r i x y h j e =
-    let z = s .counts in
-    let L = run-laws z in
-    let k = r * runSize z + i in
-    let g : runsAt z + r * runSize z + i ≡ runsAt z + k = omega arith in
-    rw (view-runs s l, g)
-    (area-to (toWriters s) (runsWords z (s .run)) (afterRuns s l) _ x (runsAt z) k
-    (writers-long s) (many-room (z .runs) L (s .run) r i x h j)
-    (many-part (z .runs) L (s .run) r i x y h j e)
-    ∙ sym (view-runs (withRun s r y) l))
+unfolding withRun runAt runsWords
+put-run-part s l = put-row-part (run-laws (s .counts)) (runs-area s l) (s .run)
 
 -- ---- whole parts
 
@@ -222,18 +191,7 @@ put-masks s l r x y h =
 -- A run changed twice.
 pub run-twice : (s : Store) (r : ℕ) (x y : Run) → withRun (withRun s r x) r y ≡ withRun s r y
 unfolding withRun
-run-twice s r x y = ap storeWith (put-twice (s .run) r x y)
-  where
-    storeWith : (ℕ → Run) → Store
-    storeWith f = record {
-      counts = s .counts;
-      last = s .last;
-      master = s .master;
-      site = s .site;
-      writer = s .writer;
-      run = f;
-      tail = s .tail;
-    }
+run-twice s r x y = ap (withRuns s) (put-twice (s .run) r x y)
 
 -- A change of what the change before it left is the change of its store.
 pub phase : (s : Store) (l : List ℕ) (f : Store → Store) → FitStore s → f s .counts ≡ s .counts

@@ -4,12 +4,11 @@ use answers::put_two;
 use clock::Standing;
 use clock::standing_number;
 use numbers::IssueNumber;
-ghost use mathlib.Core.Path.{_≡_};
+use words::copy_from;
 ghost use mathlib.Core.List.{[], _∷_};
 ghost use Prim.Native.Nat.{_+_, _≤_};
-ghost use lib.ListN.{length, getD};
+ghost use lib.ListN.{length};
 ghost use Rattle.answers.specs.Answers.{answerRoom, Lays};
-ghost use Rattle.words.specs.Words.{put};
 ghost use Rattle.sizes.specs.Bounds.{maxWriters};
 ghost use Rattle.look.specs.Answer.{seen};
 
@@ -23,20 +22,6 @@ fn put_front(answer: &mut [u32], issue: IssueNumber, leaders: u32) -> usize
     let two = put_two(answer, 0, number);
     answer[two] = leaders;
     two + 1
-}
-
-// n counts from an index of the buffer on, behind an outcome, a number and a mask.
-fn put_counts(answer: &mut [u32], store: &[u32], at: usize, n: usize)
-    requires { ⌜ (at + n ≤ length (now store)) × (n ≤ maxWriters) ⌝ }
-    requires { ⌜ answerRoom ≤ length (now answer) ⌝ }
-    ensures { λ _. ⌜ now (answer .exit) ≡ put (now (answer .entry)) 3 n
-        (λ i. getD (now (store .entry)) (at + i) 0) ⌝ }
-{
-    let mut i = 0;
-    while i < n {
-        answer[3 + i] = store[at + i];
-        i += 1;
-    }
 }
 
 // An issue number, a mask of leading writers, a row of n counts from an index of the buffer on,
@@ -56,7 +41,7 @@ pub fn put_version(
         (now (answer .entry)) (now (answer .exit)) r ⌝ }
 {
     let front = put_front(answer, issue, leaders);
-    put_counts(answer, store, at, n);
+    copy_from(answer, front, store, at, n);
     answer[front + n] = standing_number(standing);
     front + n + 1
 }

@@ -6,11 +6,11 @@ use sizes::is_between;
 use sizes::run::JobOffset;
 use sizes::run::RunOffset;
 use states::OPEN_STATE;
+use words::copy_from;
 ghost use mathlib.Core.Path.{_≡_};
 ghost use Prim.Native.Nat.{_+_, _*_, _≤_};
-ghost use lib.ListN.{length, getD};
+ghost use lib.ListN.{length};
 ghost use Rattle.words.specs.Tests.{allBelow};
-ghost use Rattle.words.specs.Words.{put};
 ghost use Rattle.sizes.specs.Bounds.{Ranged, maxJobs, jobSize, planSize, snapshotOffset};
 ghost use Rattle.model.specs.Form.{validJob};
 ghost use Rattle.model.specs.Runs.{listedJob, listedCount, listValid};
@@ -54,19 +54,6 @@ pub fn list_valid(z: Counts, jobs: &[u32]) -> bool
     each_valid(z, jobs, n)
 }
 
-// Copies a list to index at on.
-pub fn copy_list(words: &mut [u32], at: usize, list: &[u32])
-    requires { ⌜ at + length (now list) ≤ length (now words) ⌝ }
-    ensures { λ _. ⌜ now (words .exit) ≡ put (now (words .entry)) at
-        (length (now (list .entry))) (λ i. getD (now (list .entry)) i 0) ⌝ }
-{
-    let mut i = 0;
-    while i < list.len() {
-        words[at + i] = list[i];
-        i += 1;
-    }
-}
-
 // Makes the free run at an index an open one with these jobs, and answers their number. The
 // other words of the run are zero.
 pub fn put_jobs(words: &mut [u32], at: usize, jobs: &[u32]) -> u32
@@ -78,6 +65,6 @@ pub fn put_jobs(words: &mut [u32], at: usize, jobs: &[u32]) -> u32
     let n = (jobs.len() / Sizes::JOB_SIZE) as u32;
     words[at] = OPEN_STATE;
     words[at + RunOffset::JOBS] = n;
-    copy_list(words, at + RunOffset::PLAN, jobs);
+    copy_from(words, at + RunOffset::PLAN, jobs, 0, jobs.len());
     n
 }

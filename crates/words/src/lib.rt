@@ -42,3 +42,16 @@ pub fn copy(words: &mut [u32], dst: usize, src: usize, n: usize)
         i += 1;
     }
 }
+
+// Copies n words of another slice, from its index src on, to index dst on.
+pub fn copy_from(words: &mut [u32], dst: usize, from: &[u32], src: usize, n: usize)
+    requires { ⌜ (dst + n ≤ length (now words)) × (src + n ≤ length (now from)) ⌝ }
+    ensures { λ _. ⌜ now (words .exit)
+        ≡ put (now (words .entry)) dst n (λ i. getD (now (from .entry)) (src + i) 0) ⌝ }
+{
+    let mut i = 0;
+    while i < n {
+        words[dst + i] = from[src + i];
+        i += 1;
+    }
+}

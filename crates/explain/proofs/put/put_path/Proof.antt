@@ -1,16 +1,15 @@
 -- `put_path` lays a first word over the front, and the keys behind it.
 -- Assumes nothing.
-use mathlib.Core.Path.{sym, ap, _∙_}
+use mathlib.Core.Path.{ap, _∙_}
 use mathlib.Core.List.{List, [], _∷_}
 use Prim.Native.Nat.{ℕ, _+_}
 use native.Mathlib.Omega.{arith}
-use native.Mathlib.Nat.{zero-add}
 use borrow.Author.Needs.{needs}
 use lib.ListN.{getD}
 use lib.Seq.{sets}
 use Rattle.words.specs.Lists.{window}
+use Rattle.words.specs.Words.{put}
 use Rattle.words.proofs.Lists.{length-window}
-use Rattle.words.proofs.Words.{put-same}
 use Rattle.model.specs.Calls.Explain.{pathWord}
 use Rattle.layout.proofs.Merges.{put-window}
 use Rattle.answers.proofs.Fronts.{over-more}
@@ -26,10 +25,9 @@ returns c =
     let keys = window (a .keys .now) 0 (a .n) in
     let long = length-window (a .keys .now) 0 (a .n) in
     record {
-      laid = c .before .before .put-keys .ensures
-          ∙ put-same (t .last .0) 1 (a .n) (λ i. getD (a .keys .now) i 0)
-          (λ i. getD (a .keys .now) (0 + i) 0)
-          (λ i _. ap (λ (k : ℕ). getD (a .keys .now) k 0) (sym (zero-add i)))
+      laid = c .before .before .copy-from .ensures
+          ∙ ap (λ (k : ℕ). put (t .last .0) k (a .n) (λ i. getD (a .keys .now) (0 + i) 0))
+          (t .ensures .count)
           ∙ put-window (t .last .0) (a .keys .now) 1 0 (a .n)
           ∙ ap (λ (l : List ℕ). sets l 1 keys) (t .ensures .laid)
           ∙ over-more (pathWord ∷ []) keys (a .answer .now)

@@ -3,11 +3,12 @@
 use native.Mathlib.Omega.{arith}
 use mathlib.Core.Path.{_≡_, ap, _∙_}
 use mathlib.Core.List.{List, [], _∷_, _++_}
-use Prim.Native.Nat.{ℕ}
-use lib.ListN.{length, length-set, length-append}
+use Prim.Native.Nat.{ℕ, _+_}
+use lib.ListN.{length, getD, length-set, length-append}
 use lib.Seq.{sets}
 use borrow.Author.Needs.{needs}
 use Rattle.words.specs.Lists.{window}
+use Rattle.words.specs.Words.{put}
 use Rattle.words.proofs.Lists.{length-window}
 use Rattle.layout.proofs.Merges.{put-window}
 use Rattle.clock.specs.Clock.{standingNumber}
@@ -20,7 +21,7 @@ use Rattle.look.proofs.row.put_version.Tie as tie
 same-length : tie.Need-same-length
 same-length c =
     let m = c .before .before .before in
-    length-set (m .put-counts .last .0) _ _ ∙ search needs
+    length-set (m .copy-from .last .0) _ _ ∙ search needs
 
 returns : tie.Need-returns
 unfolding seen
@@ -34,8 +35,10 @@ returns c =
     let long = length-window (a .store .now) (a .at) (a .n) in
     let last : List ℕ = standingNumber (a .standing) ∷ [] in
     let first : List ℕ = 0 ∷ a .issue .0 ∷ a .leaders ∷ [] in
-    let behind : m .put-counts .last .0 ≡ over (first ++ row) (a .answer .now) =
-    m .put-counts .ensures
+    let behind : m .copy-from .last .0 ≡ over (first ++ row) (a .answer .now) =
+    m .copy-from .ensures
+    ∙ ap (λ (k : ℕ). put (t .last .0) k (a .n) (λ i. getD (a .store .now) (a .at + i) 0))
+    (t .ensures .count)
     ∙ put-window (t .last .0) (a .store .now) 3 (a .at) (a .n)
     ∙ ap (λ (l : List ℕ). sets l 3 row) (t .ensures .laid)
     ∙ over-more first row (a .answer .now) (omega (arith, long, s .pre .0 .1, s .pre .1)) in
