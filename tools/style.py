@@ -14,8 +14,8 @@ PROOF = re.compile(r"(?<![\w-])(omega|rw|refl|simp|search|cc|absurd|∙)(?![\w-]
 
 def faults(path):
     with open(path, encoding="utf-8") as source:
-        lines = source.read().split("\n")
-    if len(lines) > (310 if path.endswith("/Proof.antt") else 260):
+        lines = source.read().splitlines()
+    if len(lines) > (300 if path.endswith("/Proof.antt") else 250):
         yield "%s: %d lines" % (path, len(lines))
     for number, line in enumerate(lines, 1):
         if len(line) >= 100 and not USE.match(line):

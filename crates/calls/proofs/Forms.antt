@@ -77,14 +77,14 @@ count-fits a b w n r f = omega (arith, r .count, f)
 pub count-same : (a b w : List ℕ) (n k : ℕ) → k ≡ n → Lays w a b n → Lays w a b k
 count-same a b w n k e r = rw e r
 
--- f: whether the buffer is in form. g: whether the call is admitted.
+-- f: whether the buffer is in form. g: whether the call can be made.
 module _ (l a : List ℕ) (f g : Bool) (e : f ≡ inForm l)
     (d : g ≡ f && leb answerRoom (length a)) where
-  pub admitted-form : So g → So (inForm l)
-  admitted-form y = sym e ∙ and-left f (leb answerRoom (length a)) (sym d ∙ y)
+  pub can-make-form : So g → So (inForm l)
+  can-make-form y = sym e ∙ and-left f (leb answerRoom (length a)) (sym d ∙ y)
 
-  pub admitted-room : So g → answerRoom ≤ length a
-  admitted-room y =
+  pub can-make-room : So g → answerRoom ≤ length a
+  can-make-room y =
       leb-le answerRoom (length a) (and-right f (leb answerRoom (length a)) (sym d ∙ y))
 
   pub export-not : (c : StoreCall) (b : List ℕ) (n : ℕ) → g ≡ false → TurnedDown a b n
@@ -124,8 +124,8 @@ pub ruleset exports = (
   export-done,
   export-asked,
   count-fits,
-  admitted-form,
-  admitted-room,
+  can-make-form,
+  can-make-room,
   not-true,
   not-false,
   few-answered,

@@ -21,7 +21,7 @@ pub extern "C" fn sheetdesk_new(
     ensures { λ n. ⌜ Exported (new keys writers sites runs)
         (now (store .entry)) (now (store .exit)) (now (out .entry)) (now (out .exit)) n ⌝ }
 {
-    calls::new(store, keys, writers, sites, runs, out)
+    calls::first::new(store, keys, writers, sites, runs, out)
 }
 
 #[no_mangle]
@@ -29,7 +29,7 @@ pub extern "C" fn sheetdesk_open(store: &mut [u32], run: u32, jobs: &[u32], out:
     ensures { λ n. ⌜ Exported (on (openRun run (now (jobs .entry))))
         (now (store .entry)) (now (store .exit)) (now (out .entry)) (now (out .exit)) n ⌝ }
 {
-    calls::open(store, in_form(store), run, jobs, out)
+    calls::first::open(store, in_form(store), run, jobs, out)
 }
 
 #[no_mangle]
@@ -37,7 +37,7 @@ pub extern "C" fn sheetdesk_fetch(store: &mut [u32], site: u32, key: u32, out: &
     ensures { λ n. ⌜ Exported (on (fetch site key))
         (now (store .entry)) (now (store .exit)) (now (out .entry)) (now (out .exit)) n ⌝ }
 {
-    calls::fetch(store, in_form(store), site, key, out)
+    calls::first::fetch(store, in_form(store), site, key, out)
 }
 
 #[no_mangle]
@@ -45,7 +45,7 @@ pub extern "C" fn sheetdesk_evict(store: &mut [u32], site: u32, key: u32, out: &
     ensures { λ n. ⌜ Exported (on (evict site key))
         (now (store .entry)) (now (store .exit)) (now (out .entry)) (now (out .exit)) n ⌝ }
 {
-    calls::evict(store, in_form(store), site, key, out)
+    calls::first::evict(store, in_form(store), site, key, out)
 }
 
 #[no_mangle]
@@ -53,7 +53,7 @@ pub extern "C" fn sheetdesk_prepare(store: &mut [u32], run: u32, out: &mut [u32]
     ensures { λ n. ⌜ Exported (on (prepare run))
         (now (store .entry)) (now (store .exit)) (now (out .entry)) (now (out .exit)) n ⌝ }
 {
-    calls::prepare(store, in_form(store), run, out)
+    calls::first::prepare(store, in_form(store), run, out)
 }
 
 #[no_mangle]
@@ -61,7 +61,7 @@ pub extern "C" fn sheetdesk_step(store: &mut [u32], run: u32, job: u32, out: &mu
     ensures { λ n. ⌜ Exported (on (step run job))
         (now (store .entry)) (now (store .exit)) (now (out .entry)) (now (out .exit)) n ⌝ }
 {
-    calls::step(store, in_form(store), run, job, out)
+    calls::first::step(store, in_form(store), run, job, out)
 }
 
 #[no_mangle]
@@ -75,7 +75,7 @@ pub extern "C" fn sheetdesk_issue(
     ensures { λ n. ⌜ Exported (on (issue run writer mask))
         (now (store .entry)) (now (store .exit)) (now (out .entry)) (now (out .exit)) n ⌝ }
 {
-    calls::issue(store, in_form(store), run, writer, mask, out)
+    calls::first::issue(store, in_form(store), run, writer, mask, out)
 }
 
 #[no_mangle]
@@ -83,7 +83,7 @@ pub extern "C" fn sheetdesk_drop(store: &mut [u32], run: u32, out: &mut [u32]) -
     ensures { λ n. ⌜ Exported (on (dropRun run))
         (now (store .entry)) (now (store .exit)) (now (out .entry)) (now (out .exit)) n ⌝ }
 {
-    calls::drop(store, in_form(store), run, out)
+    calls::first::drop(store, in_form(store), run, out)
 }
 
 #[no_mangle]
@@ -97,7 +97,7 @@ pub extern "C" fn sheetdesk_look(
     ensures { λ n. ⌜ Exported (on (ask (look place number key)))
         (now (store .entry)) (now (store .entry)) (now (out .entry)) (now (out .exit)) n ⌝ }
 {
-    calls::look(store, in_form(store), place, number, key, out)
+    calls::first::look(store, in_form(store), place, number, key, out)
 }
 
 #[no_mangle]
@@ -105,7 +105,7 @@ pub extern "C" fn sheetdesk_explain(store: &[u32], run: u32, job: u32, out: &mut
     ensures { λ n. ⌜ Exported (on (ask (explain run job)))
         (now (store .entry)) (now (store .entry)) (now (out .entry)) (now (out .exit)) n ⌝ }
 {
-    calls::explain(store, in_form(store), run, job, out)
+    calls::later::explain(store, in_form(store), run, job, out)
 }
 
 #[no_mangle]
@@ -113,7 +113,7 @@ pub extern "C" fn sheetdesk_stale(store: &[u32], site: u32, out: &mut [u32]) -> 
     ensures { λ n. ⌜ Exported (on (ask (stale site)))
         (now (store .entry)) (now (store .entry)) (now (out .entry)) (now (out .exit)) n ⌝ }
 {
-    calls::stale(store, in_form(store), site, out)
+    calls::later::stale(store, in_form(store), site, out)
 }
 
 // The version of this interface: it rises when a call, its arguments or its answer change.

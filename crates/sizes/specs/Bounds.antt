@@ -9,7 +9,6 @@ use lib.Dec.{leb}
 use Rattle.sizes.specs.declared.Counts.{Counts}
 use Rattle.sizes.specs.declared.Sizes.{Sizes}
 
--- Four counts.
 abbrev pub countsOf : ℕ → ℕ → ℕ → ℕ → Counts
 countsOf k w n p = record { keys = k; writers = w; sites = n; runs = p }
 
@@ -124,8 +123,7 @@ upstreamOffset = 2
 abbrev pub jobSize : ℕ
 jobSize = 3
 
--- Of a run, whose state stands first: the number of jobs, the masks, the jobs (the plan), the
--- snapshot.
+-- Of a run, whose state stands first; its jobs are the plan.
 abbrev pub jobsOffset : ℕ
 jobsOffset = 1
 
@@ -201,7 +199,6 @@ totalOf z = tailAt z + tailSize z
 abbrev pub maxTotal : ℕ
 maxTotal = 288066
 
--- Offsets and total.
 unfoldable pub sizesOf : Counts → Sizes
 sizesOf z = record {
   master = masterAt z;

@@ -1,15 +1,15 @@
--- `drop` makes the call where it is admitted, and turns it down elsewhere.
+-- `fetch` makes the call where it can be made, and turns it down elsewhere.
 -- Assumes nothing.
 use borrow.Author.Needs.{needs}
 use Rattle.calls.proofs.Forms.{exports}
-use Rattle.calls.proofs.drop.Statement.{statement}
-use Rattle.calls.proofs.drop.Tie as tie
+use Rattle.calls.proofs.first.fetch.Statement.{statement}
+use Rattle.calls.proofs.first.fetch.Tie as tie
 
 returns-2 : tie.Need-returns-2
 returns-2 c = search exports
 
-pub drop-spec : {M : Type 1} → statement M
-drop-spec =
+pub fetch-spec : {M : Type 1} → statement M
+fetch-spec =
     tie.close
     (tie.spec
     (λ c κs. search needs)

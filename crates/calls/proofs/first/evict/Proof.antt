@@ -1,15 +1,15 @@
--- `issue` makes the call where it is admitted, and turns it down elsewhere.
+-- `evict` makes the call where it can be made, and turns it down elsewhere.
 -- Assumes nothing.
 use borrow.Author.Needs.{needs}
 use Rattle.calls.proofs.Forms.{exports}
-use Rattle.calls.proofs.issue.Statement.{statement}
-use Rattle.calls.proofs.issue.Tie as tie
+use Rattle.calls.proofs.first.evict.Statement.{statement}
+use Rattle.calls.proofs.first.evict.Tie as tie
 
 returns-2 : tie.Need-returns-2
 returns-2 c = search exports
 
-pub issue-spec : {M : Type 1} → statement M
-issue-spec =
+pub evict-spec : {M : Type 1} → statement M
+evict-spec =
     tie.close
     (tie.spec
     (λ c κs. search needs)

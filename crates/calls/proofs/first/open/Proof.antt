@@ -1,15 +1,15 @@
--- `prepare` makes the call where it is admitted, and turns it down elsewhere.
+-- `open` makes the call where it can be made, and turns it down elsewhere.
 -- Assumes nothing.
 use borrow.Author.Needs.{needs}
 use Rattle.calls.proofs.Forms.{exports}
-use Rattle.calls.proofs.prepare.Statement.{statement}
-use Rattle.calls.proofs.prepare.Tie as tie
+use Rattle.calls.proofs.first.open.Statement.{statement}
+use Rattle.calls.proofs.first.open.Tie as tie
 
 returns-2 : tie.Need-returns-2
 returns-2 c = search exports
 
-pub prepare-spec : {M : Type 1} → statement M
-prepare-spec =
+pub open-spec : {M : Type 1} → statement M
+open-spec =
     tie.close
     (tie.spec
     (λ c κs. search needs)

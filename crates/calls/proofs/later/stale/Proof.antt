@@ -1,15 +1,15 @@
--- `open` makes the call where it is admitted, and turns it down elsewhere.
+-- `stale` answers where it can be made, and is turned down elsewhere.
 -- Assumes nothing.
 use borrow.Author.Needs.{needs}
 use Rattle.calls.proofs.Forms.{exports}
-use Rattle.calls.proofs.open.Statement.{statement}
-use Rattle.calls.proofs.open.Tie as tie
+use Rattle.calls.proofs.later.stale.Statement.{statement}
+use Rattle.calls.proofs.later.stale.Tie as tie
 
 returns-2 : tie.Need-returns-2
 returns-2 c = search exports
 
-pub open-spec : {M : Type 1} → statement M
-open-spec =
+pub stale-spec : {M : Type 1} → statement M
+stale-spec =
     tie.close
     (tie.spec
     (λ c κs. search needs)
@@ -18,6 +18,5 @@ open-spec =
     (λ c. search exports)
     (λ c κs. search exports)
     (λ c κs. search exports)
-    (λ c. search needs)
     (λ c. search needs)
     returns-2)

@@ -1,15 +1,15 @@
--- `fetch` makes the call where it is admitted, and turns it down elsewhere.
+-- `drop` makes the call where it can be made, and turns it down elsewhere.
 -- Assumes nothing.
 use borrow.Author.Needs.{needs}
 use Rattle.calls.proofs.Forms.{exports}
-use Rattle.calls.proofs.fetch.Statement.{statement}
-use Rattle.calls.proofs.fetch.Tie as tie
+use Rattle.calls.proofs.first.drop.Statement.{statement}
+use Rattle.calls.proofs.first.drop.Tie as tie
 
 returns-2 : tie.Need-returns-2
 returns-2 c = search exports
 
-pub fetch-spec : {M : Type 1} → statement M
-fetch-spec =
+pub drop-spec : {M : Type 1} → statement M
+drop-spec =
     tie.close
     (tie.spec
     (λ c κs. search needs)

@@ -3,8 +3,8 @@
 use borrow.Author.Needs.{needs}
 use native.Mathlib.Omega.{arith}
 use mathlib.Core.Path.{refl}
-use Rattle.calls.proofs.turn_down.Statement.{statement}
-use Rattle.calls.proofs.turn_down.Tie as tie
+use Rattle.calls.proofs.laying.turn_down.Statement.{statement}
+use Rattle.calls.proofs.laying.turn_down.Tie as tie
 
 returns : tie.Need-returns
 returns c = record {

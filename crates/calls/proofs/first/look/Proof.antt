@@ -1,10 +1,10 @@
--- `look` answers where it is admitted, and is turned down elsewhere.
+-- `look` answers where it can be made, and is turned down elsewhere.
 -- Assumes nothing.
 use borrow.Author.Needs.{needs}
 use Rattle.look.proofs.Answers.{row-lies, few-shown}
 use Rattle.calls.proofs.Forms.{exports, count-same}
-use Rattle.calls.proofs.look.Statement.{statement}
-use Rattle.calls.proofs.look.Tie as tie
+use Rattle.calls.proofs.first.look.Statement.{statement}
+use Rattle.calls.proofs.first.look.Tie as tie
 
 returns-2 : tie.Need-returns-2
 returns-2 c = search (exports, count-same, row-lies, few-shown)

@@ -2,8 +2,8 @@
 -- Assumes nothing.
 use borrow.Author.Needs.{needs}
 use Rattle.calls.proofs.Forms.{exports}
-use Rattle.calls.proofs.new.Statement.{statement}
-use Rattle.calls.proofs.new.Tie as tie
+use Rattle.calls.proofs.first.new.Statement.{statement}
+use Rattle.calls.proofs.first.new.Tie as tie
 
 returns-2 : tie.Need-returns-2
 returns-2 c = search exports

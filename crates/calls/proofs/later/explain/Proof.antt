@@ -1,10 +1,10 @@
--- `explain` answers where it is admitted, and is turned down elsewhere.
+-- `explain` answers where it can be made, and is turned down elsewhere.
 -- Assumes nothing.
 use borrow.Author.Needs.{needs}
 use Rattle.explain.proofs.Found.{few-explained}
 use Rattle.calls.proofs.Forms.{exports, count-same}
-use Rattle.calls.proofs.explain.Statement.{statement}
-use Rattle.calls.proofs.explain.Tie as tie
+use Rattle.calls.proofs.later.explain.Statement.{statement}
+use Rattle.calls.proofs.later.explain.Tie as tie
 
 returns-2 : tie.Need-returns-2
 returns-2 c = search (exports, count-same, few-explained)

@@ -1,10 +1,10 @@
--- `step` makes the call where it is admitted, and turns it down elsewhere.
+-- `step` makes the call where it can be made, and turns it down elsewhere.
 -- Assumes nothing.
 use borrow.Author.Needs.{needs}
 use Rattle.step.proofs.Steps.{few-stepped}
 use Rattle.calls.proofs.Forms.{exports, count-same}
-use Rattle.calls.proofs.step.Statement.{statement}
-use Rattle.calls.proofs.step.Tie as tie
+use Rattle.calls.proofs.first.step.Statement.{statement}
+use Rattle.calls.proofs.first.step.Tie as tie
 
 returns-2 : tie.Need-returns-2
 returns-2 c = search (exports, count-same, few-stepped)

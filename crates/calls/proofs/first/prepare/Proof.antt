@@ -1,15 +1,15 @@
--- `evict` makes the call where it is admitted, and turns it down elsewhere.
+-- `prepare` makes the call where it can be made, and turns it down elsewhere.
 -- Assumes nothing.
 use borrow.Author.Needs.{needs}
 use Rattle.calls.proofs.Forms.{exports}
-use Rattle.calls.proofs.evict.Statement.{statement}
-use Rattle.calls.proofs.evict.Tie as tie
+use Rattle.calls.proofs.first.prepare.Statement.{statement}
+use Rattle.calls.proofs.first.prepare.Tie as tie
 
 returns-2 : tie.Need-returns-2
 returns-2 c = search exports
 
-pub evict-spec : {M : Type 1} → statement M
-evict-spec =
+pub prepare-spec : {M : Type 1} → statement M
+prepare-spec =
     tie.close
     (tie.spec
     (λ c κs. search needs)

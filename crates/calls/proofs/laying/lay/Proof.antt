@@ -3,8 +3,8 @@
 use borrow.Author.Needs.{needs}
 use native.Mathlib.Omega.{arith}
 use Rattle.calls.proofs.Forms.{few-answered}
-use Rattle.calls.proofs.lay.Statement.{statement}
-use Rattle.calls.proofs.lay.Tie as tie
+use Rattle.calls.proofs.laying.lay.Statement.{statement}
+use Rattle.calls.proofs.laying.lay.Tie as tie
 
 put-answered-requires : tie.Need-put-answered-requires
 put-answered-requires c κs = search needs

@@ -1,15 +1,15 @@
--- `stale` answers where it is admitted, and is turned down elsewhere.
+-- `issue` makes the call where it can be made, and turns it down elsewhere.
 -- Assumes nothing.
 use borrow.Author.Needs.{needs}
 use Rattle.calls.proofs.Forms.{exports}
-use Rattle.calls.proofs.stale.Statement.{statement}
-use Rattle.calls.proofs.stale.Tie as tie
+use Rattle.calls.proofs.first.issue.Statement.{statement}
+use Rattle.calls.proofs.first.issue.Tie as tie
 
 returns-2 : tie.Need-returns-2
 returns-2 c = search exports
 
-pub stale-spec : {M : Type 1} → statement M
-stale-spec =
+pub issue-spec : {M : Type 1} → statement M
+issue-spec =
     tie.close
     (tie.spec
     (λ c κs. search needs)
@@ -18,5 +18,6 @@ stale-spec =
     (λ c. search exports)
     (λ c κs. search exports)
     (λ c κs. search exports)
+    (λ c. search needs)
     (λ c. search needs)
     returns-2)

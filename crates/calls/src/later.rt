@@ -1,0 +1,36 @@
+// The calls after document 01's nine, each on any buffer.
+use crate::laying::can_make;
+use crate::laying::lay;
+use crate::laying::narrow;
+use crate::laying::turn_down;
+use explain::put::put_explained;
+ghost use mathlib.Core.Path.{_≡_};
+ghost use Rattle.model.specs.Calls.{explain, stale, ask};
+ghost use Rattle.layout.specs.Buffer.{inForm};
+ghost use Rattle.layout.specs.Calls.{on};
+ghost use Rattle.calls.specs.Performs.{Exported};
+
+pub fn explain(store: &[u32], ready: bool, run: u32, job: u32, out: &mut [u32]) -> u32
+    requires { ⌜ ready ≡ inForm (now store) ⌝ }
+    ensures { λ n. ⌜ Exported (on (ask (explain run job)))
+        (now (store .entry)) (now (store .entry)) (now (out .entry)) (now (out .exit)) n ⌝ }
+{
+    if !can_make(ready, out) {
+        return turn_down(out);
+    }
+    let r = explain::explain(store, run, job);
+    let n = put_explained(out, r);
+    narrow(n)
+}
+
+pub fn stale(store: &[u32], ready: bool, site: u32, out: &mut [u32]) -> u32
+    requires { ⌜ ready ≡ inForm (now store) ⌝ }
+    ensures { λ n. ⌜ Exported (on (ask (stale site)))
+        (now (store .entry)) (now (store .entry)) (now (out .entry)) (now (out .exit)) n ⌝ }
+{
+    if !can_make(ready, out) {
+        return turn_down(out);
+    }
+    let r = stale::stale(store, site);
+    lay(out, r)
+}
