@@ -22,8 +22,7 @@ use Rattle.history.specs.Copies.{Copy, heldCopy, byWriter, counted}
 use Rattle.history.specs.Book.{BookRun, Book, freshBook, withBookCaches, withBookRun}
 use Rattle.history.proofs.Sounds.{sound-empty}
 use Rattle.history.proofs.Counted.{counted-none, counted-unheld}
-use Rattle.consistency.specs.Trace.{ReadSet}
-use Rattle.consistency.specs.Claim.{Among}
+use Rattle.consistency.specs.Trace.{ReadSet, Among}
 use Rattle.consistency.proofs.Simulation.{Related}
 use Rattle.consistency.proofs.CopyLaws.{empty-cut}
 use Rattle.consistency.proofs.Closing.{copy-laws, ClosedAll}

@@ -21,7 +21,8 @@ use Rattle.history.proofs.Reached.{good-none, good-union, union-unheld-left, un
 use Rattle.history.proofs.Counted.{held-same, counted-none, merge-counted, needs-same, meets-same}
 use Rattle.history.proofs.Leading.{leading-unheld}
 use Rattle.history.proofs.LeadingUnion.{named-union, leading-union}
-use Rattle.consistency.specs.Claim.{Counted, Named}
+use Rattle.consistency.specs.Leading.{Named}
+use Rattle.consistency.specs.Claim.{Counted}
 use Rattle.consistency.proofs.Simulation.{Simulates, Related}
 use Rattle.consistency.proofs.Closing.{ClosedIn}
 

@@ -20,7 +20,7 @@ use Rattle.history.specs.Copies.{Copy, lastIn, byWriter, lastBy, behindOther, l
 use Rattle.history.proofs.Notions.{Sound}
 use Rattle.history.proofs.Sounds.{sound-empty, sound-issue}
 use Rattle.history.proofs.Behind.{before-past, before-order}
-use Rattle.consistency.specs.Claim.{Leads, LedAs}
+use Rattle.consistency.specs.Leading.{Leads, LedAs}
 
 -- ---- the histories: sheet 0 saved twice
 

@@ -18,8 +18,9 @@ use Rattle.history.proofs.Behind.{before-past, past-is-before}
 use Rattle.layout.proofs.Follow.{Fine}
 use Rattle.model.proofs.Formed.{well-out}
 use Rattle.model.proofs.Plans.{read-planned}
-use Rattle.consistency.specs.Trace.{ReadSet}
-use Rattle.consistency.specs.Claim.{ReadCounted, Snapshot, Among}
+use Rattle.consistency.specs.Trace.{ReadSet, Among}
+use Rattle.consistency.specs.Leading.{LedAs}
+use Rattle.consistency.specs.Claim.{ReadCounted, Snapshot}
 use Rattle.consistency.proofs.Invariant.{RunFollows, ReadAs, Inv}
 use Rattle.consistency.proofs.Following.{Stands, snapshot-related}
 use Rattle.consistency.proofs.Leads.{led-as}
@@ -54,20 +55,24 @@ module _ (s : Store) (b : Book) (f : ℕ → List ReadSet) (I : Inv s b f) where
   run-in r x p =
       ⊎-elim (λ l. l) (λ l. absurd (I .no-run r l x p)) (below-or-not r (s .counts .runs))
 
-  -- What a finished job has read is counted, as the snapshot is.
+  -- What a finished job has read is counted and led, as the snapshot is.
+  read-stands : (r : ℕ) (x : ReadSet) → Among x (f r) → (k : ℕ) → k < s .counts .keys
+      → So (x .keys k) → Stands s b k (x .version k) (x .copy k)
+  read-stands r x p k h q =
+      let l = run-in r x p in
+      let X = I .reads r l x p in
+      rw (X .version k h q, X .copy k h q) (snapshot-related (I .follows) r l k h)
+
   pub read-counted : (r : ℕ) (x : ReadSet) → Among x (f r)
-      → ReadCounted (s .counts .writers) (s .counts .keys) (b .history) x
-  read-counted r x p = record {
-    counted = λ k h q. stands k h q .counts;
-    led = λ k h q. led-as (past-is-before (I .follows .sound)) (stands k h q);
-  }
-    where
-      stands : (k : ℕ) → k < s .counts .keys → So (x .keys k)
-          → Stands s b k (x .version k) (x .copy k)
-      stands k h q =
-          let l = run-in r x p in
-          let X = I .reads r l x p in
-          rw (X .version k h q, X .copy k h q) (snapshot-related (I .follows) r l k h)
+      → ReadCounted (s .counts .keys) (b .history) x
+  read-counted r x p k h q = read-stands r x p k h q .counts
+
+  pub read-led : (r : ℕ) (x : ReadSet) → Among x (f r) → (k : ℕ) → k < s .counts .keys
+      → So (x .keys k)
+      → LedAs (s .counts .writers) (s .counts .keys) (b .history) k (x .version k .leaders)
+      (x .copy k)
+  read-led r x p k h q =
+      led-as (past-is-before (I .follows .sound)) (read-stands r x p k h q)
 
   pub shared : Fine s → (r : ℕ) (x y : ReadSet) → Among x (f r) → Among y (f r)
       → Snapshot (s .counts .keys) (b .history) x y

@@ -18,7 +18,7 @@ use Rattle.history.specs.Copies.{Copy, copies}
 use Rattle.history.specs.Book.{BookRun, Book, noBookBranch, noRun, withBookCaches, withBookRun}
 use Rattle.history.proofs.Past.{past-laws}
 use Rattle.history.proofs.Counted.{counted-none}
-use Rattle.consistency.specs.Claim.{Named}
+use Rattle.consistency.specs.Leading.{Named}
 use Rattle.consistency.proofs.Simulation.{Simulates, Related}
 use Rattle.consistency.proofs.CopyLaws.{CopyLaws, PartIn, empty-cut}
 use Rattle.consistency.proofs.Closing.{bookWrites, copy-laws, ClosedIn, ClosedAll, every-part, every-closed}

@@ -19,8 +19,8 @@ use Rattle.history.specs.History.{History, saved}
 use Rattle.history.specs.Copies.{byWriter, counted}
 use Rattle.history.specs.Book.{Book, BookBranch, BookRun, bookRule, bookStep}
 use Rattle.history.proofs.Notions.{Sound}
-use Rattle.consistency.specs.Trace.{ReadSet, finish}
-use Rattle.consistency.specs.Claim.{Counted, Among}
+use Rattle.consistency.specs.Trace.{ReadSet, finish, Among}
+use Rattle.consistency.specs.Claim.{Counted}
 use Rattle.consistency.proofs.Closing.{ClosedIn, ClosedAll}
 use Rattle.consistency.proofs.Counting.{Masked}
 

@@ -32,7 +32,7 @@ use Rattle.history.proofs.Grown.{counted-grow}
 use Rattle.history.proofs.Reached.{good-past}
 use Rattle.history.proofs.Entered.{readAny, enteredPast, entered, newVersion-counted}
 use Rattle.history.proofs.Leading.{leading-grow, mask-top}
-use Rattle.consistency.specs.Claim.{Named}
+use Rattle.consistency.specs.Leading.{Named}
 use Rattle.consistency.proofs.Simulation.{Related}
 use Rattle.consistency.proofs.Closing.{ClosedIn, ClosedAll, closed-grow}
 use Rattle.consistency.proofs.Counting.{StandsFor, counted-related, stands-named, stands-merge}

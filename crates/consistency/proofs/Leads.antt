@@ -18,7 +18,8 @@ use Rattle.history.specs.Copies.{Copy, leading}
 use Rattle.history.specs.Book.{Book}
 use Rattle.history.proofs.Behind.{past-is-before}
 use Rattle.history.proofs.Leading.{Leader, leading-iff}
-use Rattle.consistency.specs.Claim.{PastIsBefore, Leads, LedAs, Led, OnPlace, OnPlace.onMaster, OnPlace.onCache, OnPlace.onSnapshot, Named}
+use Rattle.consistency.specs.Leading.{Leads, LedAs, Led, OnPlace, OnPlace.onMaster, OnPlace.onCache, OnPlace.onSnapshot, Named}
+use Rattle.consistency.specs.Claim.{PastIsBefore}
 use Rattle.consistency.proofs.Simulation.{Related}
 use Rattle.consistency.proofs.Counting.{StandsFor}
 use Rattle.consistency.proofs.Invariant.{Follows}

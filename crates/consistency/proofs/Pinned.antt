@@ -15,10 +15,10 @@ use Rattle.model.specs.Store.{Store}
 use Rattle.model.specs.Calls.{StoreCall, Query, openRun, fetch, evict, prepare, step, issue, dropRun, ask}
 use Rattle.history.specs.Book.{Book}
 use Rattle.consistency.specs.Roles.{Role, opening, working, freeing, elsewhere, roleOf, isOn}
-use Rattle.consistency.specs.Trace.{ReadSet, Trace, readNow, finishBy, finish, advance}
+use Rattle.consistency.specs.Trace.{ReadSet, Trace, readNow, finishBy, finish, advance, Among, Among.first, Among.later}
 use Rattle.masks.specs.Mask.{testBit}
 use Rattle.layout.specs.Calls.{Call, on, callOn, isOk}
-use Rattle.consistency.specs.Claim.{Among, Among.first, Among.later, pickOf, Pick.ofSnapshot, Pick.ofCache, Pick.merged, Pick.neither}
+use Rattle.consistency.specs.Claim.{pickOf, Pick.ofSnapshot, Pick.ofCache, Pick.merged, Pick.neither}
 
 pub every-among : (xs ys : List ReadSet) (x : ReadSet) → Among x (xs ++ (x ∷ ys))
 every-among [] ys x = first

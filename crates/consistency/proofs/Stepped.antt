@@ -18,7 +18,7 @@ use Rattle.layout.proofs.Rules.Step.{site}
 use Rattle.layout.proofs.Follow.{Fine}
 use Rattle.history.specs.Copies.{Copy, copies}
 use Rattle.history.specs.Book.{Book, BookBranch, BookRun, bookStepJob, withBookRun, withBookCaches}
-use Rattle.consistency.specs.Claim.{Named}
+use Rattle.consistency.specs.Leading.{Named}
 use Rattle.consistency.proofs.Simulation.{Agree, Related, readStart-same, fetched-rel, pullSet-same, pulled-rel}
 use Rattle.consistency.proofs.Closing.{ClosedIn, ClosedAll}
 use Rattle.consistency.proofs.ClosingSets.{fetched-closed, pulled-closed}

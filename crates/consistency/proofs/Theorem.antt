@@ -21,7 +21,7 @@ use Rattle.consistency.proofs.Leads.{led-place, named}
 use Rattle.consistency.proofs.Covering.{caches-behind, snapshots-behind}
 use Rattle.consistency.proofs.Marking.{marks-true, marks-copies}
 use Rattle.consistency.proofs.Cutting.{cuts, overlaps, breaks}
-use Rattle.consistency.proofs.Finished.{read-counted, shared}
+use Rattle.consistency.proofs.Finished.{read-counted, read-led, shared}
 use Rattle.consistency.proofs.Points.{At, start-at, follow-at}
 
 -- The claim, read off the invariant.
@@ -35,11 +35,14 @@ inv-holds s b f F I =
       master = G .master;
       caches = G .cache;
       snapshots = λ r l. G .run r l .branch .snapshot;
-      led-master = led-place G (master-related G);
-      led-caches = λ o l. led-place G (cache-related G o l);
-      led-snapshots = λ r l. led-place G (snapshot-related G r l);
-      named = named G;
       reads = read-counted s b f I;
+      leads = record {
+        led-master = led-place G (master-related G);
+        led-caches = λ o l. led-place G (cache-related G o l);
+        led-snapshots = λ r l. led-place G (snapshot-related G r l);
+        led-reads = read-led s b f I;
+        named = named G;
+      };
       shared = shared s b f I F;
       overlaps = overlaps G;
       every-save = λ k i. G .every k i;

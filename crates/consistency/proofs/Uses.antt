@@ -24,8 +24,8 @@ use Rattle.layout.specs.Buffer.{inForm}
 use Rattle.layout.specs.Calls.{Call, on, newOn, callOn, isOk, after}
 use Rattle.history.specs.History.{History, HappensBefore, saved, inPast}
 use Rattle.history.specs.Copies.{CopyCount, CountedAs, counted}
-use Rattle.consistency.specs.Trace.{ReadSet, Trace, start, follow}
-use Rattle.consistency.specs.Claim.{Among, Pick, Works, Choice, isRefused, isBroken, HoldsAt, Consistent, Demand3}
+use Rattle.consistency.specs.Trace.{ReadSet, Trace, start, follow, Among}
+use Rattle.consistency.specs.Claim.{Pick, Works, Choice, isRefused, isBroken, HoldsAt, Consistent, Demand3}
 use Rattle.consistency.proofs.Rows.{after-append, follow-append, follow-buffer}
 
 -- ---- an outcome is refused, broken or done, and one of them alone
@@ -97,7 +97,7 @@ module _ (t : Trace) (H : HoldsAt t) where
 
   pub read-counted : (r : ℕ) (x : ReadSet) → Among x (t .finished r) → (k : ℕ) → k < K
       → So (x .keys k) → Same (x .version k) (counted K h (x .copy k))
-  read-counted r x p k l q = same (H .holds .reads r x p .counted k l q)
+  read-counted r x p k l q = same (H .holds .reads r x p k l q)
 
   pub master-has : (k i : ℕ) → k < K → So (saved h k i) → So (t .book .master k i)
   master-has = H .holds .every-save

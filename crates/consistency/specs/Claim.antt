@@ -1,20 +1,19 @@
 -- Demand 3: one claim about a whole list of calls on the buffer that an accepted new left.
--- PastIsBefore ("stands behind"), Counted and Led (b), Named (somebody leads a merge), Snapshot
--- (c), NotAhead (no copy is ahead of the master's), IsBehind (one is behind it), Pick, Works,
--- BreakExact (d), Holds (all of it
--- at one point of the list), Consistent.
+-- PastIsBefore ("stands behind"), Counted (b; masks: specs/Leading), Snapshot (c), NotAhead (no
+-- copy is ahead of the master's), IsBehind (one is behind it), Pick, Works, BreakExact (d), Holds
+-- (all of it at one point of the list), Consistent.
 -- Assumes nothing.
 use mathlib.Core.Path.{_≡_}
 use mathlib.Core.Bool.{Bool, true, false, cond, So}
-use mathlib.Core.Logic.{_↔_, _⊎_, _≢_}
-use mathlib.Core.List.{List, _∷_, _++_}
-use Prim.Native.Nat.{ℕ, _≤_, _<_}
-use Rattle.masks.specs.Mask.{testBit, maskBelow}
+use mathlib.Core.Logic.{_↔_, _⊎_}
+use mathlib.Core.List.{List, _++_}
+use Prim.Native.Nat.{ℕ, _<_}
+use Rattle.masks.specs.Mask.{testBit}
 use Rattle.clock.specs.declared.Standing.the-variants.{Equal, Older}
 use Rattle.clock.specs.Clock.{standing}
 use Rattle.sizes.specs.declared.Counts.{Counts}
 use Rattle.model.specs.Algebra.{Place, needsMet, causalCut, overlappingCut}
-use Rattle.model.specs.Version.{Version, held, leadsOn, merge, unheld, versions}
+use Rattle.model.specs.Version.{Version, held, merge, unheld, versions}
 use Rattle.model.specs.Marks.{staleMask}
 use Rattle.model.specs.Store.{Store, planned}
 use Rattle.model.specs.Outcome.{Outcome, refused, broken, done, told}
@@ -23,10 +22,11 @@ use Rattle.model.specs.Step.{stepBranch, stepReads, stepCache, stepPlan}
 use Rattle.layout.specs.Reading.{storeOf}
 use Rattle.layout.specs.Buffer.{inForm}
 use Rattle.layout.specs.Calls.{Call, on, callOn, newOn, isOk}
-use Rattle.history.specs.History.{History, HappensBefore, writerOf, saved, inPast}
-use Rattle.history.specs.Copies.{Copy, CountedAs, counted, leading}
+use Rattle.history.specs.History.{History, HappensBefore, saved, inPast}
+use Rattle.history.specs.Copies.{Copy, CountedAs, counted}
 use Rattle.history.specs.Book.{Book}
-use Rattle.consistency.specs.Trace.{ReadSet, Trace, start, follow}
+use Rattle.consistency.specs.Trace.{ReadSet, Among, Trace, start, follow}
+use Rattle.consistency.specs.Leading.{Leading}
 
 -- ---- "Save s stands behind save t": what the book computes is the paper's four clauses
 
@@ -39,47 +39,15 @@ PastIsBefore K h =
 
 -- ---- (b) "each version on master, shelves and cards is the one that document 01's book gives"
 
--- Number and rows (`Counted`), and the mask apart (`Led`): together all of a version.
+-- Number and rows; the mask stands apart (specs/Leading): together all of a version.
 abbrev pub Counted : ℕ → History → Place Version → Place Copy → Type 0
 Counted K h p c = (k : ℕ) → k < K → CountedAs (p k) (counted K h (c k))
 
--- CR 3: writer u is one "whose last included save stands behind no other included save", in a copy
--- of key k.
-pub record Leads (h : History) (k : ℕ) (c : Copy) (u : ℕ) : Type 0 where
-  pub last : ℕ
-  pub included : So (c last)
-  pub own : writerOf h last ≡ u
-  pub latest : (i : ℕ) → So (c i) → writerOf h i ≡ u → i ≤ last
-  pub free : (i : ℕ) → So (c i) → i ≢ last → ¬ (HappensBefore h k last k i)
-
--- "On a desk written only by our calls it names just" these: the mask m, of W writers.
-pub record LedAs (W K : ℕ) (h : History) (k m : ℕ) (c : Copy) : Type 0 where
-  pub mask : m ≡ maskBelow W (leading K h k c)
-  pub leads : (u : ℕ) → u < W → So (testBit m u) ↔ Leads h k c u
-
-abbrev pub Led : ℕ → ℕ → History → Place Version → Place Copy → Type 0
-Led W K h p c = (k : ℕ) → k < K → LedAs W K h k (p k .leaders) (c k)
-
 -- The same of the keys that a finished job has read.
-pub record ReadCounted (W K : ℕ) (h : History) (x : ReadSet) : Type 0 where
-  pub counted : (k : ℕ) → k < K → So (x .keys k)
-      → CountedAs (x .version k) (counted K h (x .copy k))
-  pub led : (k : ℕ) → k < K → So (x .keys k) → LedAs W K h k (x .version k .leaders) (x .copy k)
-
--- A version of key k on the master, a shelf or a card.
-pub data OnPlace (s : Store) (k : ℕ) : Version → Type 0 where
-  onMaster : OnPlace s k (s .master k)
-  onCache : (o : ℕ) → o < s .counts .sites → OnPlace s k (s .site o .cache k)
-  onSnapshot : (r : ℕ) → r < s .counts .runs → OnPlace s k (s .run r .branch .snapshot k)
-
--- "if that names nobody" doesn't happen: in a merge of two held versions of key k somebody leads
--- by his side's mask. At a point this is claimed of versions on places; of the merges inside
--- prepare
--- and of those with a new version it is a law (`prepare-named`, `issuedMaster-named`).
-abbrev pub Named : ℕ → ℕ → Version → Version → Type 0
-Named W k a b =
-    So (held a) → So (held b)
-    → (u : ℕ) × (u < W) × So (leadsOn (a .leaders) (a .past k) (b .leaders) (b .past k) u)
+abbrev pub ReadCounted : ℕ → History → ReadSet → Type 0
+ReadCounted K h x =
+    (k : ℕ) → k < K → So (x .keys k)
+    → CountedAs (x .version k) (counted K h (x .copy k))
 
 -- ---- (c) "two finished jobs of one run, at one office or two, share one causal snapshot"
 
@@ -90,10 +58,6 @@ pub record Snapshot (K : ℕ) (h : History) (x y : ReadSet) : Type 0 where
   -- is included in the version read": for x and y in either order, and for each with itself
   pub included : (e i d j : ℕ) → e < K → d < K → So (x .keys e) → So (x .copy e i) → So (y .keys d)
       → HappensBefore h d j e i → So (y .copy d j)
-
-pub data Among (x : ReadSet) : List ReadSet → Type 0 where
-  first : {xs : List ReadSet} → Among x (x ∷ xs)
-  later : {y : ReadSet} {xs : List ReadSet} → Among x xs → Among x (y ∷ xs)
 
 -- ---- "which copy is ahead": never one on a shelf or card
 
@@ -180,16 +144,10 @@ pub record Holds (s : Store) (b : Book) (finished : ℕ → List ReadSet) : Type
   pub snapshots : (r : ℕ) → r < s .counts .runs
       → Counted (s .counts .keys) (b .history) (s .run r .branch .snapshot)
       (b .run r .branch .snapshot)
-  pub led-master : Led (s .counts .writers) (s .counts .keys) (b .history) (s .master) (b .master)
-  pub led-caches : (o : ℕ) → o < s .counts .sites
-      → Led (s .counts .writers) (s .counts .keys) (b .history) (s .site o .cache) (b .cache o)
-  pub led-snapshots : (r : ℕ) → r < s .counts .runs
-      → Led (s .counts .writers) (s .counts .keys) (b .history) (s .run r .branch .snapshot)
-      (b .run r .branch .snapshot)
-  pub named : (k : ℕ) (v w : Version) → k < s .counts .keys → OnPlace s k v → OnPlace s k w
-      → Named (s .counts .writers) k v w
   pub reads : (r : ℕ) (x : ReadSet) → Among x (finished r)
-      → ReadCounted (s .counts .writers) (s .counts .keys) (b .history) x
+      → ReadCounted (s .counts .keys) (b .history) x
+  -- The masks.
+  pub leads : Leading s b finished
   -- (c)
   pub shared : (r : ℕ) (x y : ReadSet) → Among x (finished r) → Among y (finished r)
       → Snapshot (s .counts .keys) (b .history) x y

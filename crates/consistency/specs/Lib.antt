@@ -1,4 +1,5 @@
 pub mod Roles
 pub mod Trace
+pub mod Leading
 pub mod Claim
 pub mod Lasting

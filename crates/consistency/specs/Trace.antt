@@ -1,6 +1,6 @@
 -- A list of calls followed: the buffer, the book beside it, and what the finished jobs of each
 -- run have read.
--- ReadSet, Trace, start, advance, follow.
+-- ReadSet; Among: one of a list of them. Trace, start, advance, follow.
 -- Assumes nothing.
 use mathlib.Core.Bool.{cond}
 use mathlib.Core.List.{List, [], _∷_}
@@ -25,6 +25,11 @@ pub record ReadSet : Type 0 where
   pub keys : Items
   pub version : Place Version
   pub copy : Place Copy
+
+-- One of those that a run's jobs have read.
+pub data Among (x : ReadSet) : List ReadSet → Type 0 where
+  first : {xs : List ReadSet} → Among x (x ∷ xs)
+  later : {y : ReadSet} {xs : List ReadSet} → Among x xs → Among x (y ∷ xs)
 
 -- finished r: what the finished jobs of run r have read, since it was opened.
 pub record Trace : Type 0 where

@@ -21,7 +21,7 @@ use Rattle.history.specs.Copies.{Copy, copies}
 use Rattle.history.specs.Book.{Book, BookRun, bookPrepare, bookRule, withBookRun, withBookCaches}
 use Rattle.consistency.specs.Roles.{roleOf}
 use Rattle.consistency.specs.Trace.{ReadSet, finishBy, finish}
-use Rattle.consistency.specs.Claim.{Named}
+use Rattle.consistency.specs.Leading.{Named}
 use Rattle.consistency.proofs.Simulation.{Related}
 use Rattle.consistency.proofs.SimulationPrepare.{SitesBelow, RelatedSites, preparedCaches-rel, sitesMerged-rel}
 use Rattle.consistency.proofs.Closing.{bookWrites, ClosedIn}

@@ -23,8 +23,7 @@ use Rattle.layout.proofs.Rules.Step.{valid}
 use Rattle.layout.proofs.Follow.{Fine}
 use Rattle.history.specs.Book.{Book, BookRun, bookRule, withBookRun, withBookCaches}
 use Rattle.consistency.specs.Roles.{roleOf, isOn}
-use Rattle.consistency.specs.Trace.{ReadSet, readNow, finishBy, finish}
-use Rattle.consistency.specs.Claim.{first, later}
+use Rattle.consistency.specs.Trace.{ReadSet, readNow, finishBy, finish, first, later}
 use Rattle.consistency.proofs.Invariant.{RunFollows, ReadAs, Inv, Moves}
 use Rattle.consistency.proofs.Laws.{works, Laws, laws-unless}
 use Rattle.consistency.proofs.Changing.{HasRead, inv-cache, inv-run}
