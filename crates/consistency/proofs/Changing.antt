@@ -18,7 +18,8 @@ use Rattle.model.specs.Version.{Version, zeroPast}
 use Rattle.model.specs.Store.{Run, Site, Store, fresh, withSites, withCache, withRun}
 use Rattle.layout.proofs.Fit.{fresh-cache}
 use Rattle.history.specs.History.{saved}
-use Rattle.history.specs.Copies.{Copy, heldCopy, byWriter, counted}
+use Rattle.history.specs.Copies.{heldCopy, byWriter, counted}
+use Rattle.history.specs.Listing.{BookCopy}
 use Rattle.history.specs.Book.{BookRun, Book, freshBook, withBookCaches, withBookRun}
 use Rattle.history.proofs.Sounds.{sound-empty}
 use Rattle.history.proofs.Counted.{counted-none, counted-unheld}
@@ -63,7 +64,7 @@ inv-next {s} {b} {f} t d g r a c v F e er ed l same has = record {
         (λ z. has x (rw z at i)) (λ z. v .reads q h x (rw (same q z) at i))
 
 module _ {s : Store} {b : Book} {f : ℕ → List ReadSet} (v : Inv s b f) where
-  pub inv-caches : (p : ℕ → Site) (q : ℕ → Place Copy)
+  pub inv-caches : (p : ℕ → Site) (q : ℕ → Place BookCopy)
       → ((o : ℕ) → o < s .counts .sites
       → Related (s .counts .keys) (Stands s b) (p o .cache) (q o)
       × ClosedAll (s .counts .keys) (b .history) (q o))
@@ -75,7 +76,7 @@ module _ {s : Store} {b : Book} {f : ℕ → List ReadSet} (v : Inv s b f) where
     no-run = v .no-run;
   }
 
-  pub inv-cache : (o : ℕ) (p : Place Version) (q : Place Copy)
+  pub inv-cache : (o : ℕ) (p : Place Version) (q : Place BookCopy)
       → Related (s .counts .keys) (Stands s b) p q → ClosedAll (s .counts .keys) (b .history) q
       → Inv (withCache s o p) (withBookCaches b (putAt (b .cache) o q)) f
   unfolding withCache withSites withBookCaches
@@ -127,7 +128,7 @@ inv-fresh z =
         cache = λ o l k i. rw (fresh-cache z o k) (counted-none K []);
         led-cache = λ o l k i.
             ap (λ (v : Version). v .leaders) (fresh-cache z o k) ∙ masked-none W K [] k;
-        closed = λ o l. empty-cut (copy-laws K []) _;
+        closed = λ o l. empty-cut (copy-laws K W []) _;
         writer = λ w l. record { count = refl; past = sym (no-past K w) };
         run = λ r l. free-follows W K [];
       };

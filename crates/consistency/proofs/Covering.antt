@@ -33,10 +33,10 @@ module _ {s : Store} {b : Book} (F : Follows s b) where
       → ((d : ℕ) (c : Copy) → P d (counted (s .counts .keys) (b .history) c .past d))
       → EveryRow s P
   every-row P f = record {
-    master = λ k d l. rw (F .master k l .past) (f d (b .master k));
-    cache = λ o k d h l. rw (F .cache o h k l .past) (f d (b .cache o k));
+    master = λ k d l. rw (F .master k l .past) (f d (b .master k .later));
+    cache = λ o k d h l. rw (F .cache o h k l .past) (f d (b .cache o k .later));
     snapshot = λ r k d h l.
-        rw (F .run r h .branch .snapshot k l .past) (f d (b .run r .branch .snapshot k));
+        rw (F .run r h .branch .snapshot k l .past) (f d (b .run r .branch .snapshot k .later));
     writer = λ w d l.
         rw (F .writer w l .past) (f d (byWriter (s .counts .keys) (b .history) w));
   }
@@ -53,14 +53,14 @@ module _ {s : Store} {b : Book} (F : Follows s b) where
           let K = s .counts .keys in
           let h = b .history in
           let laws = past-laws K h in
-          rw (F .master d l .past, counted-row K h (b .master d) d, counted-row K h c d)
+          rw (F .master d l .past, counted-row K h (b .master d .later) d, counted-row K h c d)
           (tally-dominates K h (s .counts .writers) (saved h d) (reaches K h c d)
-          (reaches K h (b .master d) d) (F .sound .writers)
+          (reaches K h (b .master d .later) d) (F .sound .writers)
           (λ j _ y. reaches-saved K h laws c d j y .1)
-          (reaches-session K h laws d (b .master d) (master-closed F .good d l)) .1
+          (reaches-session K h laws d (b .master d .later) (master-closed F .good d l)) .1
           (λ j i y.
           let w = reaches-saved K h laws c d j y .1 in
-          reaches-intro K h (b .master d) d j j i (F .every d j l w) (laws .own j d i w)))
+          reaches-intro K h (b .master d .later) d j j i (F .every d j l w) (laws .own j d i w)))
 
   pub caches-behind : (o : ℕ) → o < s .counts .sites
       → NotAhead (s .counts .writers) (s .counts .keys) (s .master) (s .site o .cache)

@@ -35,6 +35,7 @@ use Rattle.layout.specs.Buffer.{written, headerRight, shaped, inForm}
 use Rattle.layout.specs.Calls.{Call, on, newCause, newOn, onStore, callOn, leaves, isOk}
 use Rattle.history.specs.History.{History, writerOf, saved, leads, inPast, HappensBefore.together}
 use Rattle.history.specs.Copies.{Copy, reaches, heldCopy, needsCopy, meetsCopy, union, lastIn, byWriter, counted}
+use Rattle.history.specs.Listing.{plainCopy, heldBook, mergeBook, needsBook, meetsBook}
 use Rattle.history.specs.Book.{freshBook, withBookCaches, withBookRun, bookOpen, bookStepJob, entry, bookIssue, bookIssued, bookRule, bookOk, bookStep}
 use Rattle.consistency.specs.Roles.{roleOf}
 use Rattle.consistency.specs.Trace.{ReadSet, Trace, start, readNow, finishBy, finish, advance, follow}
@@ -110,8 +111,8 @@ older k = cond (eqb k 0) ofSnapshot ofCache
 -- The sheets read, then for each of the two sheets the issue number and the copy, as a mask.
 abbrev seen : ReadSet → List ℕ
 seen x =
-    maskBelow 2 (x .keys) ∷ x .version 0 .issue ∷ maskBelow 2 (x .copy 0)
-    ∷ x .version 1 .issue ∷ maskBelow 2 (x .copy 1) ∷ []
+    maskBelow 2 (x .keys) ∷ x .version 0 .issue ∷ maskBelow 2 (x .copy 0 .later)
+    ∷ x .version 1 .issue ∷ maskBelow 2 (x .copy 1 .later) ∷ []
 
 pub record Computed : Type 0 where
   -- Each job has read its sheets as its own step left the card, the last one first.
@@ -150,7 +151,8 @@ unfolding anyBelow allBelow only foldBelow countBelow largest when putAt upto bl
     jobWords jobsWords runWords runsWords tailWords headerWords storeWords readClock readPast
     readVersion readPlace readSite readWriter readJob readJobs readRun readTail countsIn storeOf
     written headerRight shaped inForm newCause newOn onStore callOn leaves isOk writerOf leads
-    inPast reaches heldCopy needsCopy meetsCopy union lastIn byWriter counted freshBook
+    inPast reaches heldCopy needsCopy meetsCopy union heldBook mergeBook needsBook meetsBook
+    lastIn byWriter counted freshBook
     withBookCaches withBookRun bookOpen bookStepJob entry bookIssue bookIssued bookRule bookOk
     bookStep start readNow roleOf finishBy finish advance follow needsMet pickOf chosen
 computed = record {
@@ -199,7 +201,7 @@ abbrev having-read : ℕ → Copy → ReadSet
 having-read S c =
     let n = counted 2 two-issues c in
     let v : Version = record { issue = n .issue; leaders = 1; past = n .past } in
-    record { keys = testBit S; version = λ k. v; copy = λ k. c }
+    record { keys = testBit S; version = λ k. v; copy = λ k. plainCopy c }
 
 -- One sheet in two versions: sheet 0 as the first issue left it, and as the second did.
 pub two-versions : ¬ (Snapshot 2 two-issues (having-read 1 (only 0)) (having-read 1 (testBit 3)))

@@ -2,7 +2,7 @@
 -- part (c) of demand 3: two of one run share one causal snapshot.
 -- Assumes nothing.
 use mathlib.Core.Path.{sym, ap, _∙_}
-use mathlib.Core.Bool.{Bool, So}
+use mathlib.Core.Bool.{So}
 use mathlib.Core.List.{List}
 use mathlib.Core.Logic.{⊎-elim}
 use Prim.Native.Nat.{ℕ, _<_}
@@ -11,6 +11,7 @@ use Rattle.words.proofs.Tests.{below-or-not}
 use Rattle.masks.specs.Mask.{testBit}
 use Rattle.model.specs.Store.{Run, Store, planned}
 use Rattle.history.specs.History.{History}
+use Rattle.history.specs.Listing.{BookCopy}
 use Rattle.history.specs.Book.{Book, BookRun}
 use Rattle.history.proofs.Notions.{Sound}
 use Rattle.history.proofs.Reached.{reaches-intro}
@@ -41,12 +42,12 @@ module _ (K W : ℕ) (h : History) (a : Run) (c : BookRun) (sound : Sound K W h)
   share x y X Y = record {
     one-version = λ k l p q. X .version k l p ∙ sym (Y .version k l q);
     included = λ e i d j le ld p m q t.
-        let has : So (c .branch .snapshot e i) =
-        ap (λ (s : ℕ → Bool). s i) (X .copy e le p) ∙˙ m in
+        let has : So (c .branch .snapshot e .later i) =
+        ap (λ (s : BookCopy). s .later i) (X .copy e le p) ∙˙ m in
         let low = F .branch .closed .good e le .writes i has .0 in
         let got = F .branch .closed .closed e d j le ld (in-plan y Y d ld q)
-        (reaches-intro K h (c .branch .snapshot e) d j i low has (before-past sound t)) in
-        ap (λ (s : ℕ → Bool). s j) (sym (Y .copy d ld q)) ∙˙ got;
+        (reaches-intro K h (c .branch .snapshot e .later) d j i low has (before-past sound t)) in
+        ap (λ (s : BookCopy). s .later j) (sym (Y .copy d ld q)) ∙˙ got;
   }
 
 module _ (s : Store) (b : Book) (f : ℕ → List ReadSet) (I : Inv s b f) where
@@ -70,7 +71,7 @@ module _ (s : Store) (b : Book) (f : ℕ → List ReadSet) (I : Inv s b f) where
   pub read-led : (r : ℕ) (x : ReadSet) → Among x (f r) → (k : ℕ) → k < s .counts .keys
       → So (x .keys k)
       → LedAs (s .counts .writers) (s .counts .keys) (b .history) k (x .version k .leaders)
-      (x .copy k)
+      (x .copy k .later)
   read-led r x p k h q =
       led-as (past-is-before (I .follows .sound)) (read-stands r x p k h q)
 

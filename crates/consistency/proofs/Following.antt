@@ -14,7 +14,7 @@ use Rattle.model.specs.Algebra.{Place}
 use Rattle.model.specs.Version.{Version, versions}
 use Rattle.model.specs.Store.{Job, Run, Site, Store, noJobs, noBranch, freeRun, planned, withSites, siteWith, withCache, withRun}
 use Rattle.history.specs.History.{History}
-use Rattle.history.specs.Copies.{Copy, copies}
+use Rattle.history.specs.Listing.{BookCopy, bookCopies}
 use Rattle.history.specs.Book.{BookRun, Book, noBookBranch, noRun, withBookCaches, withBookRun}
 use Rattle.history.proofs.Past.{past-laws}
 use Rattle.history.proofs.Counted.{counted-none}
@@ -26,7 +26,7 @@ use Rattle.consistency.proofs.Counting.{StandsFor, masked-none, stands-
 use Rattle.consistency.proofs.Invariant.{RunFollows, Follows}
 
 -- A version of a key and a copy, as this store and this book have them.
-abbrev pub Stands : Store → Book → ℕ → Version → Copy → Type 0
+abbrev pub Stands : Store → Book → ℕ → Version → BookCopy → Type 0
 Stands s b = StandsFor (s .counts .writers) (s .counts .keys) (b .history)
 
 module _ {s : Store} {b : Book} (F : Follows s b) where
@@ -35,19 +35,20 @@ module _ {s : Store} {b : Book} (F : Follows s b) where
   by-counts P p = rw (← F .counts) p
 
   pub now-simulates :
-      Simulates (versions (s .counts .writers)) (copies (s .counts .keys) (b .history))
+      Simulates (versions (s .counts .writers))
+      (bookCopies (s .counts .keys) (s .counts .writers) (b .history))
       (s .counts .keys) (Stands s b)
   now-simulates =
       let K = s .counts .keys in
       counted-simulates K (s .counts .writers) (b .history) (past-laws K (b .history))
       (F .sound .writers)
 
-  pub now-laws : CopyLaws (copies (s .counts .keys) (b .history))
+  pub now-laws : CopyLaws (bookCopies (s .counts .keys) (s .counts .writers) (b .history))
       (bookWrites (s .counts .keys) (b .history))
-  now-laws = copy-laws (s .counts .keys) (b .history)
+  now-laws = copy-laws (s .counts .keys) (s .counts .writers) (b .history)
 
   -- In a merge of two versions of a key somebody is named.
-  pub now-named : (k : ℕ) (v w : Version) (a c : Copy) → Stands s b k v a → Stands s b k w c
+  pub now-named : (k : ℕ) (v w : Version) (a c : BookCopy) → Stands s b k v a → Stands s b k w c
       → Named (s .counts .writers) k v w
   now-named =
       let K = s .counts .keys in
@@ -106,7 +107,7 @@ empty-follows W K h state jobs done job = record {
     low = λ k p. absurd (false≢true p);
     snapshot = λ k _. counted-none K h;
     led = λ k _. masked-none W K h k;
-    closed = empty-cut (copy-laws K h) (planned jobs job);
+    closed = empty-cut (copy-laws K W h) (planned jobs job);
   };
 }
 
@@ -116,7 +117,7 @@ free-follows W K h = empty-follows W K h 0 0 0 noJobs
 -- ---- one part changed
 
 module _ {s : Store} {b : Book} (F : Follows s b) where
-  pub follows-caches : (f : ℕ → Site) (g : ℕ → Place Copy)
+  pub follows-caches : (f : ℕ → Site) (g : ℕ → Place BookCopy)
       → ((o : ℕ) → o < s .counts .sites → Related (s .counts .keys) (Stands s b) (f o .cache) (g o)
       × ClosedAll (s .counts .keys) (b .history) (g o))
       → Follows (withSites s f) (withBookCaches b g)
@@ -136,7 +137,7 @@ module _ {s : Store} {b : Book} (F : Follows s b) where
     run = F .run;
   }
 
-  pub follows-cache : (o : ℕ) (p : Place Version) (q : Place Copy)
+  pub follows-cache : (o : ℕ) (p : Place Version) (q : Place BookCopy)
       → Related (s .counts .keys) (Stands s b) p q → ClosedAll (s .counts .keys) (b .history) q
       → Follows (withCache s o p) (withBookCaches b (putAt (b .cache) o q))
   unfolding withCache siteWith
@@ -144,7 +145,7 @@ module _ {s : Store} {b : Book} (F : Follows s b) where
       let x = siteWith s (s .site o) p in
       let K = s .counts .keys in
       follows-caches (putAt (s .site) o x) (putAt (b .cache) o q) (λ i l.
-      putAt-both (λ (x : Site) (q : Place Copy). Related K (Stands s b) (x .cache) q
+      putAt-both (λ (x : Site) (q : Place BookCopy). Related K (Stands s b) (x .cache) q
       × ClosedAll K (b .history) q) (s .site) (b .cache) o x q i (λ _. (c, d))
       (λ _. (cache-related F i l, F .closed i l)))
 

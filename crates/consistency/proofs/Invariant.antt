@@ -52,8 +52,9 @@ pub record Follows (s : Store) (b : Book) : Type 0 where
   pub led-master :
       Masked (s .counts .writers) (s .counts .keys) (b .history) (s .master) (b .master)
   -- The master has every write, and nothing else.
-  pub every : (d i : ℕ) → d < s .counts .keys → So (saved (b .history) d i) → So (b .master d i)
-  pub writes : (d i : ℕ) → d < s .counts .keys → So (b .master d i)
+  pub every : (d i : ℕ) → d < s .counts .keys → So (saved (b .history) d i)
+      → So (b .master d .later i)
+  pub writes : (d i : ℕ) → d < s .counts .keys → So (b .master d .later i)
       → (i < length (b .history)) × So (saved (b .history) d i)
   pub cache : (o : ℕ) → o < s .counts .sites
       → Counted (s .counts .keys) (b .history) (s .site o .cache) (b .cache o)

@@ -23,7 +23,8 @@ use Rattle.model.specs.Store.{Branch, Run, Store}
 use Rattle.model.specs.Issue.{takenIn, rowsSet, newPast, newVersion, issuedMaster}
 use Rattle.model.proofs.Merges.{version-path}
 use Rattle.history.specs.History.{Issue, History, writerOf, saved, inPast}
-use Rattle.history.specs.Copies.{Copy, union, counted}
+use Rattle.history.specs.Copies.{union, counted}
+use Rattle.history.specs.Listing.{BookCopy, plainCopy, mergeBook}
 use Rattle.history.specs.Book.{Book, BookBranch, BookRun, entry}
 use Rattle.history.proofs.Notions.{Sound}
 use Rattle.history.proofs.Past.{saved-top, saved-low, saved-below, past-top, topPast-own, past-laws}
@@ -42,14 +43,16 @@ use Rattle.consistency.proofs.Following.{master-closed, master-related}
 module _ (W K : ℕ) (e : Issue) (h : History) where
   -- ---- places that the issue leaves as they were
 
-  pub place-grow : {scope : Items} {p : Place Version} {c : Place Copy} → ClosedIn K h scope c
+  pub place-grow : {scope : Items} {p : Place Version} {c : Place BookCopy} → ClosedIn K h scope c
       → Related K (StandsFor W K h) p c → Related K (StandsFor W K (e ∷ h)) p c
   place-grow {c = c} cut r k l =
-      let below : (i : ℕ) → So (c k i) → i < length h = λ i y. cut .good k l .writes i y .0 in
+      let below : (i : ℕ) → So (c k .later i)
+      → i < length h = λ i y. cut .good k l .writes i y .0 in
       record {
-        counts = rw (counted-grow K e h (past-laws K h) (c k) below) (r k l .counts);
+        counts = rw (counted-grow K e h (past-laws K h) (c k .later) below) (r k l .counts);
         good = closed-grow cut e .good k l;
-        led = r k l .led ∙ ap (maskBelow W) (sym (fun-ext (leading-grow K e h k (c k) below)));
+        led = r k l .led ∙ ap (maskBelow W)
+            (sym (fun-ext (leading-grow K e h k (c k .later) below)));
       }
 
   pub run-grow : {a : Run} {c : BookRun} → RunFollows W K h a c → RunFollows W K (e ∷ h) a c
@@ -72,34 +75,36 @@ module _ (K : ℕ) (e : Issue) (h : History) where
   -- ---- the master
 
   -- Its copies after the issue.
-  unfoldable pub issuedCopies : Place Copy → Place Copy
-  issuedCopies m k = cond (e .keys k) (λ i. m k i || inPast K (e ∷ h) (length h) k i) (m k)
+  unfoldable pub issuedCopies : Place BookCopy → Place BookCopy
+  issuedCopies m k =
+      cond (e .keys k)
+      (mergeBook K (e ∷ h) (m k) (plainCopy (inPast K (e ∷ h) (length h) k))) (m k)
 
   -- It has every write,
-  pub issued-every : (m : Place Copy)
-      → ((d i : ℕ) → d < K → So (saved h d i) → So (m d i))
-      → (d i : ℕ) → d < K → So (saved (e ∷ h) d i) → So (issuedCopies m d i)
-  unfolding issuedCopies
+  pub issued-every : (m : Place BookCopy)
+      → ((d i : ℕ) → d < K → So (saved h d i) → So (m d .later i))
+      → (d i : ℕ) → d < K → So (saved (e ∷ h) d i) → So (issuedCopies m d .later i)
+  unfolding issuedCopies mergeBook union
   issued-every m all d i l p =
       below-cases i (length h) (saved-below (e ∷ h) d i p)
       (λ q.
       let y = saved-top e h d ∙˙ (rw q at p) in
       let own = past-top K e h d (length h) ∙ topPast-own K e h d y in
-      rw (y, q) (or-right (m d (length h)) own))
+      rw (y, q) (or-right (m d .later (length h)) own))
       (λ q.
       let old = all d i l (saved-low e h d i q ∙˙ p) in
       test (e .keys d) (λ y. rw y (or-left (inPast K (e ∷ h) (length h) d i) old))
       (λ n. rw n old))
 
-  module _ (m : Place Copy)
-      (writes : (d i : ℕ) → d < K → So (m d i) → (i < length h) × So (saved h d i)) where
+  module _ (m : Place BookCopy)
+      (writes : (d i : ℕ) → d < K → So (m d .later i) → (i < length h) × So (saved h d i)) where
     -- and nothing else,
-    pub issued-writes : (d i : ℕ) → d < K → So (issuedCopies m d i)
+    pub issued-writes : (d i : ℕ) → d < K → So (issuedCopies m d .later i)
         → (i < length (e ∷ h)) × So (saved (e ∷ h) d i)
-    unfolding issuedCopies
+    unfolding issuedCopies mergeBook union
     issued-writes d i l p =
         test (e .keys d)
-        (λ y. elim (or-cases (m d i) (inPast K (e ∷ h) (length h) d i) (rw y at p)) [
+        (λ y. elim (or-cases (m d .later i) (inPast K (e ∷ h) (length h) d i) (rw y at p)) [
           | inl q ↦ old q
           | inr q ↦
               let b = past-laws K (e ∷ h) .bound (length h) d i (omega arith) q in
@@ -107,7 +112,7 @@ module _ (K : ℕ) (e : Issue) (h : History) where
         ])
         (λ n. old (rw n at p))
       where
-        old : So (m d i) → (i < length (e ∷ h)) × So (saved (e ∷ h) d i)
+        old : So (m d .later i) → (i < length (e ∷ h)) × So (saved (e ∷ h) d i)
         old q = let b = writes d i l q in (omega arith, saved-low e h d i (b .0) ∙ b .1)
 
 -- ---- and its versions stand for these
@@ -116,7 +121,7 @@ module _ (W K : ℕ) (e : Issue) (h : History)
     (writers : (i : ℕ) → i < length (e ∷ h) → writerOf (e ∷ h) i < W) where
   -- The new version stands for what it includes.
   pub entered-stands : e .writer < W → (k : ℕ) → So (e .keys k)
-      → StandsFor W K (e ∷ h) k (entered K e h) (inPast K (e ∷ h) (length h) k)
+      → StandsFor W K (e ∷ h) k (entered K e h) (plainCopy (inPast K (e ∷ h) (length h) k))
   unfolding entered
   entered-stands hw k s =
       let laws = past-laws K (e ∷ h) in
@@ -126,22 +131,24 @@ module _ (W K : ℕ) (e : Issue) (h : History)
         led = mask-top K e h k laws s W hw;
       }
 
-  module _ (m : Place Copy) (cut : ClosedAll K h m) (p : Place Version)
+  module _ (m : Place BookCopy) (cut : ClosedAll K h m) (p : Place Version)
       (r : Related K (StandsFor W K h) p m) (hw : e .writer < W) where
     -- The merge with it names somebody.
     pub issued-named : (k : ℕ) → k < K → So (e .keys k) → Named W k (p k) (entered K e h)
     issued-named k l s =
         stands-named K W (e ∷ h) (past-laws K (e ∷ h)) writers k (p k) (entered K e h) (m k)
-        (inPast K (e ∷ h) (length h) k) (place-grow W K e h cut r k l) (entered-stands hw k s)
+        (plainCopy (inPast K (e ∷ h) (length h) k)) (place-grow W K e h cut r k l)
+        (entered-stands hw k s)
 
     pub issued-stands : Related K (StandsFor W K (e ∷ h))
         (λ k. cond (e .keys k) (merge W k (p k) (entered K e h)) (p k)) (issuedCopies K e h m)
-    unfolding issuedCopies union
+    unfolding issuedCopies
     issued-stands k l =
         let old = place-grow W K e h cut r k l in
         test (e .keys k)
         (λ y. rw y (stands-merge K W (e ∷ h) (past-laws K (e ∷ h)) writers k (p k)
-        (entered K e h) (m k) (inPast K (e ∷ h) (length h) k) old (entered-stands hw k y)))
+        (entered K e h) (m k) (plainCopy (inPast K (e ∷ h) (length h) k)) old
+        (entered-stands hw k y)))
         (λ n. rw n old)
 
 -- ---- the version that the store makes
@@ -150,13 +157,14 @@ module _ (W K : ℕ) (e : Issue) (h : History)
 pub taken-counted : (W K : ℕ) (h : History) (past : ℕ → Clock) (plan : Items) (a : Branch)
     (c : BookBranch) → BranchFollows W K h plan a c → (d : ℕ)
     → takenIn K (a .read) (a .snapshot) past d
-    ≡ join (past d) (counted K h (λ i. anyBelow K (λ k. c .read k && c .snapshot k i)) .past d)
+    ≡ join (past d) (counted K h
+    (λ i. anyBelow K (λ k. c .read k && c .snapshot k .later i)) .past d)
 unfolding takenIn
 taken-counted W K h past plan a c F d =
     fold-same K (λ k x. cond (testBit (a .read) k) (join x (a .snapshot k .past d)) x)
-    (λ k x. cond (c .read k) (join x (counted K h (c .snapshot k) .past d)) x)
+    (λ k x. cond (c .read k) (join x (counted K h (c .snapshot k .later) .past d)) x)
     (λ k x l. rw (F .read k l, F .snapshot k l .past)) (past d)
-    ∙ counted-fold K h K (c .read) (c .snapshot) d (past d)
+    ∙ counted-fold K h K (c .read) (λ k. c .snapshot k .later) d (past d)
 
 module _ (s : Store) (b : Book) (F : Follows s b) (r w S : ℕ) (hr : r < s .counts .runs)
     (hw : w < s .counts .writers) where

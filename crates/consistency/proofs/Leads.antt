@@ -15,6 +15,7 @@ use Rattle.model.specs.Version.{Version}
 use Rattle.model.specs.Store.{Store}
 use Rattle.history.specs.History.{History, saved}
 use Rattle.history.specs.Copies.{Copy, leading}
+use Rattle.history.specs.Listing.{BookCopy}
 use Rattle.history.specs.Book.{Book}
 use Rattle.history.proofs.Behind.{past-is-before}
 use Rattle.history.proofs.Leading.{Leader, leading-iff}
@@ -63,27 +64,28 @@ leading-is K h before k c writes u =
         }
 
 -- A mask that is that of its copy names just who leads in it.
-pub led-as : {W K : ℕ} {h : History} {k : ℕ} {v : Version} {c : Copy} → PastIsBefore K h
-    → StandsFor W K h k v c → LedAs W K h k (v .leaders) c
+pub led-as : {W K : ℕ} {h : History} {k : ℕ} {v : Version} {c : BookCopy} → PastIsBefore K h
+    → StandsFor W K h k v c → LedAs W K h k (v .leaders) (c .later)
 led-as {W} {K} {h} {k} {v} {c} before r =
     record {
       mask = r .led;
       leads = λ u l.
-          let bit = item-of W (v .leaders) (leading K h k c) (r .led) u l in
-          let is = leading-is K h before k c (r .good .writes) u in
+          let bit = item-of W (v .leaders) (leading K h k (c .later)) (r .led) u l in
+          let is = leading-is K h before k (c .later) (r .good .writes) u in
           (λ p. is .0 (bit ∙˙ p), λ L. bit ∙ is .1 L);
     }
 
 -- ---- of a store that follows its book
 
 module _ {s : Store} {b : Book} (F : Follows s b) where
-  pub led-place : {p : Place Version} {c : Place Copy} → Related (s .counts .keys) (Stands s b) p c
+  pub led-place : {p : Place Version} {c : Place BookCopy}
+      → Related (s .counts .keys) (Stands s b) p c
       → Led (s .counts .writers) (s .counts .keys) (b .history) p c
   led-place r k l = led-as (past-is-before (F .sound)) (r k l)
 
   -- A version on master, shelf or card stands for a copy.
   on-place : (k : ℕ) (v : Version) → k < s .counts .keys → OnPlace s k v
-      → (c : Copy) × Stands s b k v c
+      → (c : BookCopy) × Stands s b k v c
   on-place k v l onMaster = (b .master k, master-related F k l)
   on-place k v l (onCache o h) = (b .cache o k, cache-related F o h k l)
   on-place k v l (onSnapshot r h) = (b .run r .branch .snapshot k, snapshot-related F r h k l)

@@ -16,7 +16,7 @@ use Rattle.model.proofs.Draws.{pulled-out}
 use Rattle.model.proofs.Steps.{Accepted, step-planned}
 use Rattle.layout.proofs.Rules.Step.{site}
 use Rattle.layout.proofs.Follow.{Fine}
-use Rattle.history.specs.Copies.{Copy, copies}
+use Rattle.history.specs.Listing.{BookCopy, bookCopies}
 use Rattle.history.specs.Book.{Book, BookBranch, BookRun, bookStepJob, withBookRun, withBookCaches}
 use Rattle.consistency.specs.Leading.{Named}
 use Rattle.consistency.proofs.Simulation.{Agree, Related, readStart-same, fetched-rel, pullSet-same, pulled-rel}
@@ -32,10 +32,10 @@ module _ (s : Store) (b : Book) (r j : ℕ) where
   abbrev pub copyBranch : BookBranch
   copyBranch = b .run r .branch
 
-  unfoldable pub copyCache : Place Copy
+  unfoldable pub copyCache : Place BookCopy
   copyCache =
       let K = s .counts .keys in
-      let alg = copies K (b .history) in
+      let alg = bookCopies K (s .counts .writers) (b .history) in
       let cache = b .cache (stepSite s r j) in
       fetched alg K (b .master) cache
       (readStart alg K (copyBranch .snapshot) cache (stepReads s r j))
@@ -44,13 +44,15 @@ module _ (s : Store) (b : Book) (r j : ℕ) where
   unfoldable pub copyPull : Items
   copyPull =
       let K = s .counts .keys in
-      pullSet (copies K (b .history)) K (stepPlan s r j) (copyBranch .snapshot) copyCache
+      pullSet (bookCopies K (s .counts .writers) (b .history)) K (stepPlan s r j)
+      (copyBranch .snapshot) copyCache
       (stepReads s r j)
 
-  unfoldable pub copySnapshot : Place Copy
+  unfoldable pub copySnapshot : Place BookCopy
   copySnapshot =
       let K = s .counts .keys in
-      pulled (copies K (b .history)) K (stepPlan s r j) (copyBranch .snapshot) copyCache
+      pulled (bookCopies K (s .counts .writers) (b .history)) K (stepPlan s r j)
+      (copyBranch .snapshot) copyCache
       (stepReads s r j)
 
   unfoldable pub copyRun : BookRun
@@ -139,6 +141,7 @@ module _ {s : Store} {b : Book} {r j : ℕ} (fine : Fine s) (F : Follows s b)
       → copySnapshot s b r j k ≡ copyBranch s b r j .snapshot k
   unfolding copySnapshot copyPull
   copySnapshot-out k h e =
-      pulled-out (copies (s .counts .keys) (b .history)) (s .counts .keys) (stepPlan s r j)
+      pulled-out (bookCopies (s .counts .keys) (s .counts .writers) (b .history)) (s .counts .keys)
+      (stepPlan s r j)
       (copyBranch s b r j .snapshot) (copyCache s b r j) (stepReads s r j) k
       (sym (stepPull-same k h) ∙ e)

@@ -84,22 +84,24 @@ module _ (t : Trace) (H : HoldsAt t) where
   snapshot-meets r l = overlappingCut-at (versions W) K _ _ (H .holds .overlaps r l)
 
   -- "A version on the desk is its copy counted": master, shelves, cards, what jobs have read
-  pub master-counted : (k : ℕ) → k < K → Same (s .master k) (counted K h (t .book .master k))
+  pub master-counted : (k : ℕ) → k < K
+      → Same (s .master k) (counted K h (t .book .master k .later))
   master-counted k l = same (H .holds .master k l)
 
   pub cache-counted : (o : ℕ) → o < s .counts .sites → (k : ℕ) → k < K
-      → Same (s .site o .cache k) (counted K h (t .book .cache o k))
+      → Same (s .site o .cache k) (counted K h (t .book .cache o k .later))
   cache-counted o l k i = same (H .holds .caches o l k i)
 
   pub snapshot-counted : (r : ℕ) → r < s .counts .runs → (k : ℕ) → k < K
-      → Same (s .run r .branch .snapshot k) (counted K h (t .book .run r .branch .snapshot k))
+      → Same (s .run r .branch .snapshot k)
+      (counted K h (t .book .run r .branch .snapshot k .later))
   snapshot-counted r l k i = same (H .holds .snapshots r l k i)
 
   pub read-counted : (r : ℕ) (x : ReadSet) → Among x (t .finished r) → (k : ℕ) → k < K
-      → So (x .keys k) → Same (x .version k) (counted K h (x .copy k))
+      → So (x .keys k) → Same (x .version k) (counted K h (x .copy k .later))
   read-counted r x p k l q = same (H .holds .reads r x p k l q)
 
-  pub master-has : (k i : ℕ) → k < K → So (saved h k i) → So (t .book .master k i)
+  pub master-has : (k i : ℕ) → k < K → So (saved h k i) → So (t .book .master k .later i)
   master-has = H .holds .every-save
 
   -- "which copy is ahead": no count on a shelf or card is larger than the master's
@@ -151,8 +153,8 @@ module _ (t : Trace) (H : HoldsAt t) where
   -- and what stands behind anything that either read is included in what either read.
   pub either-includes : (r : ℕ) (x y : ReadSet) → Among x (t .finished r)
       → Among y (t .finished r) → (e i d j : ℕ) → e < K → d < K → HappensBefore h d j e i
-      → (So (x .keys e) → So (x .copy e i) → So (y .keys d) → So (y .copy d j))
-      × (So (y .keys e) → So (y .copy e i) → So (x .keys d) → So (x .copy d j))
+      → (So (x .keys e) → So (x .copy e .later i) → So (y .keys d) → So (y .copy d .later j))
+      × (So (y .keys e) → So (y .copy e .later i) → So (x .keys d) → So (x .copy d .later j))
   either-includes r x y p q e i d j le ld b = (
     λ u v w. H .holds .shared r x y p q .included e i d j le ld u v w b,
     λ u v w. H .holds .shared r y x q p .included e i d j le ld u v w b,

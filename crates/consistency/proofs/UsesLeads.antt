@@ -69,19 +69,19 @@ module _ (t : Trace) (H : HoldsAt t) where
   names e = (e .mask, λ u l. e .leads u l .0, λ u l. e .leads u l .1)
 
   -- On master, shelves and cards, and of what finished jobs have read.
-  pub master-led : (k : ℕ) → k < K → Names k (s .master k .leaders) (t .book .master k)
+  pub master-led : (k : ℕ) → k < K → Names k (s .master k .leaders) (t .book .master k .later)
   master-led k l = names (H .holds .leads .led-master k l)
 
   pub cache-led : (o : ℕ) → o < s .counts .sites → (k : ℕ) → k < K
-      → Names k (s .site o .cache k .leaders) (t .book .cache o k)
+      → Names k (s .site o .cache k .leaders) (t .book .cache o k .later)
   cache-led o l k i = names (H .holds .leads .led-caches o l k i)
 
   pub snapshot-led : (r : ℕ) → r < s .counts .runs → (k : ℕ) → k < K
-      → Names k (s .run r .branch .snapshot k .leaders) (t .book .run r .branch .snapshot k)
+      → Names k (s .run r .branch .snapshot k .leaders) (t .book .run r .branch .snapshot k .later)
   snapshot-led r l k i = names (H .holds .leads .led-snapshots r l k i)
 
   pub read-led : (r : ℕ) (x : ReadSet) → Among x (t .finished r) → (k : ℕ) → k < K
-      → So (x .keys k) → Names k (x .version k .leaders) (x .copy k)
+      → So (x .keys k) → Names k (x .version k .leaders) (x .copy k .later)
   read-led r x p k l q = names (H .holds .leads .led-reads r x p k l q)
 
   -- Number, mask and rows say all: the shelf's version of the master's copy is the master's.

@@ -17,16 +17,16 @@ use Rattle.model.specs.Store.{Store}
 use Rattle.model.proofs.Marked.{stale-look}
 use Rattle.layout.specs.Reading.{storeOf}
 use Rattle.layout.specs.Buffer.{shaped, inForm}
-use Rattle.history.specs.Copies.{Copy}
+use Rattle.history.specs.Listing.{BookCopy}
 use Rattle.consistency.specs.Trace.{Trace}
 use Rattle.consistency.specs.Claim.{IsBehind, HoldsAt}
 
 -- ---- "isn't empty and isn't the master's"
 
-pub empty-fails : (c master : Copy) → ((i : ℕ) → c i ≡ false) → ¬ (IsBehind c master)
+pub empty-fails : (c master : BookCopy) → ((i : ℕ) → c .later i ≡ false) → ¬ (IsBehind c master)
 empty-fails c master e b = clash (b .some .1) (e (b .some .0))
 
-pub same-fails : (c : Copy) → ¬ (IsBehind c c)
+pub same-fails : (c : BookCopy) → ¬ (IsBehind c c)
 same-fails c b = b .other (λ i. refl)
 
 -- ---- at a point
@@ -39,19 +39,20 @@ module _ (t : Trace) (H : HoldsAt t) (o : ℕ) (ho : o < storeOf (t .buffer) .co
   mark-is = H .holds .marks-true o ho
 
   module _ (k : ℕ) (hk : k < s .counts .keys) where
-    pub marked-some : So (testBit (s .site o .stale) k) → (i : ℕ) × So (t .book .cache o k i)
+    pub marked-some : So (testBit (s .site o .stale) k)
+        → (i : ℕ) × So (t .book .cache o k .later i)
     marked-some p = H .holds .marks-copies o k ho hk .0 p .some
 
     pub marked-other : So (testBit (s .site o .stale) k)
-        → ¬ ((i : ℕ) → t .book .cache o k i ≡ t .book .master k i)
+        → ¬ ((i : ℕ) → t .book .cache o k .later i ≡ t .book .master k .later i)
     marked-other p = H .holds .marks-copies o k ho hk .0 p .other
 
-    pub behind-marked : (i : ℕ) → So (t .book .cache o k i)
-        → ¬ ((i : ℕ) → t .book .cache o k i ≡ t .book .master k i)
+    pub behind-marked : (i : ℕ) → So (t .book .cache o k .later i)
+        → ¬ ((i : ℕ) → t .book .cache o k .later i ≡ t .book .master k .later i)
         → So (testBit (s .site o .stale) k)
     behind-marked i p n = H .holds .marks-copies o k ho hk .1 (record { some = (i, p); other = n })
 
-    pub in-master : (i : ℕ) → So (t .book .cache o k i) → So (t .book .master k i)
+    pub in-master : (i : ℕ) → So (t .book .cache o k .later i) → So (t .book .master k .later i)
     in-master i p = H .holds .caches-part o k i ho hk p
 
     pub look-marked : So (testBit (s .site o .stale) k)

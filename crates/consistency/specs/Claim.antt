@@ -23,7 +23,8 @@ use Rattle.layout.specs.Reading.{storeOf}
 use Rattle.layout.specs.Buffer.{inForm}
 use Rattle.layout.specs.Calls.{Call, on, callOn, newOn, isOk}
 use Rattle.history.specs.History.{History, HappensBefore, saved, inPast}
-use Rattle.history.specs.Copies.{Copy, CountedAs, counted}
+use Rattle.history.specs.Copies.{CountedAs, counted}
+use Rattle.history.specs.Listing.{BookCopy}
 use Rattle.history.specs.Book.{Book}
 use Rattle.consistency.specs.Trace.{ReadSet, Among, Trace, start, follow}
 use Rattle.consistency.specs.Leading.{Leading}
@@ -40,14 +41,14 @@ PastIsBefore K h =
 -- ---- (b) "each version on master, shelves and cards is the one that document 01's book gives"
 
 -- Number and rows; the mask stands apart (specs/Leading): together all of a version.
-abbrev pub Counted : ℕ → History → Place Version → Place Copy → Type 0
-Counted K h p c = (k : ℕ) → k < K → CountedAs (p k) (counted K h (c k))
+abbrev pub Counted : ℕ → History → Place Version → Place BookCopy → Type 0
+Counted K h p c = (k : ℕ) → k < K → CountedAs (p k) (counted K h (c k .later))
 
 -- The same of the keys that a finished job has read.
 abbrev pub ReadCounted : ℕ → History → ReadSet → Type 0
 ReadCounted K h x =
     (k : ℕ) → k < K → So (x .keys k)
-    → CountedAs (x .version k) (counted K h (x .copy k))
+    → CountedAs (x .version k) (counted K h (x .copy k .later))
 
 -- ---- (c) "two finished jobs of one run, at one office or two, share one causal snapshot"
 
@@ -56,8 +57,8 @@ pub record Snapshot (K : ℕ) (h : History) (x y : ReadSet) : Type 0 where
   pub one-version : (k : ℕ) → k < K → So (x .keys k) → So (y .keys k) → x .version k ≡ y .version k
   -- "each save of a sheet that either read, if by the book it stands behind anything either read,
   -- is included in the version read": for x and y in either order, and for each with itself
-  pub included : (e i d j : ℕ) → e < K → d < K → So (x .keys e) → So (x .copy e i) → So (y .keys d)
-      → HappensBefore h d j e i → So (y .copy d j)
+  pub included : (e i d j : ℕ) → e < K → d < K → So (x .keys e) → So (x .copy e .later i)
+      → So (y .keys d) → HappensBefore h d j e i → So (y .copy d .later j)
 
 -- ---- "which copy is ahead": never one on a shelf or card
 
@@ -70,9 +71,9 @@ NotAhead W K master p =
 -- ---- CR 4: "which shelf copies are behind", on copies
 
 -- A shelf's copy that isn't empty and isn't the master's.
-pub record IsBehind (c master : Copy) : Type 0 where
-  pub some : (i : ℕ) × So (c i)
-  pub other : ¬ ((i : ℕ) → c i ≡ master i)
+pub record IsBehind (c master : BookCopy) : Type 0 where
+  pub some : (i : ℕ) × So (c .later i)
+  pub other : ¬ ((i : ℕ) → c .later i ≡ master .later i)
 
 -- ---- (d) "a step in the list that is not turned down breaks its run exactly if no choice .. "
 
@@ -156,7 +157,7 @@ pub record Holds (s : Store) (b : Book) (finished : ℕ → List ReadSet) : Type
       → So (overlappingCut (versions (s .counts .writers)) (s .counts .keys)
       (planned (s .run r .jobs) (s .run r .job)) (s .run r .branch .snapshot))
   pub every-save : (k i : ℕ) → k < s .counts .keys → So (saved (b .history) k i)
-      → So (b .master k i)
+      → So (b .master k .later i)
   -- No copy is ahead of the master's.
   pub behind-caches : (o : ℕ) → o < s .counts .sites
       → NotAhead (s .counts .writers) (s .counts .keys) (s .master) (s .site o .cache)
@@ -164,7 +165,7 @@ pub record Holds (s : Store) (b : Book) (finished : ℕ → List ReadSet) : Type
       → NotAhead (s .counts .writers) (s .counts .keys) (s .master) (s .run r .branch .snapshot)
   -- A shelf's copy is a part of the master's.
   pub caches-part : (o k i : ℕ) → o < s .counts .sites → k < s .counts .keys
-      → So (b .cache o k i) → So (b .master k i)
+      → So (b .cache o k .later i) → So (b .master k .later i)
   -- CR 4: each shelf's mark is "the mask of held sheets whose own row isn't equal to the
   -- master's", and names the copies that are behind.
   pub marks-true : (o : ℕ) → o < s .counts .sites

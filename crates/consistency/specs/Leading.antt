@@ -13,6 +13,7 @@ use Rattle.model.specs.Version.{Version, held, leadsOn}
 use Rattle.model.specs.Store.{Store}
 use Rattle.history.specs.History.{History, HappensBefore, writerOf}
 use Rattle.history.specs.Copies.{Copy, leading}
+use Rattle.history.specs.Listing.{BookCopy}
 use Rattle.history.specs.Book.{Book}
 use Rattle.consistency.specs.Trace.{ReadSet, Among}
 
@@ -30,8 +31,8 @@ pub record LedAs (W K : ℕ) (h : History) (k m : ℕ) (c : Copy) : Type 0 where
   pub mask : m ≡ maskBelow W (leading K h k c)
   pub leads : (u : ℕ) → u < W → So (testBit m u) ↔ Leads h k c u
 
-abbrev pub Led : ℕ → ℕ → History → Place Version → Place Copy → Type 0
-Led W K h p c = (k : ℕ) → k < K → LedAs W K h k (p k .leaders) (c k)
+abbrev pub Led : ℕ → ℕ → History → Place Version → Place BookCopy → Type 0
+Led W K h p c = (k : ℕ) → k < K → LedAs W K h k (p k .leaders) (c k .later)
 
 -- A version of key k on the master, a shelf or a card.
 pub data OnPlace (s : Store) (k : ℕ) : Version → Type 0 where
@@ -59,6 +60,6 @@ pub record Leading (s : Store) (b : Book) (finished : ℕ → List ReadSet) : Ty
   pub led-reads : (r : ℕ) (x : ReadSet) → Among x (finished r) → (k : ℕ) → k < s .counts .keys
       → So (x .keys k)
       → LedAs (s .counts .writers) (s .counts .keys) (b .history) k (x .version k .leaders)
-      (x .copy k)
+      (x .copy k .later)
   pub named : (k : ℕ) (v w : Version) → k < s .counts .keys → OnPlace s k v → OnPlace s k w
       → Named (s .counts .writers) k v w

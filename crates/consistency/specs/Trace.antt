@@ -15,7 +15,7 @@ use Rattle.model.specs.Version.{Version}
 use Rattle.model.specs.Store.{Store}
 use Rattle.layout.specs.Reading.{storeOf}
 use Rattle.layout.specs.Calls.{Call, new, on, callOn, leaves, isOk, newOn}
-use Rattle.history.specs.Copies.{Copy}
+use Rattle.history.specs.Listing.{BookCopy}
 use Rattle.history.specs.Book.{Book, freshBook, bookStep}
 use Rattle.consistency.specs.Roles.{Role, opening, working, freeing, elsewhere, roleOf}
 
@@ -24,7 +24,7 @@ use Rattle.consistency.specs.Roles.{Role, opening, working, freeing, els
 pub record ReadSet : Type 0 where
   pub keys : Items
   pub version : Place Version
-  pub copy : Place Copy
+  pub copy : Place BookCopy
 
 -- One of those that a run's jobs have read.
 pub data Among (x : ReadSet) : List ReadSet → Type 0 where

@@ -39,6 +39,7 @@ use Rattle.layout.specs.Reading.{readClock, readPast, readVersion, readPlace, r
 use Rattle.layout.specs.Calls.{on, isOk}
 use Rattle.history.specs.History.{Issue, writerOf, leads, inPast}
 use Rattle.history.specs.Copies.{Copy, reaches, heldCopy, needsCopy, meetsCopy, union, lastIn, byWriter, counted, lastBy, behindOther, leading}
+use Rattle.history.specs.Listing.{BookCopy, plainCopy, heldBook, mergeBook, needsBook, meetsBook}
 use Rattle.history.specs.Book.{BookRun, Book, noCopies, noRun, freshBook, withBookCaches, withBookRun, bookOpen, bookFetch, bookEvict, bookPrepare, bookStepJob, entry, bookIssue, bookIssued, bookRule, bookOk, bookStep}
 
 -- ---- a book written down: copies are functions, built on those before each call, and would be
@@ -60,14 +61,17 @@ tabled-same (suc n) x f zero h = refl
 tabled-same (suc n) x f (suc i) h = tabled-same n x (λ j. f (suc j)) i (le-of-suc-le-suc h)
 
 -- For keys below K and issues below n.
-abbrev pub keptPlace : ℕ → ℕ → Place Copy → Place Copy
-keptPlace K n p = tabled K none (λ k. tabled n false (p k))
+abbrev pub keptSets : ℕ → ℕ → Place Copy → Place Copy
+keptSets K n p = tabled K none (λ k. tabled n false (p k))
+
+abbrev pub keptPlace : ℕ → ℕ → Place BookCopy → Place BookCopy
+keptPlace K n p = tabled K (plainCopy none) (λ k. plainCopy (tabled n false (p k .later)))
 
 abbrev pub keptIssue : ℕ → ℕ → Issue → Issue
 keptIssue K n e = record {
   writer = e .writer;
   keys = tabled K false (e .keys);
-  read = keptPlace K n (e .read);
+  read = keptSets K n (e .read);
 }
 
 abbrev pub keptRun : ℕ → ℕ → BookRun → BookRun
@@ -96,16 +100,16 @@ keptBook b =
 -- ---- the test
 
 -- A version of key k has the number and the rows of its copy, and its mask names who leads in it.
-abbrev pub isCopy : Book → ℕ → Version → Copy → Bool
+abbrev pub isCopy : Book → ℕ → Version → BookCopy → Bool
 isCopy b k v c =
     let z = b .counts in
-    let n = counted (z .keys) (b .history) c in
+    let n = counted (z .keys) (b .history) (c .later) in
     eqb (v .issue) (n .issue)
-    && (eqb (v .leaders) (maskBelow (z .writers) (leading (z .keys) (b .history) k c))
+    && (eqb (v .leaders) (maskBelow (z .writers) (leading (z .keys) (b .history) k (c .later)))
     && allBelow (z .keys) (λ d. allBelow (z .writers) (λ w. eqb (v .past d w) (n .past d w))))
 
 -- Each version of a place is its copy.
-abbrev pub areCopies : Book → Place Version → Place Copy → Bool
+abbrev pub areCopies : Book → Place Version → Place BookCopy → Bool
 areCopies b p c = allBelow (b .counts .keys) (λ k. isCopy b k (p k) (c k))
 
 -- On master, caches and snapshots.
@@ -168,7 +172,8 @@ unfolding anyBelow allBelow only foldBelow countBelow largest when putAt upto bl
     writersWords jobWords jobsWords runWords runsWords tailWords headerWords storeWords
     readClock readPast readVersion readPlace readSite readWriter readJob readJobs readRun
     readTail countsIn storeOf isOk writerOf leads inPast reaches heldCopy needsCopy meetsCopy
-    union lastIn byWriter counted lastBy behindOther leading freshBook withBookCaches
+    union heldBook mergeBook needsBook meetsBook lastIn byWriter counted lastBy behindOther
+    leading freshBook withBookCaches
     withBookRun bookOpen bookFetch bookEvict bookPrepare bookStepJob entry bookIssue bookIssued
     bookRule bookOk bookStep
 scripted = record {

@@ -21,12 +21,12 @@ use Rattle.model.specs.Step.{readStart}
 use Rattle.model.specs.Calls.{StoreCall, openRun, fetch, evict, prepare, step, issue, dropRun, ask}
 use Rattle.layout.specs.Calls.{Call, new, on}
 use Rattle.history.specs.History.{Issue, History, inPast}
-use Rattle.history.specs.Copies.{Copy, copies}
+use Rattle.history.specs.Listing.{BookCopy, plainCopy, mergeBook, bookCopies}
 
 -- "read sheets", and the card's copies.
 pub record BookBranch : Type 0 where
   pub read : Items
-  pub snapshot : Place Copy
+  pub snapshot : Place BookCopy
 
 -- "each run's jobs and read sheets", and its card.
 pub record BookRun : Type 0 where
@@ -37,12 +37,12 @@ pub record BookRun : Type 0 where
 pub record Book : Type 0 where
   pub counts : Counts
   pub history : History
-  pub master : Place Copy
-  pub cache : ℕ → Place Copy
+  pub master : Place BookCopy
+  pub cache : ℕ → Place BookCopy
   pub run : ℕ → BookRun
 
-abbrev pub noCopies : Place Copy
-noCopies k = none
+abbrev pub noCopies : Place BookCopy
+noCopies k = plainCopy none
 
 abbrev pub noBookBranch : BookBranch
 noBookBranch = record { read = none; snapshot = noCopies }
@@ -60,7 +60,7 @@ freshBook z = record {
   run = λ r. noRun;
 }
 
-unfoldable pub withBookCaches : Book → (ℕ → Place Copy) → Book
+unfoldable pub withBookCaches : Book → (ℕ → Place BookCopy) → Book
 withBookCaches b f = record {
   counts = b .counts;
   history = b .history;
@@ -92,18 +92,19 @@ bookOpen r l b =
 unfoldable pub bookFetch : ℕ → ℕ → Book → Book
 bookFetch o k b =
     let K = b .counts .keys in
-    withBookCaches b (putAt (b .cache) o
-    (fetched (copies K (b .history)) K (b .master) (b .cache o) (only k)))
+    let alg = bookCopies K (b .counts .writers) (b .history) in
+    withBookCaches b (putAt (b .cache) o (fetched alg K (b .master) (b .cache o) (only k)))
 
 unfoldable pub bookEvict : ℕ → ℕ → Book → Book
 bookEvict o k b =
     let K = b .counts .keys in
-    withBookCaches b (putAt (b .cache) o (evicted (copies K (b .history)) K (b .cache o) (only k)))
+    let alg = bookCopies K (b .counts .writers) (b .history) in
+    withBookCaches b (putAt (b .cache) o (evicted alg K (b .cache o) (only k)))
 
 unfoldable pub bookPrepare : ℕ → Book → Book
 bookPrepare r b =
     let K = b .counts .keys in
-    let alg = copies K (b .history) in
+    let alg = bookCopies K (b .counts .writers) (b .history) in
     let a = b .run r in
     let caches = preparedCaches alg K (b .master) (a .job) (a .jobs) (b .cache) in
     let plan = planned (a .jobs) (a .job) in
@@ -119,7 +120,7 @@ bookPrepare r b =
 unfoldable pub bookStepJob : ℕ → ℕ → Book → Book
 bookStepJob r j b =
     let K = b .counts .keys in
-    let alg = copies K (b .history) in
+    let alg = bookCopies K (b .counts .writers) (b .history) in
     let a = b .run r in
     let v = a .branch in
     let o = a .job j .site in
@@ -142,19 +143,20 @@ unfoldable pub entry : ℕ → ℕ → ℕ → Book → Issue
 entry r w S b = record {
   writer = w;
   keys = testBit S;
-  read = λ k i. b .run r .branch .read k && b .run r .branch .snapshot k i;
+  read = λ k i. b .run r .branch .read k && b .run r .branch .snapshot k .later i;
 }
 
 -- "for each k in S the master's copy takes in what the new version includes": "its own save and
 -- all saves of its sheet behind it"
 unfoldable pub bookIssue : ℕ → ℕ → ℕ → Book → Book
 bookIssue r w S b =
+    let K = b .counts .keys in
     let h = entry r w S b ∷ b .history in
-    let new = inPast (b .counts .keys) h (length (b .history)) in
+    let new : Place BookCopy = λ k. plainCopy (inPast K h (length (b .history)) k) in
     record {
       counts = b .counts;
       history = h;
-      master = λ k. cond (testBit S k) (λ i. b .master k i || new k i) (b .master k);
+      master = λ k. cond (testBit S k) (mergeBook K h (b .master k) (new k)) (b .master k);
       cache = b .cache;
       run = putAt (b .run) r noRun;
     }

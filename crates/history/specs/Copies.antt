@@ -1,17 +1,17 @@
 -- Copies (document 01: "a copy: a set of saves, empty if not held"), what the rules ask of them,
 -- and a copy counted.
--- Copy; reaches; copies: the algebra. lastIn, counted; CountedAs: a version that is. leading: the
--- writers that lead in a copy (CR 3).
+-- Copy; reaches; heldCopy, needsCopy, meetsCopy, union. lastIn, counted; CountedAs: a version that
+-- is. leading: the writers that lead in a copy (CR 3).
 -- Assumes nothing.
 use mathlib.Core.Path.{_≡_}
 use mathlib.Core.Bool.{Bool, not, _&&_, _||_}
 use Prim.Native.Nat.{ℕ, suc}
 use lib.Dec.{eqb}
 use lib.ListN.{length}
-use Rattle.words.specs.Tests.{Items, anyBelow, allBelow, none}
+use Rattle.words.specs.Tests.{Items, anyBelow, allBelow}
 use Rattle.words.specs.Numbers.{countBelow, largest, when}
 use Rattle.clock.specs.Clock.{Clock}
-use Rattle.model.specs.Algebra.{Algebra, implies}
+use Rattle.model.specs.Algebra.{implies}
 use Rattle.model.specs.Version.{Version}
 use Rattle.history.specs.History.{History, writerOf, inPast}
 
@@ -48,15 +48,6 @@ module _ (K : ℕ) (h : History) where
   -- "Merge is union."
   unfoldable pub union : Copy → Copy → Copy
   union a b i = a i || b i
-
-  abbrev pub copies : Algebra Copy
-  copies = record {
-    nothing = none;
-    held = heldCopy;
-    needs = needsCopy;
-    meets = meetsCopy;
-    merge = λ k. union;
-  }
 
   -- ---- "A version on the desk is its copy counted"
 

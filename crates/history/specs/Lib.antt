@@ -1,3 +1,4 @@
 pub mod History
 pub mod Copies
+pub mod Listing
 pub mod Book

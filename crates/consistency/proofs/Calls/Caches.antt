@@ -16,7 +16,7 @@ use Rattle.model.specs.Calls.{fetch, evict}
 use Rattle.model.specs.Caches.{fetchCause, fetchDone, fetchRule, evictCause, evictDone, evictRule}
 use Rattle.model.proofs.Outcomes.{no-cause}
 use Rattle.layout.proofs.Follow.{Fine}
-use Rattle.history.specs.Copies.{Copy, copies}
+use Rattle.history.specs.Listing.{BookCopy, bookCopies}
 use Rattle.history.specs.Book.{Book, bookFetch, bookEvict, bookRule, withBookCaches}
 use Rattle.consistency.specs.Roles.{roleOf}
 use Rattle.consistency.specs.Trace.{ReadSet, finishBy, finish}
@@ -30,7 +30,7 @@ use Rattle.consistency.proofs.Changing.{inv-cache}
 
 -- Cache o changed, in the book by a rule that takes the counts.
 cache-next : {s : Store} {b : Book} {f : ℕ → List ReadSet} (o : ℕ) (p : Place Version)
-    (q : Counts → Place Copy) → Inv s b f
+    (q : Counts → Place BookCopy) → Inv s b f
     → Related (s .counts .keys) (Stands s b) p (q (s .counts))
     → ClosedAll (s .counts .keys) (b .history) (q (s .counts))
     → Inv (withCache s o p) (withBookCaches b (putAt (b .cache) o (q (b .counts)))) f
@@ -50,7 +50,8 @@ fetch-laws o k s _ =
       moves = λ b f v. let F = v .follows in
           cache-next o
           (fetched (versions (s .counts .writers)) K (s .master) (s .site o .cache) (only k))
-          (λ z. fetched (copies (z .keys) (b .history)) (z .keys) (b .master) (b .cache o)
+          (λ z. fetched (bookCopies (z .keys) (z .writers) (b .history)) (z .keys) (b .master)
+          (b .cache o)
           (only k))
           v (fetched-rel (now-simulates F) (s .master) (s .site o .cache) (b .master) (b .cache o)
           (only k) (only k) (master-related F) (cache-related F o l) (λ _ _. refl))
@@ -69,7 +70,8 @@ evict-laws o k s _ =
     record {
       moves = λ b f v. let F = v .follows in
           cache-next o (evicted (versions (s .counts .writers)) K (s .site o .cache) (only k))
-          (λ z. evicted (copies (z .keys) (b .history)) (z .keys) (b .cache o) (only k)) v
+          (λ z. evicted (bookCopies (z .keys) (z .writers) (b .history)) (z .keys) (b .cache o)
+          (only k)) v
           (evicted-rel (now-simulates F) (s .site o .cache) (b .cache o) (only k) (only k)
           (cache-related F o l) (λ _ _. refl))
           (evicted-closed (now-laws F) K (b .cache o) (only k) (F .closed o l));

@@ -65,8 +65,8 @@ module _ (s : Store) (b : Book) (F : Follows s b) (r w S : ℕ) (hr : r < s .cou
       sound-issue K (s .counts .writers) (entry r w S b) (b .history) (F .sound) hw
       (λ d. test-low S K d hS) (mask-some K S hS some)
       (λ d j p.
-      let l = G .low d (and-left (c .read d) (c .snapshot d j) p) in
-      let u = G .closed .good d l .writes j (and-right (c .read d) (c .snapshot d j) p) in
+      let l = G .low d (and-left (c .read d) (c .snapshot d .later j) p) in
+      let u = G .closed .good d l .writes j (and-right (c .read d) (c .snapshot d .later j) p) in
       (l, u .0, u .1))
 
   -- The writer has one issue more, whose past is its own now,

@@ -17,7 +17,7 @@ use Rattle.model.specs.Calls.{prepare}
 use Rattle.model.proofs.Plans.{valid-out}
 use Rattle.layout.proofs.Rules.Prepare.{Accepted, accepted, was, unread}
 use Rattle.layout.proofs.Follow.{Fine}
-use Rattle.history.specs.Copies.{Copy, copies}
+use Rattle.history.specs.Listing.{BookCopy, bookCopies}
 use Rattle.history.specs.Book.{Book, BookRun, bookPrepare, bookRule, withBookRun, withBookCaches}
 use Rattle.consistency.specs.Roles.{roleOf}
 use Rattle.consistency.specs.Trace.{ReadSet, finishBy, finish}
@@ -34,16 +34,18 @@ use Rattle.consistency.proofs.Changing.{HasRead, inv-caches, inv-run}
 -- ---- the book's caches and run r after prepare, with the store's counts and jobs
 
 module _ (s : Store) (b : Book) (r : ℕ) where
-  unfoldable copyCaches : ℕ → Place Copy
+  unfoldable copyCaches : ℕ → Place BookCopy
   copyCaches =
       let K = s .counts .keys in
       let a = s .run r in
-      preparedCaches (copies K (b .history)) K (b .master) (a .job) (a .jobs) (b .cache)
+      preparedCaches (bookCopies K (s .counts .writers) (b .history)) K (b .master) (a .job)
+      (a .jobs) (b .cache)
 
-  unfoldable copySnapshot : Place Copy
+  unfoldable copySnapshot : Place BookCopy
   copySnapshot =
       let a = s .run r in
-      sitesMerged (copies (s .counts .keys) (b .history)) (s .counts .sites)
+      sitesMerged (bookCopies (s .counts .keys) (s .counts .writers) (b .history))
+      (s .counts .sites)
       (usesSite (a .jobs) (a .job)) (planned (a .jobs) (a .job)) copyCaches
 
   unfoldable copyRun : BookRun
@@ -109,7 +111,8 @@ module _ {s : Store} {b : Book} {r : ℕ} (fine : Fine s) (F : Follows s b) (A :
       let W = s .counts .writers in
       now-named F k (sitesMerged (versions W) o sites plan (prepareCaches s r) k)
       (prepareCaches s r o k)
-      (sitesMerged (copies K (b .history)) o sites plan (copyCaches s b r) k)
+      (sitesMerged (bookCopies K (s .counts .writers) (b .history)) o sites plan
+      (copyCaches s b r) k)
       (copyCaches s b r o k) (sofar k h) (caches-related o l k h)
 
   snapshot-closed : ClosedIn (s .counts .keys) (b .history)
