@@ -1,5 +1,5 @@
-/* Case A of the specification, an explained break with stale marks, and rival saves through the C
- * header; ends with 1 if an answer is not as written. */
+/* Case A of the specification, an explained break with stale marks, rival saves and a desk that is
+ * read back through the C header; ends with 1 if an answer is not as written. */
 #include <stdio.h>
 #include <string.h>
 
@@ -119,10 +119,29 @@ static void rivals(void)
     }
 }
 
+/* A desk that is copied, as to a file and back, is admitted; one whose last issue number is behind
+ * isn't, though it is in form and other calls work on it. */
+static void read_back(void)
+{
+    static uint32_t back[LEN(desk)];
+
+    memcpy(back, desk, sizeof back);
+    DUE("admit", sheetdesk_admit(back, LEN(back), ANSWER), SHEETDESK_OK, 0);
+    back[4] = 0; /* the last issue number: behind those of the versions */
+    DUE("admit, damaged", sheetdesk_admit(back, LEN(back), ANSWER), SHEETDESK_REFUSED,
+        SHEETDESK_NOT_ADMITTED);
+    DUE("drop 0, damaged", sheetdesk_drop(back, LEN(back), 0, ANSWER), SHEETDESK_REFUSED,
+        SHEETDESK_WRONG_STATE);
+    back[9] = 0; /* the total */
+    DUE("admit, not in form", sheetdesk_admit(back, LEN(back), ANSWER), SHEETDESK_REFUSED,
+        SHEETDESK_NOT_IN_FORM);
+}
+
 int main(void)
 {
     case_a();
     besides();
+    read_back();
     explained();
     rivals();
     puts(wrong ? "example.c: wrong answers" : "example.c: case A answered as written");

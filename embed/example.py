@@ -91,8 +91,9 @@ def main():
         if str(answer) != due:
             print("wrong: %s for %s" % (answer, due))
             good = False
-    # Words that are saved and lent again are the same desk.
-    good &= str(Desk(desk.words()).look(MASTER, 1)) == "ok 2 2 1 1 0"
+    # Words that are saved and lent again are the same desk; with a last issue number (word 4) that is behind they are none to go on with.
+    good &= str(Desk(desk.words()).look(MASTER, 1)) == "ok 2 2 1 1 0" and str(Desk(desk.words()).admit()) == "ok 0"
+    good &= Desk(desk.words()[:4] + [0] + desk.words()[5:]).admit().refusal is Refusal.NOT_ADMITTED
     good &= refuses(OverflowError, desk.fetch, 2**32, 0) and refuses(OverflowError, desk.fetch, 0, -1)
     good &= refuses(OverflowError, desk.open, 0, [Job(0, 2**32, 0)]) and refuses(OverflowError, Desk, [2**32])
     good &= refuses(TypeError, desk.fetch, 0.5, 0) and refuses(TypeError, desk.fetch, True, 0)

@@ -115,6 +115,11 @@ fn main() {
     good &= desk.look(Place::Master, 1).look() == Some(seen);
     good &= desk.look(Place::Shelf(0), 1).look().is_none();
     good &= desk.look(Place::Master, 1).standing() == Some(Standing::Equal);
+    // Words that are saved and lent again; then with a last issue number (word 4) that is behind.
+    let mut back = desk.words().to_vec();
+    good &= Desk::lend(&mut back).admit().ok() == Some(&[0]);
+    back[4] = 0;
+    good &= Desk::lend(&mut back).admit() == Answer::Refused(Refusal::NotAdmitted);
     good &= as_written(explained(&mut Desk::lend(&mut [0; words(2, 2, 2, 2)])));
     good &= as_written(rivals(&mut Desk::lend(&mut [0; words(1, 2, 1, 1)])));
     println!("example.rs: {}", if good { "case A answered as written" } else { "wrong answers" });

@@ -1,19 +1,20 @@
-/* The sheet desk for C: its eleven calls over one lent buffer of 32-bit words, and three calls on
+/* The sheet desk for C: its calls over one lent buffer of 32-bit words, and three calls on
  * clocks. Link with -lsheetdesk_c, the static library or the shared one (x86-64 Linux); README.md
  * shows the lines.
  *
  * A slice is a pointer and a length in words. The pointer must be valid for so many words and
  * aligned to 4 bytes; it may not be null, even with length 0; the slices of a call (`desk`,
- * `answer` and open's `jobs`; `target` and `source`) may not overlap. Any content and any numbers are fine: what a call can't work on it
- * refuses. No call reads or writes outside its slices, or allocates.
+ * `answer` and open's `jobs`; `target` and `source`) may not overlap. Any content and any numbers
+ * are fine: what a call can't work on it refuses. No call reads or writes outside its slices, or
+ * allocates.
  *
  * Whose memory it is: the caller owns both buffers, desk and answer, always; a call borrows them
  * and keeps no pointer. During a call nobody else may write the desk, and nobody may read it
- * unless all calls on it are ones that only answer (whose desk is const: look, explain, stale).
- * Calls on different buffers may run at the same time. The words hold no pointer: they may be
- * copied, moved, and saved to a file, SHEETDESK_WORDS of them, in the machine's byte order
- * (little-endian on x86-64; swap the bytes of each word elsewhere). Nothing in the words says
- * which layout they have, so save SHEETDESK_LAYOUT with them. Whoever lends words of another
+ * unless all calls on it are ones that only answer (whose desk is const). Calls on different
+ * buffers may run at the same time. The words hold no pointer: they may be copied, moved, and
+ * saved to a file, SHEETDESK_WORDS of them, in the machine's byte order (little-endian on x86-64;
+ * swap the bytes of each word elsewhere); sheetdesk_admit takes them back. Nothing in the words
+ * says which layout they have, so save SHEETDESK_LAYOUT with them. Whoever lends words of another
  * layout gets a refusal, SHEETDESK_NOT_IN_FORM, from every call but new, for their offsets and
  * total don't follow from their counts: no two layouts agree in them for any counts. No word is
  * changed.
@@ -38,7 +39,7 @@ extern "C" {
 #endif
 
 /* The version of the calls: rises when one is added or changes what it takes, does or answers. */
-#define SHEETDESK_VERSION 5
+#define SHEETDESK_VERSION 6
 /* The version of the desk's words: rises when a desk of the same counts has other words. */
 #define SHEETDESK_LAYOUT 3
 /* The same two of the library that is linked: compare them with these. */
@@ -81,7 +82,8 @@ enum sheetdesk_refusal {
     SHEETDESK_NOT_ON_MASTER = 7, /* a sheet to be fetched isn't held by the master */
     SHEETDESK_NOT_HELD = 8,      /* evict, look: the sheet isn't held there */
     SHEETDESK_ISSUES_SPENT = 9,  /* the last issue number is 4294967295 */
-    SHEETDESK_WRITER_SPENT = 10  /* the writer's count is 4294967295 */
+    SHEETDESK_WRITER_SPENT = 10, /* the writer's count is 4294967295 */
+    SHEETDESK_NOT_ADMITTED = 11  /* admit: in form, but no desk that the calls can have left */
 };
 
 /* How one clock stands against another: all counts are equal; some are smaller and none larger;
@@ -155,6 +157,14 @@ uint32_t sheetdesk_look(const uint32_t *desk, size_t desk_len, uint32_t place, u
 /* Tells which sheets on the office's shelf are behind: their own clock isn't that of the master's
  * version. Ok: the mask of these sheets. Returns 2 words. Changes nothing. */
 uint32_t sheetdesk_stale(const uint32_t *desk, size_t desk_len, uint32_t office, uint32_t *answer,
+                         size_t answer_len);
+
+/* Admits a desk that was read back: it is in form, master and shelves are causal cuts, each card is
+ * one among what its run's jobs read, the master's own row of a sheet covers every row kept for it
+ * anywhere, no count in a row exceeds its writer's, and no issue number exceeds the last one. Any
+ * desk that calls left since new or since an admission is admitted. Ok: 0. Refused with 1 or 11 alone. Returns 2 words. Changes
+ * nothing. */
+uint32_t sheetdesk_admit(const uint32_t *desk, size_t desk_len, uint32_t *answer,
                          size_t answer_len);
 
 /* How clock p stands against clock q. Returns an enum sheetdesk_standing; two empty clocks (both

@@ -16,7 +16,7 @@ import enum
 import os
 from typing import NamedTuple
 
-VERSION = 5
+VERSION = 6
 LAYOUT = 3
 ANSWER_WORDS = 40
 MOST_WORDS = 288066
@@ -35,6 +35,7 @@ class Refusal(enum.IntEnum):
     NOT_HELD = 8
     ISSUES_SPENT = 9
     WRITER_SPENT = 10
+    NOT_ADMITTED = 11
 
 
 class Standing(enum.IntEnum):
@@ -148,7 +149,7 @@ def _library():
     places = [os.path.join(here, "..", "..", "lib", name), os.path.join(here, "..", "target", "shared", name)]
     path = os.environ.get("SHEETDESK_LIBRARY") or next(filter(os.path.exists, places), name)
     library = ctypes.CDLL(path)
-    calls = "new open fetch evict prepare step explain issue drop look stale compare covers merge version layout"
+    calls = "new open fetch evict prepare step explain issue drop look stale admit compare covers merge version layout"
     for call in calls.split():
         getattr(library, "sheetdesk_" + call).restype = ctypes.c_uint32
     if (library.sheetdesk_version(), library.sheetdesk_layout()) != (VERSION, LAYOUT):
@@ -163,7 +164,8 @@ class Desk:
     """A desk over its own words: so many, all zero, or a list of words saved from another.
 
     Each call is handed to `record`, if that is set, with its answer, as the program's own two lines of text
-    ("fetch 0 1\\nok 3\\n"), so that what is written down replays: ./sheetdesk --replay. One log is for one desk, from its new on.
+    ("fetch 0 1\\nok 3\\n"), so that what is written down replays: ./sheetdesk --replay. One log is for one desk, from its new on:
+    the words of a desk that was read back aren't in it.
     """
 
     def __init__(self, content, record=None):
@@ -221,6 +223,10 @@ class Desk:
     def stale(self, office):
         """The mask of the sheets on the office's shelf that are behind the master's."""
         return self._call("stale", office)
+
+    def admit(self):
+        """Takes the words back that were saved to a file; the header says what it asks of them."""
+        return self._call("admit")
 
 
 def compare(p, q):

@@ -9,7 +9,7 @@
 use std::fmt::{self, Write};
 
 /// The version of the calls: `SHEETDESK_VERSION` of the header.
-pub const VERSION: u32 = 5;
+pub const VERSION: u32 = 6;
 
 /// The version of the desk's words: `SHEETDESK_LAYOUT` of the header. Save it with the words.
 pub const LAYOUT: u32 = 3;
@@ -56,6 +56,7 @@ pub mod exports {
         sheetdesk_look(*const u32, place, number, sheet);
         sheetdesk_explain(*const u32, run, job);
         sheetdesk_stale(*const u32, office);
+        sheetdesk_admit(*const u32);
     }
 
     extern "C" {
@@ -127,12 +128,14 @@ pub enum Refusal {
     IssuesSpent,
     /// 10: the writer's count is the largest.
     WriterSpent,
+    /// 11: admit: in form, but no desk that the calls can have left.
+    NotAdmitted,
     /// A number that this wrapper has no name for: the library is newer.
     Other(u32),
 }
 
 impl Refusal {
-    const NAMED: [Refusal; 10] = [
+    const NAMED: [Refusal; 11] = [
         Refusal::NotInForm,
         Refusal::BadCount,
         Refusal::OutOfRange,
@@ -143,6 +146,7 @@ impl Refusal {
         Refusal::NotHeld,
         Refusal::IssuesSpent,
         Refusal::WriterSpent,
+        Refusal::NotAdmitted,
     ];
 
     /// The refusal of a number.
@@ -343,7 +347,8 @@ impl<'a> Desk<'a> {
 
     /// Hands each call from now on to `take`, with its answer, as the program's own two lines of
     /// text ("fetch 0 1\nok 3\n"), so that what is written down replays: `./sheetdesk --replay`.
-    /// `None` ends it. One log is for one desk, from its new on.
+    /// `None` ends it. One log is for one desk, from its new on: the words of a desk that was read
+    /// back aren't in it.
     pub fn record(&mut self, take: Option<Take<'a>>) {
         self.record = take;
     }
@@ -388,6 +393,8 @@ impl<'a> Desk<'a> {
         explain(run, job) = sheetdesk_explain;
         /// The mask of the sheets on the office's shelf that are behind the master's.
         stale(office) = sheetdesk_stale;
+        /// Takes the words back that were saved to a file; the header says what it asks of them.
+        admit() = sheetdesk_admit;
     }
 
     pub fn open(&mut self, run: u32, jobs: &[Job]) -> Answer {

@@ -1,8 +1,8 @@
 /* Why a call is refused, in words, for messages and logs:
  *
- *     sheetdesk_reason("fetch", 7)       the master does not hold a sheet to be fetched
- *     sheetdesk_reason("look 2 0 1", 8)  the card does not hold the sheet: step or prepare brings it
- *     sheetdesk_reason("", 8)            the sheet is not held there
+ *     sheetdesk_reason("fetch", 7)    the master does not hold a sheet to be fetched
+ *     sheetdesk_reason("look 1", 8)   the shelf does not hold the sheet: fetch it
+ *     sheetdesk_reason("", 8)         the sheet is not held there
  *
  * The call is its word, or the program's line of text; "" if it isn't known, and then the words are
  * those that fit any. A null pointer for a number that isn't in the table: the library is newer.
@@ -73,6 +73,7 @@ static inline const char *sheetdesk_reason(const char *call, uint32_t number)
         {8, "", "the sheet is not held there"},
         {9, "", "the last issue number is the largest"},
         {10, "", "the writer's count is the largest"},
+        {11, "", "the desk is in form, but no calls can have left it"},
     };
     size_t row;
 

@@ -16,9 +16,10 @@
  * Nothing is allocated and nothing of the C library is used: the text stands on the stack, in
  * SHEETDESK_RECORD_BYTES, and is the caller's until `take` returns; it ends with a line end and has
  * no zero behind it. `take` is called once for each call, after it, and not for one that got too
- * short a slice for its answer (nothing happened). One log is for one desk, from its new on. An
- * open with more than SHEETDESK_RECORD_JOBS numbers is recorded with so many of them: over 8 jobs,
- * it is refused whatever the others are, for the same cause.
+ * short a slice for its answer (nothing happened). One log is for one desk, from its new on: the
+ * words of a desk that was read back aren't in it, so it doesn't replay without what was recorded
+ * before. An open with more than SHEETDESK_RECORD_JOBS numbers is recorded with so many of them:
+ * over 8 jobs, it is refused whatever the others are, for the same cause.
  */
 #ifndef SHEETDESK_RECORD_H
 #define SHEETDESK_RECORD_H
@@ -94,8 +95,8 @@ static inline uint32_t sheetdesk_hand(const struct sheetdesk_record *record, con
     return words;
 }
 
-/* A call of a desk and numbers, a line each below: its name, how it takes the desk, how many numbers
- * there are, and what they are. */
+/* A call of a desk and numbers, a line each below: its name, how it takes the desk, how many
+ * numbers there are, and what they are. */
 #define SHEETDESK_TAKES_1(a) uint32_t a
 #define SHEETDESK_TAKES_2(a, b) uint32_t a, uint32_t b
 #define SHEETDESK_TAKES_3(a, b, c) uint32_t a, uint32_t b, uint32_t c
@@ -111,6 +112,16 @@ static inline uint32_t sheetdesk_hand(const struct sheetdesk_record *record, con
                               sheetdesk_##name(desk, desk_len, __VA_ARGS__, answer, answer_len)); \
     }
 
+/* The same without a number. */
+#define SHEETDESK_RECORDED_ALONE(name, word) \
+    static inline uint32_t sheetdesk_##name##_recorded( \
+        const struct sheetdesk_record *record, word *desk, size_t desk_len, uint32_t *answer, \
+        size_t answer_len) \
+    { \
+        return sheetdesk_hand(record, #name, NULL, 0, NULL, 0, answer, \
+                              sheetdesk_##name(desk, desk_len, answer, answer_len)); \
+    }
+
 SHEETDESK_RECORDED(new, uint32_t, 4, k, w, n, p)
 SHEETDESK_RECORDED(fetch, uint32_t, 2, office, sheet)
 SHEETDESK_RECORDED(evict, uint32_t, 2, office, sheet)
@@ -121,6 +132,7 @@ SHEETDESK_RECORDED(issue, uint32_t, 3, run, writer, mask)
 SHEETDESK_RECORDED(drop, uint32_t, 1, run)
 SHEETDESK_RECORDED(look, const uint32_t, 3, place, number, sheet)
 SHEETDESK_RECORDED(stale, const uint32_t, 1, office)
+SHEETDESK_RECORDED_ALONE(admit, const uint32_t)
 
 static inline uint32_t sheetdesk_open_recorded(const struct sheetdesk_record *record,
                                                uint32_t *desk, size_t desk_len, uint32_t run,

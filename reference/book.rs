@@ -1,20 +1,28 @@
 //! "Demand 3's list and book": the book, fed with each call and whether it was answered `ok`.
 //!
 //! It knows no clocks. A copy is a set of saves, and what stands behind a save is kept as a
-//! set too. `feed` gives back what the rules on copies would answer, for a comparison.
+//! set too. `feed` gives back what the rules on copies would answer, for a comparison. A book
+//! begins with new, or at an admission (`admitted`).
 
+mod admitted;
 pub mod checks;
+pub mod follow;
+pub mod ledger;
 mod paths;
+pub mod rows;
 pub mod runs;
 pub mod saves;
 
 use crate::text::Call;
+use ledger::Ledger;
 pub use runs::{Finished, Job, Run};
-use saves::{Ledger, Saves};
+use saves::Saves;
 
 pub struct Book {
     pub k: usize,
     pub w: usize,
+    /// Whether it began with new: then it knows who leads a version.
+    pub from_new: bool,
     pub ledger: Ledger,
     pub master: Vec<Saves>,
     pub shelves: Vec<Vec<Saves>>,
@@ -46,6 +54,7 @@ impl Book {
         Book {
             k,
             w: w as usize,
+            from_new: true,
             ledger: Ledger::default(),
             master: empty(k),
             shelves: vec![empty(k); n as usize],
@@ -53,7 +62,7 @@ impl Book {
         }
     }
 
-    /// Enters a call. "Not ok, or look: nothing changes"; nor does it by explain and stale.
+    /// Enters a call. "Not ok, or look: nothing changes"; nor does it by explain, stale and admit.
     pub fn feed(&mut self, call: &Call, ok: bool) -> Vec<u32> {
         if !ok {
             return Vec::new();
@@ -81,6 +90,7 @@ impl Book {
             // Answered `clear`, `path` or `refused`, and never `ok`.
             Call::Explain(..) => Vec::new(),
             Call::Stale(office) => vec![self.stale(*office as usize)],
+            Call::Admit => vec![0],
         }
     }
 
@@ -216,7 +226,7 @@ impl Book {
             let included = self.ledger.new_version(number, k);
             self.master[k].join(&included);
         }
-        number
+        self.ledger.number_of(number)
     }
 
     /// The sheets whose copy on the shelf isn't empty and isn't the master's.

@@ -1,14 +1,18 @@
 #!/bin/sh
-# Builds the reference into target/, runs the selftest, all scripts and some generated ones.
+# Builds the reference into target/, runs the selftest, desks read back, all scripts and some generated
+# ones, and lists the small histories.
 # Run it from the repository's root: sh reference/check.sh [FIRST_SEED [LAST_SEED]]
 set -eu
 mkdir -p target
-for name in sheetdesk witness generate; do
+for name in sheetdesk witness generate readback histories; do
     rustc --edition 2021 -C opt-level=3 -o "target/$name" "reference/$name.rs"
 done
 rustc --edition 2021 -C opt-level=3 -C debug-assertions=on -C overflow-checks=on \
     -o target/selftest reference/selftest.rs
 target/selftest
+target/readback
+target/histories >target/histories.txt
+echo "$(wc -l <target/histories.txt) small histories listed"
 good=0
 for script in scripts/*.txt; do
     target/sheetdesk <"$script" | cmp - "${script%.txt}.out"

@@ -4,6 +4,7 @@
 //! with the answer's numbers, `Broken` (step alone), `Clear` or `Path` (explain alone) or
 //! `Refused` with the table's number; a refused call leaves every word.
 
+mod admit;
 mod calls;
 pub mod explain;
 mod form;
@@ -13,6 +14,7 @@ pub mod sets;
 pub mod stale;
 pub mod version;
 
+pub use admit::admit;
 // Not every program that is built from this file calls all of them.
 #[allow(unused_imports)]
 pub use calls::{drop_run, issue, look, new, open};
@@ -47,6 +49,7 @@ pub const NOT_ON_MASTER: u32 = 7;
 pub const NOT_HELD: u32 = 8;
 pub const ISSUES_SPENT: u32 = 9;
 pub const WRITER_SPENT: u32 = 10;
+pub const NOT_ADMITTED: u32 = 11;
 
 // A run's states.
 pub const FREE: u32 = 0;

@@ -1,8 +1,10 @@
 //! Checks on lent buffers: the paper's numbers, the ten marked readings, the form, refusals
-//! 9 and 10, how clocks stand, paths behind a break, leading writers, stale marks, other layouts,
-//! what stands behind a save, and random buffers. Panics at the first check that fails.
+//! 9 and 10, how clocks stand, paths behind a break, leading writers, stale marks, admission, other
+//! layouts, what stands behind a save, and random buffers. Panics at the first check that fails.
 #![allow(dead_code)]
 
+#[path = "selftest/admitted.rs"]
+mod admitted;
 #[path = "selftest/behind.rs"]
 mod behind;
 mod book;
@@ -17,6 +19,8 @@ mod layouts;
 mod leading;
 #[path = "selftest/lines.rs"]
 mod lines;
+#[path = "selftest/listed.rs"]
+mod listed;
 #[path = "selftest/marked.rs"]
 mod marked;
 #[path = "selftest/paths.rs"]
@@ -36,6 +40,7 @@ fn main() {
     let seed: u64 = std::env::args().nth(1).and_then(|word| word.parse().ok()).unwrap_or(1);
     for history in 0..200 {
         behind::compare(seed + history);
+        listed::compare(seed + history);
     }
     rivals::on_words(seed, 20_000);
     println!("selftest: led from new: {}", rivals::from_new(seed, 200).print());
@@ -78,5 +83,9 @@ fn fixed_checks() {
     stale::kept_by_a_step();
     stale::on_lent_desks();
     stale::asked_by_form();
+    admitted::in_the_program();
+    admitted::one_change_each();
+    admitted::not_chained();
+    admitted::behind_the_next_issue();
     layouts::none_agree();
 }

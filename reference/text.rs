@@ -6,7 +6,7 @@ use crate::desk::{self, Answer};
 pub const LENT: usize = 16_384;
 const LONGEST: usize = 400;
 
-/// One of the eleven calls with its numbers.
+/// One of the twelve calls with its numbers.
 #[derive(Clone, PartialEq, Eq, Debug)]
 pub enum Call {
     New([u32; 4]),
@@ -20,6 +20,7 @@ pub enum Call {
     Look(u32, u32, u32),
     Explain(u32, u32),
     Stale(u32),
+    Admit,
 }
 
 impl Call {
@@ -37,6 +38,7 @@ impl Call {
             Call::Look(place, number, sheet) => ("look", vec![*place, *number, *sheet]),
             Call::Explain(run, job) => ("explain", vec![*run, *job]),
             Call::Stale(office) => ("stale", vec![*office]),
+            Call::Admit => ("admit", Vec::new()),
         }
     }
 
@@ -56,7 +58,7 @@ impl Call {
 
     /// Whether it only answers: it writes nothing, whatever the answer is.
     pub fn only_answers(&self) -> bool {
-        matches!(self, Call::Look(..) | Call::Explain(..) | Call::Stale(_))
+        matches!(self, Call::Look(..) | Call::Explain(..) | Call::Stale(_) | Call::Admit)
     }
 
     /// The run that it is about, if it is about one.
@@ -89,6 +91,7 @@ pub fn read_line(line: &[u8]) -> Option<Call> {
         (b"look", [place, number, sheet]) => Some(Call::Look(*place, *number, *sheet)),
         (b"explain", [run, job]) => Some(Call::Explain(*run, *job)),
         (b"stale", [office]) => Some(Call::Stale(*office)),
+        (b"admit", []) => Some(Call::Admit),
         _ => None,
     }
 }
@@ -122,6 +125,7 @@ pub fn run(words: &mut [u32], call: &Call) -> Answer {
         Call::Look(place, number, sheet) => desk::look(words, *place, *number, *sheet),
         Call::Explain(run, job) => desk::explain(words, *run, *job),
         Call::Stale(office) => desk::stale(words, *office),
+        Call::Admit => desk::admit(words),
     }
 }
 

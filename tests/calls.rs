@@ -4,9 +4,10 @@ use crate::sheetdesk::{Answer, Desk, Job, Place};
 
 /// Makes the call of a line; nothing for a line that the wrapper has no form for.
 pub fn call(desk: &mut Desk, line: &str) -> Option<Answer> {
-    let (name, rest) = line.split_once(' ')?;
+    let mut words = line.split(' ');
+    let name = words.next()?;
     let number = |word: &str| word.parse().ok().filter(|_| !word.starts_with('+'));
-    let numbers = rest.split(' ').map(number).collect::<Option<Vec<u32>>>()?;
+    let numbers = words.map(number).collect::<Option<Vec<u32>>>()?;
     Some(match (name, numbers.as_slice()) {
         ("new", &[k, w, n, p]) => desk.new(k, w, n, p),
         ("open", [run, list @ ..]) if list.len() % 3 == 0 => {
@@ -21,6 +22,7 @@ pub fn call(desk: &mut Desk, line: &str) -> Option<Answer> {
         ("issue", &[run, writer, mask]) => desk.issue(run, writer, mask),
         ("drop", &[run]) => desk.drop(run),
         ("stale", &[office]) => desk.stale(office),
+        ("admit", &[]) => desk.admit(),
         ("look", &[0, 0, sheet]) => desk.look(Place::Master, sheet),
         ("look", &[1, office, sheet]) => desk.look(Place::Shelf(office), sheet),
         ("look", &[2, run, sheet]) => desk.look(Place::Card(run), sheet),

@@ -109,7 +109,7 @@ trial_speed() {
 
 # Each line of --echo is its number, the script's line, and the answer, with words behind what isn't ok.
 trial_echo() {
-  for script in case-a refused-1 refused-2 refused-3 refused-4 refused-5 refused-6 refused-7 refused-8 break-several explain-path explain-refused stale-refused; do
+  for script in case-a refused-1 refused-2 refused-3 refused-4 refused-5 refused-6 refused-7 refused-8 break-several explain-path explain-refused stale-refused admit; do
     want 0 "--echo $script" ./sheetdesk --echo "scripts/$script.txt"
     sed -E 's/((refused|broken) [0-9]+|unread|clear|path [0-9 ]+): .*/\1/' "$work/out" >"$work/plain"
     paste -d '|' "scripts/$script.txt" "scripts/$script.out" | sed 's/|/ -> /' | awk '{ print NR ": " $0 }' |

@@ -1,10 +1,11 @@
 //! The static library against the reference on lent buffers.
 //!
 //! `differential [SEED [STORIES]]`: stories of steered calls, and after each one single calls
-//! on copies of its desk: as it stands, damaged, lent too short; then built desks and random
-//! words, and compare, covers and merge on two clocks. Answers and every word are compared, and
-//! words past the lent ones. Prints what was met; exits 1 if the two differ, with the case as a
-//! script, or if too little was met. `differential --script FILE` works such a script again.
+//! on copies of its desk: as it stands, damaged, lent too short; then its desk bent, and gone on with
+//! if both admit it; then built desks and random words, and compare, covers and merge on two clocks.
+//! Answers and every word are compared, and words past the lent ones; from an admission on demand 3
+//! is tested by the book that begins there. Prints what was met; exits 1 if the two differ or a
+//! claim fails, with the case as a script, or if too little was met. `differential --script FILE` works such a script again.
 #![allow(dead_code)]
 
 #[path = "../embed/sheetdesk.rs"]
@@ -14,6 +15,7 @@ mod library;
 
 #[path = "../reference"]
 mod reference {
+    pub mod book;
     pub mod desk;
     pub mod text;
 }
@@ -21,6 +23,7 @@ mod reference {
 // What steers the generated scripts steers the stories too.
 #[path = "../reference/generate"]
 mod generate {
+    pub mod bent;
     pub mod chains;
     pub mod counts;
     pub mod everyday;
@@ -33,6 +36,7 @@ mod generate {
 
 #[path = "differential"]
 mod parts {
+    pub mod admitted;
     pub mod arguments;
     pub mod built;
     pub mod clocks;
@@ -44,9 +48,9 @@ mod parts {
     pub mod stories;
 }
 
-use generate::{chains, counts, everyday, odd, plots, rivals, teller};
-use parts::{arguments, built, clocks, damaged, met, pair, random, script, stories};
-use reference::{desk, text};
+use generate::{bent, chains, counts, everyday, odd, plots, rivals, teller};
+use parts::{admitted, arguments, built, clocks, damaged, met, pair, random, script, stories};
+use reference::{book, desk, text};
 
 use met::Met;
 use random::Random;

@@ -8,7 +8,7 @@
 #   on some scripts with the reference's answers. 3 to 4 minutes.
 # library: faults of tests/faults/library.txt, in what no script reaches (the test of form, spent
 #   numbers, buffers), in a copy of the reference behind the library's names, against the
-#   reference itself by tests/differential.rs. 1 minute.
+#   reference itself by tests/differential.rs. 5 minutes.
 # Not part of ./test. Exits 1 if a fault isn't found.
 set -u
 kind=${1:?usage: faults.sh program|library [FIRST [LAST]]}
@@ -88,7 +88,7 @@ differs_library() {
     [ -x "$work/differential" ] || rustc --edition 2021 -O tests/differential.rs \
         -L "native=$work" -l dylib=sheetdesk_c -C "link-arg=-Wl,-rpath,$work" \
         -o "$work/differential" || exit 2
-    "$work/differential" 1 2000 >"$work/try.txt" 2>&1
+    "$work/differential" 1 4000 >"$work/try.txt" 2>&1
     status=$?
     [ "$status" -ne 0 ] || return 1
     # Ended by a signal: the faulty library went outside its buffer.

@@ -69,7 +69,8 @@ static int layout_refused(const uint32_t offsets[HEADER - OFFSETS])
         && NOT_TAKEN(sheetdesk_issue, 0, 0, 0)
         && NOT_TAKEN(sheetdesk_drop, 0)
         && NOT_TAKEN(sheetdesk_look, 0, 0, 0)
-        && NOT_TAKEN(sheetdesk_stale, 0);
+        && NOT_TAKEN(sheetdesk_stale, 0)
+        && refused(sheetdesk_admit(other, LENT, ANSWER), SHEETDESK_NOT_IN_FORM);
     return good && memcmp(before, other, sizeof other) == 0;
 }
 
@@ -104,7 +105,7 @@ static int says(const char *call, uint32_t number, const char *text)
 }
 
 /* The largest number of a refusal. */
-enum { LAST = SHEETDESK_WRITER_SPENT };
+enum { LAST = SHEETDESK_NOT_ADMITTED };
 
 /* Each refusal has words, for a call that isn't known too, and no other number has. */
 static int reasons_fit(void)

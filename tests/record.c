@@ -61,6 +61,8 @@ static void make(const struct sheetdesk_record *record, const char *name, int co
         sheetdesk_look_recorded(DESK, x[0], x[1], x[2], ANSWER);
     else if (strcmp(name, "stale") == 0 && count == 1)
         sheetdesk_stale_recorded(DESK, x[0], ANSWER);
+    else if (strcmp(name, "admit") == 0 && count == 0)
+        sheetdesk_admit_recorded(DESK, ANSWER);
 }
 
 int main(int argc, char **argv)

@@ -43,8 +43,8 @@ trial_record() {
     due_log "$script" >"$work/due"
     target/tools/record_rs <"$script" >"$work/log" && cmp -s "$work/log" "$work/due" || bad "sheetdesk.rs: $script"
   done
-  cat scripts/{case-a,explain-path,refused-5,jobs-8-and-9,look-places}.txt >"$work/some.txt"
-  cat scripts/{case-a,explain-path,refused-5,jobs-8-and-9,look-places}.out >"$work/some.out"
+  cat scripts/{case-a,explain-path,refused-5,jobs-8-and-9,look-places,admit-any-desk}.txt >"$work/some.txt"
+  cat scripts/{case-a,explain-path,refused-5,jobs-8-and-9,look-places,admit-any-desk}.out >"$work/some.out"
   due_log "$work/some.txt" >"$work/due"
   record_py <"$work/some.txt" >"$work/log" && cmp -s "$work/log" "$work/due" || bad "sheetdesk.py: golden scripts"
   for mode in "target/tools/record_c off" "target/tools/record_c null" "target/tools/record_rs off" "record_py off"; do
@@ -74,7 +74,7 @@ trial_sizes() {
 trial_alone() {
   local name
   { echo '#include "embed/sheetdesk_record.h"'
-    sed -n -E 's/^(SHEETDESK_RECORDED\(|static inline uint32_t sheetdesk_)([a-z]+)(,|_recorded\().*/\2/p' embed/sheetdesk_record.h |
+    sed -n -E 's/^(SHEETDESK_RECORDED(_ALONE)?\(|static inline uint32_t sheetdesk_)([a-z]+)(,|_recorded\().*/\3/p' embed/sheetdesk_record.h |
       sed 's/.*/void *use_&(void); void *use_&(void) { return (void *)sheetdesk_&_recorded; }/'; } >"$work/alone.c"
   [ "$(grep -c '^void' "$work/alone.c")" -eq "$(grep -c '^uint32_t sheetdesk_.*desk' embed/sheetdesk.h)" ] ||
     bad "a call isn't recorded"

@@ -1,10 +1,12 @@
-// Every refusal that new, open, drop, look, explain, stale, fetch and evict can give, tried on lent buffers through the
+// Every refusal that new, open, drop, look, explain, stale, admit, fetch and evict can give, tried on lent buffers through the
 // exported library: answer as expected, every word as it was, guard words untouched. Besides them: the largest store;
 // looks, leading writers and stale marks on desks that no list of calls from new leaves; the longest path; clocks compared.
 // Usage: refusals. Prints what went wrong and exits 1, or how many trials there were.
 
 #![allow(dead_code)]
 
+#[path = "refusals/admitted.rs"]
+mod admitted;
 #[path = "../embed/sheetdesk.rs"]
 mod embed;
 #[path = "refusals/lent.rs"]
@@ -19,7 +21,7 @@ mod reference {
 #[path = "refusals/trials.rs"]
 mod trials;
 
-use desk::layout::{DONE, HEADER, JOBS, JOB_LIST, LEADERS, NUMBER, OFFSETS, PAST, READ, STATE};
+use desk::layout::{COUNT, DONE, HEADER, JOBS, JOB_LIST, LAST_ISSUE, LEADERS, NUMBER, OFFSETS, PAST, READ, STATE};
 use library::{compare, covers};
 use reference::{desk, text};
 use text::Call;
@@ -92,7 +94,7 @@ fn of_form(t: &mut Trials) {
 pub fn calls_but_new() -> Vec<Call> {
     vec![
         Call::Open(9, vec![]), Call::Fetch(9, 9), Call::Evict(9, 9), Call::Prepare(9), Call::Step(9, 9), Call::Issue(9, 9, 9),
-        Call::Drop(9), Call::Look(9, 9, 9), Call::Explain(9, 9), Call::Stale(9),
+        Call::Drop(9), Call::Look(9, 9, 9), Call::Explain(9, 9), Call::Stale(9), Call::Admit,
     ]
 }
 
@@ -179,6 +181,10 @@ fn of_the_largest(t: &mut Trials) {
     let row: Vec<u32> = [1, 1, 1].into_iter().chain([0; 16]).collect();
     t.ok("largest, look", &mut d, Call::Look(1, 7, 31), &row);
     t.told("largest, stale", &mut d, Call::Stale(7), &[0, 0]);
+    t.refused("largest, admit 11", &mut d, Call::Admit, 11);
+    let s = d.sizes();
+    (d.words[LAST_ISSUE], d.words[s.writer_at(0) + COUNT]) = (1, 1);
+    t.told("largest, admit", &mut d, Call::Admit, &[0, 0]);
     t.ok("largest, evict", &mut d, Call::Evict(7, 16), &[0xFFFF_0000]);
     t.ok("largest, drop", &mut d, Call::Drop(7), &[0]);
 }
@@ -216,6 +222,10 @@ fn main() {
     lent::of_masks(&mut t);
     lent::of_marks(&mut t);
     lent::of_marks_in_form(&mut t);
+    admitted::of_conditions(&mut t);
+    admitted::of_words(&mut t);
+    admitted::of_lists(&mut t);
+    admitted::of_pasts(&mut t);
     of_explain(&mut t);
     lent::of_the_longest_path(&mut t);
     of_clocks(&mut t);

@@ -98,10 +98,14 @@ def main():
     for script in scripts:
         with open(script, "rb") as file:
             content = file.read()
-        for line, sentence in ROW.findall(ran([tool, "page", "x"], content)):
-            wrong = fault(program, content.split(b"\n"), int(line), sentence)
+        # As a log: a new for which the program has no room is refused to the tool too. A call's line is each second one.
+        lines = content.split(b"\n")
+        log = b"".join(b"%s\n%s\n" % (call, answer.encode()) for call, answer in zip(lines, ran([program], content).split("\n")[:-1]))
+        for line, sentence in ROW.findall(ran([tool, "page", "x"], log)):
+            number = (int(line) + 1) // 2
+            wrong = fault(program, lines, number, sentence)
             if wrong:
-                print("sentences: %s, line %s: %s" % (script, line, wrong))
+                print("sentences: %s, line %d: %s" % (script, number, wrong))
                 return 1
             held += 1
     print("sentences: %d breaks of %d scripts are told as the program explains them" % (held, len(scripts)))

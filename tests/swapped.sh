@@ -42,6 +42,12 @@ swap clock lib.rt 'let y = count_at(words, src + i);' 'let y = words[src + i];'
 swap clock lib.rt 'set_count(words, dst + i, x.larger(y));' 'set_count(words, dst + i, words[src + i]);'
 swap sheetdesk_c clocks.rt 'let y = count_at(source, i);' 'let y = source[i];'
 swap sheetdesk_c clocks.rt 'set_count(target, i, x.larger(y));' 'set_count(target, i, source[i]);'
+# compared: rows with writers' counts, issue numbers with the last
+swap admit lib.rt 'let count = count_at(words, row + u);' 'let count = numbers::version_issue(words, row + u);'
+swap admit lib.rt 'let made = count_at(words, z.writer_at(u));' 'let made = last_issue(words);'
+swap admit lib.rt 'let last = last_issue(words);' 'let last = count_at(words, 4);'
+swap admit place.rt 'let number = version_issue(words, z.key_at(at, k));' 'let number = clock::count::count_at(words, z.key_at(at, k));'
+swap admit place.rt 'number.exceeds(last)' 'number.exceeds(clock::count::count_at(words, at))'
 # raised
 swap numbers lib.rt 'issue: number,' 'issue: made,'
 swap issue lib.rt 'raised(old.issue, old.count)' 'raised(old.count, old.issue)'

@@ -99,5 +99,6 @@ pub fn cases(sizes: [u32; 4]) -> Vec<Case> {
         case(after(&full, &reader), Call::Drop(0)),
         case(full.clone(), Call::Look(0, 0, k - 1)),
         case(full.clone(), Call::Stale(n - 1)),
+        case(full.clone(), Call::Admit),
     ]
 }

@@ -43,8 +43,8 @@ impl Book {
         Ok(())
     }
 
-    /// The version at a place of the desk is its copy counted, and its mask "names just the
-    /// writers whose last included save stands behind no other included save".
+    /// The version at a place of the desk is its copy counted; on a desk from new its mask "names
+    /// just the writers whose last included save stands behind no other included save".
     fn check_version(
         &self,
         desk: &[u32],
@@ -58,7 +58,7 @@ impl Book {
             let book = (number, past);
             return Err(format!("3b: at word {at} the desk has {words:?}, the book {book:?}"));
         }
-        if words[LEADERS] != mask {
+        if self.from_new && words[LEADERS] != mask {
             let named = words[LEADERS];
             return Err(format!("at word {at} the desk names {named}, by the book {mask} lead"));
         }
@@ -111,9 +111,23 @@ impl Book {
     /// From new every merge names a leader by what its sides say: no writer leads for want of one.
     pub fn check_named(&self) -> Result<(), String> {
         match NOBODY.load(Ordering::Relaxed) {
-            0 => Ok(()),
-            merges => Err(format!("{merges} merges named no leader")),
+            merges if self.from_new && merges > 0 => {
+                Err(format!("{merges} merges named no leader"))
+            }
+            _ => Ok(()),
         }
+    }
+
+    /// Lists "pass on by merge, reading and issue": a copy's own list has all that is listed behind
+    /// its later saves.
+    pub fn check_lists(&self) -> Result<(), String> {
+        let cards = self.runs.iter().map(|run| &run.card);
+        for copy in cards.chain(&self.shelves).chain([&self.master]).flatten() {
+            if !copy.rows().includes(&self.ledger.with_behind(copy).rows()) {
+                return Err(format!("a list lacks what is behind the copy's saves: {copy:?}"));
+            }
+        }
+        Ok(())
     }
 
     /// 3c for each pair of finished jobs of each run. A job is paired with itself too, which
@@ -138,7 +152,7 @@ impl Book {
         let all = one.read.iter().chain(&other.read).collect::<Vec<_>>();
         all.iter().all(|(sheet, copy)| {
             all.iter().all(|(d, read)| {
-                (sheet != d || copy.same(read)) && copy.includes(&self.ledger.need(read, *sheet))
+                (sheet != d || copy.alike(read)) && copy.includes(&self.ledger.need(read, *sheet))
             })
         })
     }
@@ -168,7 +182,7 @@ impl Book {
     fn choice_stands(&self, run: &Run, reads: u32, sheets: &[usize], chosen: &[Saves]) -> bool {
         sheets.iter().all(|k| {
             let holds = !has(reads, *k) || !chosen[*k].is_empty();
-            let leaves = !has(run.read, *k) || chosen[*k].same(&run.card[*k]);
+            let leaves = !has(run.read, *k) || chosen[*k].alike(&run.card[*k]);
             holds && leaves
         }) && sheets.iter().all(|k| {
             let others = sheets.iter().filter(|d| *d != k);

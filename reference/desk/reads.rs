@@ -187,7 +187,7 @@ fn job_words(desk: &[u32], s: Sizes, run: usize, job: usize) -> (usize, u32, u32
 }
 
 /// "The plan's sheets (all its jobs' reads)".
-fn plan(desk: &[u32], s: Sizes, run: usize) -> u32 {
+pub fn plan(desk: &[u32], s: Sizes, run: usize) -> u32 {
     let mut mask = 0;
     for job in 0..desk[s.run_at(run) + JOBS] as usize {
         mask |= job_words(desk, s, run, job).1;

@@ -110,7 +110,7 @@ fn cut(t: &mut Teller, sheets: &[usize]) -> Vec<Vec<usize>> {
     let mut rest = sheets;
     while !rest.is_empty() {
         let single = 3usize.saturating_sub(layers.len()).max(1);
-        let wide = 1 + usize::from(rest.len() > single && t.chance(40));
+        let wide = 1 + usize::from(rest.len() > single && t.chance(60));
         layers.push(rest[..wide].to_vec());
         rest = &rest[wide..];
     }
@@ -165,11 +165,20 @@ fn draw_layers(t: &mut Teller, chain: &Chain) {
     chain.bare(t, &chain.middle());
     chain.bare(t, chain.last());
     for (layer, next) in chain.layers.iter().zip(&chain.layers[1..]) {
+        let crossed = t.chance(40);
         for sheet in layer {
-            let reads = some_of(t, next);
+            let reads = if crossed { crossing(layer, next, *sheet) } else { some_of(t, next) };
             chain.against(t, *sheet, reads);
         }
     }
+}
+
+/// The layer's lowest sheet goes on to the highest of the next one, the other to the lowest: so of
+/// equally short paths the smallest needn't end lowest.
+fn crossing(layer: &[usize], next: &[usize], sheet: usize) -> u32 {
+    let lowest = layer.iter().all(|other| sheet <= *other);
+    let end = if lowest { next.iter().max() } else { next.iter().min() };
+    end.map_or(0, |k| 1 << k)
 }
 
 /// Explains all jobs, then steps those that are left.

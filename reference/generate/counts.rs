@@ -24,13 +24,14 @@ pub struct Counts {
     looks_several: u64,
     stales: u64,
     stales_marked: u64,
+    admits: u64,
     breaks_marked: u64,
     clear: u64,
     paths: u64,
     long_paths: u64,
     tied_paths: u64,
     carried_paths: u64,
-    refused: [u64; 11],
+    refused: [u64; 12],
 }
 
 impl Counts {
@@ -52,6 +53,7 @@ impl Counts {
             ("looks-several".into(), self.looks_several),
             ("stales".into(), self.stales),
             ("stales-marked".into(), self.stales_marked),
+            ("admits".into(), self.admits),
             ("breaks-marked".into(), self.breaks_marked),
             ("clear".into(), self.clear),
             ("paths".into(), self.paths),
@@ -95,6 +97,7 @@ impl Counts {
                 self.stales += 1;
                 self.stales_marked += u64::from(mask[0] != 0);
             }
+            (Call::Admit, Answer::Ok(_)) => self.admits += 1,
             (_, Answer::Clear) => self.clear += 1,
             (Call::Explain(run, job), Answer::Path(path)) => {
                 self.enter_path(before, [*run, *job], path);

@@ -6,12 +6,13 @@ use crate::teller::Teller;
 /// "Before any new, the buffer is all zero": every call but new is refused.
 pub fn before_new(t: &mut Teller) {
     for _ in 0..t.below(3) {
-        match t.below(6) {
+        match t.below(7) {
             0 => t.tell("fetch", &[0, 0]),
             1 => t.tell("open", &[0]),
             2 => t.tell("explain", &[0, 0]),
             3 => t.tell("look", &[9, 9, 9]),
             4 => t.tell("stale", &[0]),
+            5 => t.tell("admit", &[]),
             _ => t.tell("new", &[32, 16, 8, 8]),
         };
     }
@@ -167,7 +168,7 @@ pub fn unread(t: &mut Teller) {
 
 /// A line of the list; most of them only just miss a form.
 fn near_miss(t: &mut Teller) {
-    const LINES: [&[u8]; 32] = [
+    const LINES: [&[u8]; 35] = [
         b"",
         b" ",
         b"new",
@@ -200,6 +201,9 @@ fn near_miss(t: &mut Teller) {
         b"stale",
         b"stale 0 0",
         b"stale -0",
+        b"admit 0",
+        b"admit ",
+        b" admit",
     ];
     let line = LINES[t.below(LINES.len())];
     t.say(line);

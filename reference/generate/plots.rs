@@ -5,6 +5,7 @@ use crate::desk::layout::has;
 use crate::desk::version::needs;
 use crate::desk::{Answer, FREE};
 use crate::everyday;
+use crate::odd;
 use crate::rivals;
 use crate::teller::Teller;
 
@@ -18,6 +19,17 @@ pub fn of_runs(t: &mut Teller, number: usize) {
         42..=52 => everyday::prepared_run(t),
         53..=55 => everyday::prepare_again(t),
         _ => everyday::plain_run(t),
+    }
+}
+
+/// A plot on a desk that goes on: no new in it is accepted, if the desk has just its words.
+pub fn without_new(t: &mut Teller) {
+    match t.below(100) {
+        22..=24 => break_a_run(t),
+        number @ 0..=57 => of_runs(t, number),
+        58..=69 => everyday::fetch_and_evict(t),
+        70..=89 => everyday::any_call(t),
+        _ => odd::refused(t),
     }
 }
 

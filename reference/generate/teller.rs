@@ -68,6 +68,9 @@ impl Teller {
         if name == "issue" && self.chance(30) {
             self.look_behind();
         }
+        if matches!(answer, Some(Answer::Ok(_))) && self.chance(3) {
+            self.say(b"admit");
+        }
         let percent = match answer {
             Some(Answer::Ok(_)) => 8,
             Some(Answer::Broken(_)) => 50,

@@ -1,17 +1,18 @@
 //! The book's ledger against "stands behind" taken word by word.
 
-use crate::book::saves::{Ledger, Saves};
+use crate::book::ledger::Ledger;
+use crate::book::saves::Saves;
 use crate::random::Draw;
 
-const SHEETS: usize = 4;
-const WRITERS: usize = 3;
+pub const SHEETS: usize = 4;
+pub const WRITERS: usize = 3;
 
 /// A save with all that its issue was entered with.
-struct Plain {
-    issue: usize,
-    sheet: usize,
-    writer: usize,
-    read: Saves,
+pub struct Plain {
+    pub issue: usize,
+    pub sheet: usize,
+    pub writer: usize,
+    pub read: Saves,
 }
 
 /// Enters some issues into a ledger and holds it against the plain relation.
@@ -56,7 +57,7 @@ fn leads(saves: &[Plain], behind: &[Vec<bool>], copy: &Saves, writer: usize) -> 
 }
 
 /// Any saves of one sheet.
-fn any_copy(draw: &mut Draw, saves: &[Plain]) -> Saves {
+pub fn any_copy(draw: &mut Draw, saves: &[Plain]) -> Saves {
     let sheet = draw.below(SHEETS as u64) as usize;
     let mut copy = Saves::default();
     for (number, save) in saves.iter().enumerate() {
@@ -70,7 +71,7 @@ fn any_copy(draw: &mut Draw, saves: &[Plain]) -> Saves {
 /// `[t][s]`: "Save s stands behind save t if both are of one issue and differ in sheet; if s
 /// is of an earlier issue by t's writer; if the run that issued t had read a version that
 /// includes s; or through a chain of these."
-fn chains(saves: &[Plain]) -> Vec<Vec<bool>> {
+pub fn chains(saves: &[Plain]) -> Vec<Vec<bool>> {
     let one = |t: &Plain, s: &Plain, number: usize| {
         (t.issue == s.issue && t.sheet != s.sheet)
             || (s.issue < t.issue && s.writer == t.writer)

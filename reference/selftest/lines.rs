@@ -1,6 +1,9 @@
 //! Calls as lines, each with the answer that is due.
 
-use crate::text::{print, read_line, run, LENT};
+use crate::book::follow::Seen;
+use crate::book::Book;
+use crate::desk::{in_form, Answer};
+use crate::text::{print, read_line, run, Call, LENT};
 
 /// Works lines on words of the program's number, all zero.
 pub fn works(lines: &[&str]) {
@@ -11,15 +14,30 @@ pub fn works(lines: &[&str]) {
 /// nothing is. `save r w S` is `open r 0 0 0`, `step r 0`, `issue r w S`, and `edit r o m w S` is
 /// `open r o m 0`, `step r 0`, `issue r w S`.
 pub fn works_on(words: &mut [u32], lines: &[&str]) {
+    work(words, lines, |_, _, _| {});
+}
+
+/// Works lines on lent words that admit takes; the book that begins there follows them.
+pub fn works_admitted(words: &mut [u32], lines: &[&str]) {
+    works_on(words, &["admit -> ok 0"]);
+    let mut book = Book::admitted(words, in_form(words).expect("admitted"));
+    work(words, lines, |call, answer, words| {
+        book.follow(call, answer, words, &mut Seen::default()).unwrap();
+    });
+}
+
+/// Works lines; `after` is told each call with its answer and the words that it left.
+fn work(words: &mut [u32], lines: &[&str], mut after: impl FnMut(&Call, &Answer, &[u32])) {
     for line in lines {
         let (call, due) = line.split_once(" -> ").unwrap_or((line, "ok"));
         for call in spelled(call) {
             let known = read_line(call.as_bytes()).expect("a call");
             let before = words.to_vec();
-            let answer = print(&run(words, &known));
-            assert!(answer == due || due == "ok" && answer.starts_with("ok "), "{call}: {answer}");
-            let answers = ["look", "explain", "stale"].iter().any(|name| call.starts_with(name));
-            assert!(!answers || words == before, "{call}");
+            let answer = run(words, &known);
+            let told = print(&answer);
+            assert!(told == due || due == "ok" && told.starts_with("ok "), "{call}: {told}");
+            assert!(!known.only_answers() || words == before, "{call}");
+            after(&known, &answer, words);
         }
     }
 }

@@ -25,13 +25,13 @@ fn aim(words: &[u32]) -> Sizes {
     header.unwrap_or(Sizes { k: 3, w: 2, n: 2, p: 2 })
 }
 
-/// Any of the eleven calls, aimed at the desk in these words.
+/// Any of the calls, aimed at the desk in these words.
 pub fn any_call(random: &mut Random, words: &[u32]) -> Call {
     let s = aim(words);
     let run = random.near(s.p);
     let office = random.near(s.n);
     let sheet = random.near(s.k);
-    match random.below(25) {
+    match random.below(27) {
         0 => Call::New(new_counts(random, words.len())),
         1 | 2 => Call::Open(run, jobs(random, s)),
         3..=5 => Call::Fetch(office, sheet),
@@ -52,6 +52,7 @@ pub fn any_call(random: &mut Random, words: &[u32]) -> Call {
             Call::Explain(run, random.near(jobs))
         }
         20 | 21 => Call::Stale(office),
+        22 | 23 => Call::Admit,
         _ => {
             let place = random.near(3);
             let number = match place {

@@ -1,5 +1,6 @@
 //! What the calls met, and how much of it there must be.
 
+use crate::book::follow::Seen;
 use crate::desk::version::NOBODY;
 use crate::desk::Answer;
 use crate::text::Call;
@@ -12,14 +13,18 @@ pub enum Source {
     Reached,
     Damaged,
     Short,
+    Bent,
+    Admitted,
     Built,
     Noise,
 }
 
-const SOURCES: [&str; 6] = ["story", "reached", "damaged", "short", "built", "noise"];
+const SOURCES: [&str; 8] =
+    ["story", "reached", "damaged", "short", "bent", "admitted", "built", "noise"];
 /// The calls that are answered `ok`: explain never is.
-const CALLS: [&str; 10] =
-    ["new", "open", "fetch", "evict", "prepare", "step", "issue", "drop", "look", "stale"];
+const CALLS: [&str; 11] = [
+    "new", "open", "fetch", "evict", "prepare", "step", "issue", "drop", "look", "stale", "admit",
+];
 
 #[derive(Default)]
 pub struct Met {
@@ -27,7 +32,7 @@ pub struct Met {
     pub rivals: u64,
     pub largest: usize,
     /// Desks in form, by source.
-    pub in_form: [u64; 6],
+    pub in_form: [u64; 8],
     /// Answers of covers: 0, 1 and 2.
     pub covers: [u64; 3],
     /// Answers of compare: 0 to 4.
@@ -39,10 +44,10 @@ pub struct Met {
     /// Stales answered with a mask that isn't 0.
     marks: u64,
     /// Calls answered ok, by source.
-    by_source: [u64; 6],
+    by_source: [u64; 8],
     /// Answered ok, by call.
-    ok: [u64; 10],
-    refused: [u64; 11],
+    ok: [u64; 11],
+    refused: [u64; 12],
     breaks: u64,
     clear: u64,
     paths: u64,
@@ -50,6 +55,8 @@ pub struct Met {
     evicts_of_more: u64,
     fetches_of_more: u64,
     no_room: u64,
+    /// By the books that began at an admission.
+    pub by_books: Seen,
 }
 
 impl Met {
@@ -99,12 +106,17 @@ impl Met {
             ("answers without room".into(), self.no_room, 500),
             ("damaged desks in form".into(), self.in_form[Source::Damaged as usize], 1000),
             ("built desks in form".into(), self.in_form[Source::Built as usize], 1000),
+            ("calls by a book".into(), self.by_books.calls as u64, 10_000),
+            ("steps by a book against all choices".into(), self.by_books.tried as u64, 1000),
+            ("breaks by a book".into(), self.by_books.broken as u64, 50),
+            ("pairs of finished jobs by a book".into(), self.by_books.snapshots as u64, 1000),
         ];
         for (name, count) in CALLS.iter().zip(self.ok) {
             table.push((format!("{name} ok"), count, 600));
         }
         for (number, count) in self.refused.iter().enumerate().skip(1) {
-            table.push((format!("refused {number}"), *count, if number < 9 { 500 } else { 20 }));
+            let least = if matches!(number, 9 | 10) { 20 } else { 500 };
+            table.push((format!("refused {number}"), *count, least));
         }
         // Short buffers are all refused.
         let kinds = SOURCES.iter().zip(self.by_source).filter(|(name, _)| **name != "short");

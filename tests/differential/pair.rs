@@ -95,7 +95,7 @@ impl Pair {
     }
 
     /// The case as a script.
-    fn print(&self) -> String {
+    pub fn print(&self) -> String {
         let mut script = String::new();
         for event in &self.events {
             match event {

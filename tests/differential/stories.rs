@@ -1,5 +1,6 @@
 //! One story and what follows it.
 
+use crate::admitted;
 use crate::arguments::{any_call, room, sizes};
 use crate::built;
 use crate::clocks;
@@ -32,6 +33,7 @@ pub fn all_of_one(random: &mut Random, story: u64, met: &mut Met) -> Result<(), 
     let most = random.one_of(&[3, total]);
     short.shorten(total.saturating_sub(1 + random.below(most)));
     single_calls(random, &mut short, Source::Short, met)?;
+    admitted::read_back(random, &pair, met)?;
     let spare = random.below(4);
     let Some(words) = built::desk(random, counts, spare) else {
         return Ok(());

@@ -24,12 +24,12 @@ fn answer(out: &mut [u32], call: impl FnOnce() -> Answer) -> u32 {
 }
 
 macro_rules! export {
-    ($name:ident, $call:path, $($argument:ident),+) => {
+    ($name:ident, $call:path $(, $argument:ident)*) => {
         #[no_mangle]
         pub unsafe extern "C" fn $name(
-            words: *mut u32, len: usize, $($argument: u32),+, out: *mut u32, room: usize,
+            words: *mut u32, len: usize, $($argument: u32,)* out: *mut u32, room: usize,
         ) -> u32 {
-            answer(lent(out, room), || $call(lent(words, len), $($argument),+))
+            answer(lent(out, room), || $call(lent(words, len), $($argument),*))
         }
     };
 }
@@ -44,6 +44,7 @@ export!(sheetdesk_drop, desk::drop_run, run);
 export!(sheetdesk_look, desk::look, place, number, sheet);
 export!(sheetdesk_explain, desk::explain, run, job);
 export!(sheetdesk_stale, desk::stale, office);
+export!(sheetdesk_admit, desk::admit);
 
 #[no_mangle]
 pub unsafe extern "C" fn sheetdesk_open(

@@ -1,10 +1,11 @@
 //! What an issue number in an answer takes: so many issues, and what each of them takes.
 //!
-//! A look at sheet k answers a number, the leading writers and a count for each writer. On a desk
-//! that began with new the issue of that number saved k, and nothing in the copy is later: so its
-//! writer leads, with the count that it had then. The copy has all saves of k up to that number,
-//! and is older than the master's just if another save of k follows. Leaving calls out adds none:
-//! an issue's number and its writer's count are never more than the issue calls up to it.
+//! A look at sheet k answers a number, the leading writers and a count for each writer. Each desk
+//! here began with new: a replay starts on zeros, and admit makes no desk. So the issue of that
+//! number saved k, and nothing in the copy is later: its writer leads, with the count that it had
+//! then. The copy has all saves of k up to that number, and is older than the master's just if
+//! another save of k follows. Leaving calls out adds none: an issue's number and its writer's count
+//! are never more than the issue calls up to it.
 
 use super::log::Entry;
 use crate::desk::Answer;

@@ -33,7 +33,7 @@ impl Replay {
         Some(call_on(&mut self.words[..lent], call))
     }
 
-    /// The answer to a call that only answers: look, explain, stale.
+    /// The answer to a call that only answers.
     pub fn ask(&mut self, call: &Call) -> Answer {
         call_on(&mut self.words, call)
     }

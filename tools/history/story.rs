@@ -28,7 +28,7 @@ pub struct Row {
     pub words: String,
     /// The lane that it is about.
     pub lane: Option<Lane>,
-    /// Of a look, an explain or a stale.
+    /// It changes nothing, whatever the answer is.
     pub only_answers: bool,
     pub arrows: Vec<Arrow>,
     /// The issue that it makes.

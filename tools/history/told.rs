@@ -101,6 +101,7 @@ impl Told {
                 row.words = format!("Run {run} is dropped: it ends and saves nothing.");
             }
             Call::Stale(office) => row.words = words::stale(*office, numbers[0]),
+            Call::Admit => row.words = String::from("The desk is admitted."),
             Call::Explain(..) => {}
         }
         self.book.feed(call, true);

@@ -1,7 +1,8 @@
 //! What the book knows, by issue numbers: which version a copy is, and which issues stand behind
 //! one.
 
-use crate::book::saves::{Ledger, Saves};
+use crate::book::ledger::Ledger;
+use crate::book::saves::Saves;
 use crate::book::{has, Book};
 
 /// A sheet's version, by the issues of its leading saves: two or more are rivals.

@@ -5,7 +5,7 @@ use crate::laying::narrow;
 use crate::laying::turn_down;
 use explain::put::put_explained;
 ghost use mathlib.Core.Path.{_≡_};
-ghost use Rattle.model.specs.Calls.{explain, stale, ask};
+ghost use Rattle.model.specs.Calls.{explain, stale, admit, ask};
 ghost use Rattle.layout.specs.Buffer.{inForm};
 ghost use Rattle.layout.specs.Calls.{on};
 ghost use Rattle.calls.specs.Performs.{Exported};
@@ -32,5 +32,17 @@ pub fn stale(store: &[u32], ready: bool, site: u32, out: &mut [u32]) -> u32
         return turn_down(out);
     }
     let r = stale::stale(store, site);
+    lay(out, r)
+}
+
+pub fn admit(store: &[u32], ready: bool, out: &mut [u32]) -> u32
+    requires { ⌜ ready ≡ inForm (now store) ⌝ }
+    ensures { λ n. ⌜ Exported (on (ask admit))
+        (now (store .entry)) (now (store .entry)) (now (out .entry)) (now (out .exit)) n ⌝ }
+{
+    if !can_make(ready, out) {
+        return turn_down(out);
+    }
+    let r = admit::admit(store);
     lay(out, r)
 }

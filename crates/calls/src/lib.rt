@@ -14,6 +14,7 @@ use first::new;
 use first::open;
 use first::prepare;
 use first::step;
+use later::admit;
 use later::explain;
 use later::stale;
 use words::wide;
@@ -52,6 +53,7 @@ fn make(store: &mut [u32], ready: bool, command: Command, numbers: &[u32], out: 
         Command::Look(p, i, k) => look(store, ready, p, i, k, out),
         Command::Explain(r, j) => explain(store, ready, r, j, out),
         Command::Stale(o) => stale(store, ready, o, out),
+        Command::Admit => admit(store, ready, out),
     }
 }
 

@@ -1,2 +1,3 @@
 pub mod Explaining
 pub mod Uses
+pub mod Refusing

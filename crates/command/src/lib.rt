@@ -15,4 +15,5 @@ pub enum Command {
     Look(u32, u32, u32),
     Explain(u32, u32),
     Stale(u32),
+    Admit,
 }

@@ -8,21 +8,23 @@ use mathlib.Core.Logic.{_≢_}
 use mathlib.Core.List.{List, []}
 use Prim.Native.Nat.{ℕ, _<_}
 use native.Mathlib.Omega.{arith}
-use Rattle.words.specs.Tests.{anyBelow}
 use Rattle.words.specs.Numbers.{countBelow}
 use Rattle.words.specs.Lists.{putAt}
 use Rattle.words.proofs.Lists.{putAt-same, putAt-other, putAt-both}
 use Rattle.sizes.specs.declared.Counts.{Counts}
 use Rattle.model.specs.Algebra.{Place}
-use Rattle.model.specs.Version.{Version, zeroPast}
+use Rattle.model.specs.Version.{Version}
 use Rattle.model.specs.Store.{Run, Site, Store, fresh, withSites, withCache, withRun}
 use Rattle.layout.proofs.Fit.{fresh-cache}
 use Rattle.history.specs.History.{saved}
-use Rattle.history.specs.Copies.{heldCopy, byWriter, counted}
-use Rattle.history.specs.Listing.{BookCopy}
+use Rattle.history.specs.Listing.{noBase, BookCopy}
 use Rattle.history.specs.Book.{BookRun, Book, freshBook, withBookCaches, withBookRun}
 use Rattle.history.proofs.Sounds.{sound-empty}
-use Rattle.history.proofs.Counted.{counted-none, counted-unheld}
+use Rattle.history.proofs.Listed.{no-based}
+use Rattle.history.proofs.Carrying.{lists-empty}
+use Rattle.history.proofs.ListingMerged.{book-none}
+use Rattle.history.proofs.ListingEntered.{begin-past}
+use Rattle.history.proofs.BookWrites.{write-nothing-good}
 use Rattle.consistency.specs.Trace.{ReadSet, Among}
 use Rattle.consistency.proofs.Simulation.{Related}
 use Rattle.consistency.proofs.CopyLaws.{empty-cut}
@@ -67,7 +69,7 @@ module _ {s : Store} {b : Book} {f : ℕ → List ReadSet} (v : Inv s b f) where
   pub inv-caches : (p : ℕ → Site) (q : ℕ → Place BookCopy)
       → ((o : ℕ) → o < s .counts .sites
       → Related (s .counts .keys) (Stands s b) (p o .cache) (q o)
-      × ClosedAll (s .counts .keys) (b .history) (q o))
+      × ClosedAll (s .counts .keys) (s .counts .writers) (b .history) (b .base) (q o))
       → Inv (withSites s p) (withBookCaches b q) f
   unfolding withSites withBookCaches
   inv-caches p q C = record {
@@ -77,7 +79,8 @@ module _ {s : Store} {b : Book} {f : ℕ → List ReadSet} (v : Inv s b f) where
   }
 
   pub inv-cache : (o : ℕ) (p : Place Version) (q : Place BookCopy)
-      → Related (s .counts .keys) (Stands s b) p q → ClosedAll (s .counts .keys) (b .history) q
+      → Related (s .counts .keys) (Stands s b) p q
+      → ClosedAll (s .counts .keys) (s .counts .writers) (b .history) (b .base) q
       → Inv (withCache s o p) (withBookCaches b (putAt (b .cache) o q)) f
   unfolding withCache withSites withBookCaches
   inv-cache o p q c d = record {
@@ -88,7 +91,8 @@ module _ {s : Store} {b : Book} {f : ℕ → List ReadSet} (v : Inv s b f) where
 
   -- Run r changed, and with it what its finished jobs have read.
   pub inv-run : (g : ℕ → List ReadSet) (r : ℕ) (a : Run) (c : BookRun)
-      → RunFollows (s .counts .writers) (s .counts .keys) (b .history) a c → r < s .counts .runs
+      → RunFollows (s .counts .writers) (s .counts .keys) (b .history) (b .base) a c
+      → r < s .counts .runs
       → ((q : ℕ) → q ≢ r → g q ≡ f q) → HasRead (s .counts .keys) a c (g r)
       → Inv (withRun s r a) (withBookRun b r c) g
   unfolding withRun withBookRun
@@ -98,18 +102,14 @@ module _ {s : Store} {b : Book} {f : ℕ → List ReadSet} (v : Inv s b f) where
 
   -- Run r begins anew, or is freed.
   pub inv-anew : (r : ℕ) (a : Run) (c : BookRun)
-      → RunFollows (s .counts .writers) (s .counts .keys) (b .history) a c → r < s .counts .runs
+      → RunFollows (s .counts .writers) (s .counts .keys) (b .history) (b .base) a c
+      → r < s .counts .runs
       → Inv (withRun s r a) (withBookRun b r c) (putAt f r [])
   inv-anew r a c G l =
       inv-run (putAt f r []) r a c G l (putAt-other f r [])
       (nothing-read (s .counts .keys) a c f r)
 
 -- ---- a fresh store
-
--- A writer without issues has no past.
-no-past : (K w : ℕ) → counted K [] (byWriter K [] w) .past ≡ zeroPast
-unfolding heldCopy anyBelow
-no-past K w = sym (counted-unheld K [] (byWriter K [] w) refl .past)
 
 pub inv-fresh : (z : Counts) → Inv (fresh z) (freshBook z) (λ r. [])
 unfolding fresh freshBook saved countBelow
@@ -120,17 +120,22 @@ inv-fresh z =
       follows = record {
         counts = refl;
         last = refl;
+        based = no-based;
+        lists = lists-empty noBase;
         sound = sound-empty K W;
-        master = λ k l. counted-none K [];
-        led-master = λ k l. masked-none W K [] k;
+        master = λ k l. record {
+          counts = book-none K [] noBase;
+          good = write-nothing-good K W [] noBase k;
+          all = refl;
+        };
+        led-master = λ _ k l. masked-none W K [] k;
         every = λ d i l p. absurd (false≢true p);
-        writes = λ d i l p. absurd (false≢true p);
-        cache = λ o l k i. rw (fresh-cache z o k) (counted-none K []);
-        led-cache = λ o l k i.
+        cache = λ o l k i. rw (fresh-cache z o k) (book-none K [] noBase);
+        led-cache = λ o l _ k i.
             ap (λ (v : Version). v .leaders) (fresh-cache z o k) ∙ masked-none W K [] k;
-        closed = λ o l. empty-cut (copy-laws K W []) _;
-        writer = λ w l. record { count = refl; past = sym (no-past K w) };
-        run = λ r l. free-follows W K [];
+        closed = λ o l. empty-cut (copy-laws K W [] noBase) _;
+        writer = λ w l. record { count = refl; past = sym (begin-past K noBase w) };
+        run = λ r l. free-follows W K [] noBase;
       };
       reads = λ r l x p. none-among p;
       no-run = λ r l x p. none-among p;

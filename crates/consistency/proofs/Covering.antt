@@ -1,73 +1,125 @@
--- What holds of every row of counts in a store that follows its book.
--- EveryRow: a claim about all of them. every-row: by the copies that they count.
--- master-dominates: the master's own row of a key has all that is known of the key; so no copy is
--- ahead of it (caches-behind, snapshots-behind).
+-- What holds of every past in a store that follows its book.
+-- every-past: by the copies that they count. master-dominates: the master's own row of a key has
+-- all that is known of the key; so no copy is ahead of it (caches-behind, snapshots-behind).
+-- admissible-now: it would be admitted (CR 6).
 -- Assumes nothing.
-use Prim.Native.Nat.{ℕ, _<_}
-use Rattle.clock.specs.Clock.{Clock, Dominates}
+use mathlib.Core.Bool.{So}
+use Prim.Native.Nat.{ℕ, _≤_, _<_}
+use native.Mathlib.Omega.{arith}
+use Rattle.clock.specs.Clock.{Clock}
 use Rattle.clock.proofs.Standings.{standing-below}
+use Rattle.model.specs.Version.{Version}
 use Rattle.model.specs.Store.{Store}
-use Rattle.history.specs.History.{saved}
-use Rattle.history.specs.Copies.{Copy, reaches, byWriter, counted}
+use Rattle.model.specs.Calls.Admit.{admissible}
+use Rattle.model.proofs.Admits.{EveryPast, Covered, Counted, admissible-in}
+use Rattle.history.specs.Copies.{CountedAs, byWriter}
+use Rattle.history.specs.Listing.{BookCopy, countedCopy}
+use Rattle.history.specs.Lists.{writerList}
 use Rattle.history.specs.Book.{Book}
 use Rattle.history.proofs.Past.{past-laws}
-use Rattle.history.proofs.Tally.{tally-dominates}
-use Rattle.history.proofs.Reached.{reaches-intro, reaches-saved, reaches-session}
-use Rattle.history.proofs.Counted.{counted-row}
+use Rattle.history.proofs.Carrying.{list-within}
+use Rattle.history.proofs.Listing.{issue-most, row-most}
+use Rattle.history.proofs.ListingEntered.{listedAs}
+use Rattle.history.proofs.ListingMeets.{every-covers}
 use Rattle.consistency.specs.Claim.{NotAhead}
 use Rattle.consistency.proofs.Invariant.{Follows}
-use Rattle.consistency.proofs.Following.{master-closed}
-
--- P d p: p is a row for key d.
-pub record EveryRow (s : Store) (P : ℕ → Clock → Type 0) : Type 0 where
-  pub master : (k d : ℕ) → k < s .counts .keys → P d (s .master k .past d)
-  pub cache : (o k d : ℕ) → o < s .counts .sites → k < s .counts .keys
-      → P d (s .site o .cache k .past d)
-  pub snapshot : (r k d : ℕ) → r < s .counts .runs → k < s .counts .keys
-      → P d (s .run r .branch .snapshot k .past d)
-  pub writer : (w d : ℕ) → w < s .counts .writers → P d (s .writer w .past d)
+use Rattle.consistency.proofs.Cutting.{master-cut, cuts, overlaps}
 
 module _ {s : Store} {b : Book} (F : Follows s b) where
-  -- Every row is one of a copy counted.
-  pub every-row : (P : ℕ → Clock → Type 0)
-      → ((d : ℕ) (c : Copy) → P d (counted (s .counts .keys) (b .history) c .past d))
-      → EveryRow s P
-  every-row P f = record {
-    master = λ k d l. rw (F .master k l .past) (f d (b .master k .later));
-    cache = λ o k d h l. rw (F .cache o h k l .past) (f d (b .cache o k .later));
-    snapshot = λ r k d h l.
-        rw (F .run r h .branch .snapshot k l .past) (f d (b .run r .branch .snapshot k .later));
-    writer = λ w d l.
-        rw (F .writer w l .past) (f d (byWriter (s .counts .keys) (b .history) w));
+  -- Every past is that of a copy counted, which lists what was admitted.
+  pub every-past : (P : (ℕ → Clock) → Type 0)
+      → ((c : BookCopy) → ((d u : ℕ) → c .rows d u ≤ b .base .saves d u)
+      → P (countedCopy (s .counts .keys) (b .history) (b .base) c .past))
+      → EveryPast s P
+  every-past P f = record {
+    versions = record {
+      master = λ k l.
+          let w = F .master k l in
+          rw (w .counts .past) (f (b .master k) (w .good .listed .low));
+      caches = λ o h k l.
+          rw (F .cache o h k l .past) (f (b .cache o k) (F .closed o h .good k l .listed .low));
+      snapshots = λ r h k l.
+          let G = F .run r h .branch in
+          rw (G .snapshot k l .past)
+          (f (b .run r .branch .snapshot k) (G .closed .good k l .listed .low));
+    };
+    writers = λ w l.
+        let K = s .counts .keys in
+        let list = writerList (b .base) (b .history) w in
+        rw (F .writer w l .past)
+        (f (listedAs (byWriter K (b .history) w) list)
+        (list-within (b .base) (F .based) (b .history) (F .lists .within) w));
   }
 
   -- The master's own row of a key dominates every row for that key.
-  pub master-dominates : EveryRow s (λ d p.
-      d < s .counts .keys → Dominates (s .counts .writers) (s .master d .past d) p)
-  master-dominates = every-row _ under
+  pub master-dominates : EveryPast s (Covered s)
+  master-dominates = every-past (Covered s) under
     where
-      under : (d : ℕ) (c : Copy) → d < s .counts .keys
-          → Dominates (s .counts .writers) (s .master d .past d)
-          (counted (s .counts .keys) (b .history) c .past d)
-      under d c l =
+      under : (c : BookCopy) → ((d u : ℕ) → c .rows d u ≤ b .base .saves d u)
+          → Covered s (countedCopy (s .counts .keys) (b .history) (b .base) c .past)
+      under c low d l =
           let K = s .counts .keys in
           let h = b .history in
-          let laws = past-laws K h in
-          rw (F .master d l .past, counted-row K h (b .master d .later) d, counted-row K h c d)
-          (tally-dominates K h (s .counts .writers) (saved h d) (reaches K h c d)
-          (reaches K h (b .master d .later) d) (F .sound .writers)
-          (λ j _ y. reaches-saved K h laws c d j y .1)
-          (reaches-session K h laws d (b .master d .later) (master-closed F .good d l)) .1
-          (λ j i y.
-          let w = reaches-saved K h laws c d j y .1 in
-          reaches-intro K h (b .master d .later) d j j i (F .every d j l w) (laws .own j d i w)))
+          let w = F .master d l in
+          rw (w .counts .past)
+          (every-covers K h (b .base) (s .counts .writers) (F .sound .writers) (past-laws K h)
+          (F .based) d (b .master d) c (w .good .good) (w .good .listed) (λ i. F .every d i l)
+          (w .all) (low d))
+
+  -- No count exceeds the writer's,
+  counts-within : EveryPast s (Counted s)
+  counts-within = every-past (Counted s) under
+    where
+      under : (c : BookCopy) → ((d u : ℕ) → c .rows d u ≤ b .base .saves d u)
+          → Counted s (countedCopy (s .counts .keys) (b .history) (b .base) c .past)
+      under c low d _ u i =
+          omega (
+            arith,
+            row-most (s .counts .keys) (b .history) (b .base) (F .based) c d u (low d u),
+            F .writer u i .count,
+          )
+
+  -- and no number the last one.
+  number-within : (v : Version) (c : BookCopy) → c .number ≤ b .base .last
+      → CountedAs v (countedCopy (s .counts .keys) (b .history) (b .base) c) → v .issue ≤ s .last
+  number-within v c l e =
+      omega (
+        arith,
+        e .issue,
+        issue-most (s .counts .keys) (b .history) (b .base) c l,
+        F .last,
+      )
+
+  -- So the store would be admitted.
+  pub admissible-now : So (admissible s)
+  admissible-now =
+      admissible-in s (record {
+        master = master-cut F;
+        caches = cuts F;
+        snapshots = overlaps F;
+        covered = master-dominates;
+        counted = counts-within;
+        numbered = record {
+          master = λ k l.
+              let w = F .master k l in
+              number-within (s .master k) (b .master k) (w .good .listed .number) (w .counts);
+          caches = λ o h k l.
+              number-within (s .site o .cache k) (b .cache o k)
+              (F .closed o h .good k l .listed .number) (F .cache o h k l);
+          snapshots = λ r h k l.
+              let G = F .run r h .branch in
+              number-within (s .run r .branch .snapshot k) (b .run r .branch .snapshot k)
+              (G .closed .good k l .listed .number) (G .snapshot k l);
+        };
+      })
 
   pub caches-behind : (o : ℕ) → o < s .counts .sites
       → NotAhead (s .counts .writers) (s .counts .keys) (s .master) (s .site o .cache)
   caches-behind o l k h =
-      standing-below (s .counts .writers) _ _ .0 (master-dominates .cache o k k l h h)
+      standing-below (s .counts .writers) _ _ .0 (master-dominates .versions .caches o l k h k h)
 
   pub snapshots-behind : (r : ℕ) → r < s .counts .runs
       → NotAhead (s .counts .writers) (s .counts .keys) (s .master) (s .run r .branch .snapshot)
   snapshots-behind r l k h =
-      standing-below (s .counts .writers) _ _ .0 (master-dominates .snapshot r k k l h h)
+      standing-below (s .counts .writers) _ _ .0
+      (master-dominates .versions .snapshots r l k h k h)

@@ -1,6 +1,6 @@
--- Where the store follows the book: every cache is a causal cut, every snapshot an overlapping cut
--- for its plan, and a step breaks its run exactly if no choice works.
--- cuts, overlaps, step-ready, breaks.
+-- Where the store follows the book: master and caches are causal cuts, every snapshot an
+-- overlapping cut for its plan, and a step breaks its run exactly if no choice works.
+-- master-cut, cuts, overlaps, step-ready, breaks.
 -- Assumes nothing.
 use mathlib.Core.Path.{refl, _∙_}
 use mathlib.Core.Bool.{So}
@@ -18,10 +18,15 @@ use Rattle.consistency.proofs.Simulation.{causalCut-same, overlappingCu
 use Rattle.consistency.proofs.CopyLaws.{cut-causal, cut-overlapping}
 use Rattle.consistency.proofs.Breaks.{Ready, breaks-exact}
 use Rattle.consistency.proofs.Invariant.{Follows}
-use Rattle.consistency.proofs.Following.{now-simulates, now-laws, cache-related, snapshot-related, snapshot-closed}
+use Rattle.consistency.proofs.Following.{now-simulates, now-laws, master-closed, master-related, cache-related, snapshot-related, snapshot-closed}
 use Rattle.consistency.proofs.Stepped.{copyCache, stepCache-related, stepCache-closed}
 
 module _ {s : Store} {b : Book} (F : Follows s b) where
+  pub master-cut : So (causalCut (versions (s .counts .writers)) (s .counts .keys) (s .master))
+  master-cut =
+      causalCut-same (now-simulates F) (s .master) (b .master) (master-related F)
+      ∙ cut-causal (now-laws F) (master-closed F)
+
   pub cuts : (o : ℕ) → o < s .counts .sites
       → So (causalCut (versions (s .counts .writers)) (s .counts .keys) (s .site o .cache))
   cuts o l =

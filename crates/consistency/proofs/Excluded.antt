@@ -18,7 +18,7 @@ use Rattle.reach.specs.Closure.{closure, rounds, round}
 use Rattle.clock.specs.Clock.{exceeds, standing, dominates, present, join}
 use Rattle.sizes.specs.Bounds.{countsOf, between, ranged, pastSize, versionSize, placeSize, siteSize, writerSize, runSize, masterAt, sitesAt, writersAt, runsAt, tailSize, tailAt, totalOf}
 use Rattle.model.specs.Algebra.{Place, lacking, needsMet}
-use Rattle.model.specs.Version.{Version, held, dependency, supersedes, leadsOn, mergedLeaders, larger, merge, versions}
+use Rattle.model.specs.Version.{Version, zeroPast, held, dependency, supersedes, leadsOn, mergedLeaders, larger, merge, versions}
 use Rattle.model.specs.Sets.{draws, drawSet, fetchSet, fetched, unfetchable, pullSet, pulled}
 use Rattle.model.specs.Store.{Store, fresh, planned, doneReads, siteWith, withMaster, withLast, withMarks, withSites, withCache, withCaches, withWriter, withRun, withState, withJobDone}
 use Rattle.model.specs.Form.{zeroRows, zeroVersion, leadersFormed, versionFormed, placeFormed, validJob, zeroJob, freeFormed, jobsFormed, masksFormed, snapshotFormed, runFormed, siteFormed, wellFormed}
@@ -35,7 +35,8 @@ use Rattle.layout.specs.Buffer.{written, headerRight, shaped, inForm}
 use Rattle.layout.specs.Calls.{Call, on, newCause, newOn, onStore, callOn, leaves, isOk}
 use Rattle.history.specs.History.{History, writerOf, saved, leads, inPast, HappensBefore.together}
 use Rattle.history.specs.Copies.{Copy, reaches, heldCopy, needsCopy, meetsCopy, union, lastIn, byWriter, counted}
-use Rattle.history.specs.Listing.{plainCopy, heldBook, mergeBook, needsBook, meetsBook}
+use Rattle.history.specs.Listing.{noBase, plainCopy, heldBook, mergeBook, needsBook, meetsBook, readCopy, shift, countedCopy}
+use Rattle.history.specs.Lists.{writerList, listOf}
 use Rattle.history.specs.Book.{freshBook, withBookCaches, withBookRun, bookOpen, bookStepJob, entry, bookIssue, bookIssued, bookRule, bookOk, bookStep}
 use Rattle.consistency.specs.Roles.{roleOf}
 use Rattle.consistency.specs.Trace.{ReadSet, Trace, start, readNow, finishBy, finish, advance, follow}
@@ -139,22 +140,22 @@ unfolding anyBelow allBelow only foldBelow countBelow largest when putAt upto bl
     writersAt runsAt tailSize tailAt totalOf lacking held dependency supersedes leadsOn
     mergedLeaders larger merge draws drawSet fetchSet fetched unfetchable pullSet pulled fresh
     planned doneReads withMaster withLast siteWith withMarks withCaches withSites withCache
-    withWriter withRun withState isStale staleMask siteFormed
-    withJobDone zeroRows zeroVersion leadersFormed versionFormed placeFormed validJob zeroJob
-    freeFormed jobsFormed masksFormed snapshotFormed runFormed wellFormed answer refuse unless
-    allowed runCause listedJob listedCount listedJobs listValid openCause openedRun openDone
-    openRule dropCause dropDone dropRule readStart stepSite stepReads stepStart stepFetch
-    stepCache stepPlan stepPull stepSnapshot stepMoved jobLimit notReady jobCause stepCause
-    stepBroken stepDone stepRule raiseCause issueCause takenIn rowsSet newPast newVersion
-    issuedMaster issuedWriter savedStore issuedStore issuedNumber issueDone issueRule ruleOf
-    clockWords pastWords versionWords placeWords siteWords sitesWords writerWords writersWords
-    jobWords jobsWords runWords runsWords tailWords headerWords storeWords readClock readPast
-    readVersion readPlace readSite readWriter readJob readJobs readRun readTail countsIn storeOf
-    written headerRight shaped inForm newCause newOn onStore callOn leaves isOk writerOf leads
-    inPast reaches heldCopy needsCopy meetsCopy union heldBook mergeBook needsBook meetsBook
-    lastIn byWriter counted freshBook
-    withBookCaches withBookRun bookOpen bookStepJob entry bookIssue bookIssued bookRule bookOk
-    bookStep start readNow roleOf finishBy finish advance follow needsMet pickOf chosen
+    withWriter withRun withState isStale staleMask siteFormed withJobDone zeroRows zeroVersion
+    leadersFormed versionFormed placeFormed validJob zeroJob freeFormed jobsFormed masksFormed
+    snapshotFormed runFormed wellFormed answer refuse unless allowed runCause listedJob
+    listedCount listedJobs listValid openCause openedRun openDone openRule dropCause dropDone
+    dropRule readStart stepSite stepReads stepStart stepFetch stepCache stepPlan stepPull
+    stepSnapshot stepMoved jobLimit notReady jobCause stepCause stepBroken stepDone stepRule
+    raiseCause issueCause takenIn rowsSet newPast newVersion issuedMaster issuedWriter
+    savedStore issuedStore issuedNumber issueDone issueRule ruleOf clockWords pastWords
+    versionWords placeWords siteWords sitesWords writerWords writersWords jobWords jobsWords
+    runWords runsWords tailWords headerWords storeWords readClock readPast readVersion readPlace
+    readSite readWriter readJob readJobs readRun readTail countsIn storeOf written headerRight
+    shaped inForm newCause newOn onStore callOn leaves isOk writerOf leads inPast reaches
+    heldCopy needsCopy meetsCopy union heldBook mergeBook needsBook meetsBook readCopy shift
+    countedCopy writerList listOf lastIn byWriter counted freshBook withBookCaches withBookRun
+    bookOpen bookStepJob entry bookIssue bookIssued bookRule bookOk bookStep start readNow
+    roleOf finishBy finish advance follow needsMet pickOf chosen
 computed = record {
   both = refl;
   breaks = refl;
@@ -193,8 +194,8 @@ computed = record {
 -- By one writer: sheet 0, then sheets 0 and 1.
 abbrev two-issues : History
 two-issues =
-    record { writer = 0; keys = testBit 3; read = λ d. none }
-    ∷ record { writer = 0; keys = testBit 1; read = λ d. none } ∷ []
+    record { writer = 0; keys = testBit 3; read = λ d. none; rows = zeroPast }
+    ∷ record { writer = 0; keys = testBit 1; read = λ d. none; rows = zeroPast } ∷ []
 
 -- A job that has read the sheets of the mask S, each in the version of copy c.
 abbrev having-read : ℕ → Copy → ReadSet
@@ -204,14 +205,16 @@ having-read S c =
     record { keys = testBit S; version = λ k. v; copy = λ k. plainCopy c }
 
 -- One sheet in two versions: sheet 0 as the first issue left it, and as the second did.
-pub two-versions : ¬ (Snapshot 2 two-issues (having-read 1 (only 0)) (having-read 1 (testBit 3)))
+pub two-versions : ¬ (Snapshot 2 1 two-issues noBase (having-read 1 (only 0))
+    (having-read 1 (testBit 3)))
 unfolding testBit only largest when lastIn counted
 two-versions x =
     let e : _≡_ {A = ℕ} 1 2 = ap (λ v. v .issue) (x .one-version 0 (omega arith) refl refl) in
     absurd (omega (arith, e))
 
 -- Sheet 1 of the second issue, and by another job alone sheet 0 without that issue's save.
-pub missing-write : ¬ (Snapshot 2 two-issues (having-read 2 (only 1)) (having-read 1 (only 0)))
+pub missing-write : ¬
+    (Snapshot 2 1 two-issues noBase (having-read 2 (only 1)) (having-read 1 (only 0)))
 unfolding testBit only saved
 missing-write x =
     false≢true (x .included 1 1 0 1 (omega arith) (omega arith) refl refl refl

@@ -15,6 +15,7 @@ use Rattle.words.specs.Numbers.{largest, when}
 use Rattle.words.proofs.Bools.{and-left, and-right, eqb-eq}
 use Rattle.masks.specs.Mask.{testBit, withBit, withIf, maskBelow}
 use Rattle.masks.proofs.Bits.{test-low}
+use Rattle.model.specs.Version.{zeroPast}
 use Rattle.history.specs.History.{Issue, History, writerOf, saved, readBy, leads, inPast, HappensBefore, HappensBefore.together, HappensBefore.wasRead, HappensBefore.chain}
 use Rattle.history.specs.Copies.{Copy, lastIn, byWriter, lastBy, behindOther, leading}
 use Rattle.history.proofs.Notions.{Sound}
@@ -26,7 +27,8 @@ use Rattle.consistency.specs.Leading.{Leads, LedAs}
 
 -- Writer w saves the sheets of S; its run had read sheet 0 in the version of copy c.
 abbrev saving : ℕ → ℕ → Copy → Issue
-saving w S c = record { writer = w; keys = testBit S; read = λ d i. only 0 d && c i }
+saving w S c = record
+    { writer = w; keys = testBit S; read = λ d i. only 0 d && c i; rows = zeroPast }
 
 -- By writer 0, then by writer 1, who has not seen the first, or has.
 abbrev unseen : History

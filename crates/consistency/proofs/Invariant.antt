@@ -5,7 +5,7 @@
 use mathlib.Core.Path.{_≡_}
 use mathlib.Core.Bool.{So, cond}
 use mathlib.Core.List.{List}
-use Prim.Native.Nat.{ℕ, _≤_, _<_}
+use Prim.Native.Nat.{ℕ, _+_, _≤_, _<_}
 use lib.Dec.{eqb}
 use lib.ListN.{length}
 use Rattle.words.specs.Tests.{Items}
@@ -16,56 +16,67 @@ use Rattle.model.specs.Outcome.{Outcome, refused, broken, done, told}
 use Rattle.model.specs.Calls.{StoreCall}
 use Rattle.layout.specs.Calls.{on}
 use Rattle.history.specs.History.{History, saved}
-use Rattle.history.specs.Copies.{byWriter, counted}
+use Rattle.history.specs.Copies.{byWriter}
+use Rattle.history.specs.Listing.{Base, countedCopy}
+use Rattle.history.specs.Lists.{writerList}
 use Rattle.history.specs.Book.{Book, BookBranch, BookRun, bookRule, bookStep}
 use Rattle.history.proofs.Notions.{Sound}
+use Rattle.history.proofs.Listed.{Based}
+use Rattle.history.proofs.Carrying.{ListsSound}
+use Rattle.history.proofs.ListingEntered.{listedAs}
+use Rattle.history.proofs.ListingIssued.{Whole}
 use Rattle.consistency.specs.Trace.{ReadSet, finish, Among}
 use Rattle.consistency.specs.Claim.{Counted}
 use Rattle.consistency.proofs.Closing.{ClosedIn, ClosedAll}
 use Rattle.consistency.proofs.Counting.{Masked}
 
 -- A branch and the book's, for the keys of a plan.
-pub record BranchFollows (W K : ℕ) (h : History) (plan : Items) (a : Branch) (c : BookBranch)
-    : Type 0 where
+pub record BranchFollows (W K : ℕ) (h : History) (B : Base) (plan : Items) (a : Branch)
+    (c : BookBranch) : Type 0 where
   pub read : (k : ℕ) → k < K → testBit (a .read) k ≡ c .read k
   pub low : (k : ℕ) → So (c .read k) → k < K
-  pub snapshot : Counted K h (a .snapshot) (c .snapshot)
-  pub led : Masked W K h (a .snapshot) (c .snapshot)
-  pub closed : ClosedIn K h plan (c .snapshot)
+  pub snapshot : Counted K h B (a .snapshot) (c .snapshot)
+  pub led : Masked W K h B (a .snapshot) (c .snapshot)
+  pub closed : ClosedIn K W h B plan (c .snapshot)
 
 -- A run and the book's.
-pub record RunFollows (W K : ℕ) (h : History) (a : Run) (c : BookRun) : Type 0 where
+pub record RunFollows (W K : ℕ) (h : History) (B : Base) (a : Run) (c : BookRun) : Type 0 where
   pub jobs : a .jobs ≡ c .jobs
   pub job : a .job ≡ c .job
-  pub branch : BranchFollows W K h (planned (c .jobs) (c .job)) (a .branch) (c .branch)
+  pub branch : BranchFollows W K h B (planned (c .jobs) (c .job)) (a .branch) (c .branch)
 
--- A writer's count, and its past: that of all its issues.
-pub record WriterFollows (K : ℕ) (h : History) (s : Store) (w : ℕ) : Type 0 where
-  pub count : s .writer w .count ≡ countBelow (length h) (byWriter K h w)
-  pub past : s .writer w .past ≡ counted K h (byWriter K h w) .past
+-- A writer's count, and its past: that of all its issues, with its list.
+pub record WriterFollows (K : ℕ) (h : History) (B : Base) (s : Store) (w : ℕ) : Type 0 where
+  pub count : s .writer w .count ≡ B .count w + countBelow (length h) (byWriter K h w)
+  pub past : s .writer w .past
+      ≡ countedCopy K h B (listedAs (byWriter K h w) (writerList B h w)) .past
 
 pub record Follows (s : Store) (b : Book) : Type 0 where
   pub counts : s .counts ≡ b .counts
-  pub last : s .last ≡ length (b .history)
+  pub last : s .last ≡ b .base .last + length (b .history)
+  pub based : Based (b .base)
+  pub lists : ListsSound (b .base) (b .history)
   pub sound : Sound (s .counts .keys) (s .counts .writers) (b .history)
-  pub master : Counted (s .counts .keys) (b .history) (s .master) (b .master)
-  pub led-master :
-      Masked (s .counts .writers) (s .counts .keys) (b .history) (s .master) (b .master)
-  -- The master has every write, and nothing else.
+  -- The master has every write, of later issues and admitted.
+  pub master : (k : ℕ) → k < s .counts .keys
+      → Whole (s .counts .keys) (s .counts .writers) (b .history) (b .base) k (s .master k)
+      (b .master k)
+  pub led-master : Masked (s .counts .writers) (s .counts .keys) (b .history) (b .base)
+      (s .master) (b .master)
   pub every : (d i : ℕ) → d < s .counts .keys → So (saved (b .history) d i)
       → So (b .master d .later i)
-  pub writes : (d i : ℕ) → d < s .counts .keys → So (b .master d .later i)
-      → (i < length (b .history)) × So (saved (b .history) d i)
   pub cache : (o : ℕ) → o < s .counts .sites
-      → Counted (s .counts .keys) (b .history) (s .site o .cache) (b .cache o)
+      → Counted (s .counts .keys) (b .history) (b .base) (s .site o .cache) (b .cache o)
   pub led-cache : (o : ℕ) → o < s .counts .sites
-      → Masked (s .counts .writers) (s .counts .keys) (b .history) (s .site o .cache) (b .cache o)
+      → Masked (s .counts .writers) (s .counts .keys) (b .history) (b .base) (s .site o .cache)
+      (b .cache o)
   pub closed : (o : ℕ) → o < s .counts .sites
-      → ClosedAll (s .counts .keys) (b .history) (b .cache o)
+      → ClosedAll (s .counts .keys) (s .counts .writers) (b .history) (b .base) (b .cache o)
   pub writer : (w : ℕ) → w < s .counts .writers
-      → WriterFollows (s .counts .keys) (b .history) s w
+      → WriterFollows (s .counts .keys) (b .history) (b .base) s w
   pub run : (r : ℕ) → r < s .counts .runs
-      → RunFollows (s .counts .writers) (s .counts .keys) (b .history) (s .run r) (b .run r)
+      → RunFollows (s .counts .writers) (s .counts .keys) (b .history) (b .base) (s .run r)
+      (b .run r)
 
 -- What a finished job has read is still so on the snapshot of a branch.
 pub record ReadAs (K : ℕ) (a : Branch) (c : BookBranch) (x : ReadSet) : Type 0 where

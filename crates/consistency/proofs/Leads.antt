@@ -2,7 +2,7 @@
 -- leading-is: who leads in a copy leads in the paper's words. led-as, led-place: the mask names
 -- just these. named: a merge of two versions of a key, wherever they stand, names somebody.
 -- Assumes nothing.
-use mathlib.Core.Path.{sym, _∙_}
+use mathlib.Core.Path.{_≡_, sym, _∙_}
 use mathlib.Core.Bool.{So}
 use mathlib.Core.Logic.{inl, inr, _↔_}
 use Prim.Native.Nat.{ℕ, _<_}
@@ -15,7 +15,7 @@ use Rattle.model.specs.Version.{Version}
 use Rattle.model.specs.Store.{Store}
 use Rattle.history.specs.History.{History, saved}
 use Rattle.history.specs.Copies.{Copy, leading}
-use Rattle.history.specs.Listing.{BookCopy}
+use Rattle.history.specs.Listing.{Base, noBase, BookCopy}
 use Rattle.history.specs.Book.{Book}
 use Rattle.history.proofs.Behind.{past-is-before}
 use Rattle.history.proofs.Leading.{Leader, leading-iff}
@@ -64,24 +64,25 @@ leading-is K h before k c writes u =
         }
 
 -- A mask that is that of its copy names just who leads in it.
-pub led-as : {W K : ℕ} {h : History} {k : ℕ} {v : Version} {c : BookCopy} → PastIsBefore K h
-    → StandsFor W K h k v c → LedAs W K h k (v .leaders) (c .later)
-led-as {W} {K} {h} {k} {v} {c} before r =
+pub led-as : {W K : ℕ} {h : History} {B : Base} {k : ℕ} {v : Version} {c : BookCopy}
+    → B ≡ noBase → PastIsBefore K h → StandsFor W K h B k v c
+    → LedAs W K h k (v .leaders) (c .later)
+led-as {W} {K} {h} {B} {k} {v} {c} plain before r =
     record {
-      mask = r .led;
+      mask = r .led plain;
       leads = λ u l.
-          let bit = item-of W (v .leaders) (leading K h k (c .later)) (r .led) u l in
-          let is = leading-is K h before k (c .later) (r .good .writes) u in
+          let bit = item-of W (v .leaders) (leading K h k (c .later)) (r .led plain) u l in
+          let is = leading-is K h before k (c .later) (r .good .good .writes) u in
           (λ p. is .0 (bit ∙˙ p), λ L. bit ∙ is .1 L);
     }
 
 -- ---- of a store that follows its book
 
-module _ {s : Store} {b : Book} (F : Follows s b) where
+module _ {s : Store} {b : Book} (F : Follows s b) (plain : b .base ≡ noBase) where
   pub led-place : {p : Place Version} {c : Place BookCopy}
       → Related (s .counts .keys) (Stands s b) p c
       → Led (s .counts .writers) (s .counts .keys) (b .history) p c
-  led-place r k l = led-as (past-is-before (F .sound)) (r k l)
+  led-place r k l = led-as plain (past-is-before (F .sound)) (r k l)
 
   -- A version on master, shelf or card stands for a copy.
   on-place : (k : ℕ) (v : Version) → k < s .counts .keys → OnPlace s k v
@@ -95,4 +96,4 @@ module _ {s : Store} {b : Book} (F : Follows s b) where
   named k v w l p q =
       let a = on-place k v l p in
       let c = on-place k w l q in
-      now-named F k v w (a .0) (c .0) (a .1) (c .1)
+      now-named F plain k v w (a .0) (c .0) (a .1) (c .1)

@@ -3,8 +3,10 @@ pub mod Uses
 pub mod UsesRuns
 pub mod UsesLeads
 pub mod UsesMarks
+pub mod UsesAdmitted
 pub mod Excluded
 pub mod ExcludedLeads
+pub mod ExcludedListed
 pub mod Simulation
 pub mod SimulationPrepare
 pub mod CopyLaws
@@ -25,7 +27,10 @@ pub mod Cutting
 pub mod Finished
 pub mod Laws
 pub mod Calls
+pub mod AdmittedCuts
+pub mod Admitting
 pub mod Points
 pub mod Theorem
 pub mod Lasting
 pub mod Pinned
+pub mod UsesListed

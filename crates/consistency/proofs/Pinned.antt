@@ -7,15 +7,16 @@ use mathlib.Core.Path.{_≡_, refl}
 use mathlib.Core.Bool.{false}
 use mathlib.Core.List.{List, [], _∷_, _++_}
 use mathlib.Core.Option.{none, some}
-use Prim.Native.Nat.{ℕ}
-use Rattle.words.proofs.Bools.{eqb-ne}
+use Prim.Native.Nat.{ℕ, _≤_, _<_}
+use Rattle.words.proofs.Bools.{eqb-ne, lt-ltb, ge-ltb}
 use Rattle.words.proofs.Lists.{putAt-same, putAt-other}
 use Rattle.model.specs.Version.{Version, unheld, merge}
 use Rattle.model.specs.Store.{Store}
 use Rattle.model.specs.Calls.{StoreCall, Query, openRun, fetch, evict, prepare, step, issue, dropRun, ask}
 use Rattle.history.specs.Book.{Book}
+use Rattle.history.specs.Admission.{admittedPlace}
 use Rattle.consistency.specs.Roles.{Role, opening, working, freeing, elsewhere, roleOf, isOn}
-use Rattle.consistency.specs.Trace.{ReadSet, Trace, readNow, finishBy, finish, advance, Among, Among.first, Among.later}
+use Rattle.consistency.specs.Trace.{ReadSet, Trace, admittedReads, readNow, finishBy, finish, advance, Among, Among.first, Among.later}
 use Rattle.masks.specs.Mask.{testBit}
 use Rattle.layout.specs.Calls.{Call, on, callOn, isOk}
 use Rattle.consistency.specs.Claim.{pickOf, Pick.ofSnapshot, Pick.ofCache, Pick.merged, Pick.neither}
@@ -79,3 +80,17 @@ module _ (s : Store) (b : Book) (f : ℕ → List ReadSet) where
   others-finished r (working x (some j)) n = putAt-other f x _ r (eqb-ne r x n)
   others-finished r (freeing x) n = putAt-other f x [] r (eqb-ne r x n)
   others-finished r elsewhere n = refl
+
+-- What an admitted run has read counts as read by one finished job; a run beyond has none.
+pub admitted-read : (s : Store) (r : ℕ) → r < s .counts .runs
+    → admittedReads s r ≡ record {
+      keys = testBit (s .run r .branch .read);
+      version = s .run r .branch .snapshot;
+      copy = admittedPlace (s .run r .branch .snapshot);
+    } ∷ []
+unfolding admittedReads
+admitted-read s r l = rw (lt-ltb r (s .counts .runs) l) refl
+
+pub admitted-none : (s : Store) (r : ℕ) → s .counts .runs ≤ r → admittedReads s r ≡ []
+unfolding admittedReads
+admitted-none s r l = rw (ge-ltb r (s .counts .runs) l) refl

@@ -1,27 +1,31 @@
 -- A list of calls followed: at each point the buffer holds a fine store, and the invariant holds.
--- At: such a point. start-at, advance-at, follow-at.
+-- At: such a point. start-at, admitted-at, advance-at, follow-at.
 -- Assumes nothing.
-use mathlib.Core.Path.{_≡_, refl, ap, _∙_}
+use mathlib.Core.Path.{_≡_, refl, sym, ap, _∙_}
 use mathlib.Core.Bool.{So, false≢true}
 use mathlib.Core.List.{List, [], _∷_}
 use Prim.Native.Nat.{ℕ}
 use native.Mathlib.Decide.{ℕ-discrete}
+use Rattle.words.proofs.Bools.{and-left}
 use Rattle.sizes.specs.Bounds.{countsOf}
 use Rattle.sizes.specs.declared.Counts.{Counts}
 use Rattle.model.specs.Store.{Store, fresh}
 use Rattle.model.specs.Outcome.{Outcome, refused, broken, done, told}
-use Rattle.model.specs.Calls.{StoreCall, ruleOf}
+use Rattle.model.specs.Form.{wellFormed}
+use Rattle.model.specs.Calls.{StoreCall, admit, ask, ruleOf}
 use Rattle.model.proofs.Outcomes.{nextStore}
+use Rattle.model.proofs.Admits.{admissible-out}
 use Rattle.layout.specs.Reading.{storeOf}
-use Rattle.layout.specs.Buffer.{written}
+use Rattle.layout.specs.Buffer.{written, shaped, inForm}
 use Rattle.layout.specs.Calls.{Call, new, on, newCause, newOn, callOn, leaves, isOk}
-use Rattle.layout.proofs.Whole.{store-back}
-use Rattle.layout.proofs.Follow.{Fine, fine-rule, fine-leaves}
+use Rattle.layout.proofs.Whole.{store-kept, store-back}
+use Rattle.layout.proofs.Follow.{Fine, fine-rule, fine-leaves, form-fine}
 use Rattle.layout.proofs.Rules.{rule-kept, new-fine, new-done, new-refused}
 use Rattle.history.specs.Book.{freshBook, bookOk, bookStep}
-use Rattle.consistency.specs.Trace.{Trace, start, finish, advance, follow}
+use Rattle.consistency.specs.Trace.{Trace, start, admitted, finish, advance, follow}
 use Rattle.consistency.proofs.Invariant.{Inv, Moves}
 use Rattle.consistency.proofs.Changing.{inv-fresh}
+use Rattle.consistency.proofs.Admitting.{admit-ok, inv-admitted}
 use Rattle.consistency.proofs.Calls.{laws}
 
 pub record At (t : Trace) : Type 0 where
@@ -91,6 +95,21 @@ start-at z l ok =
       | yes e ↦ rw (new-done l z e) (fresh-at l z e)
       | no e ↦ absurd (false≢true (rw (new-refused l z e) at ok))
     ]
+
+-- On a buffer that was admitted.
+pub admitted-at : (l : List ℕ) → So (isOk (callOn (on (ask admit)) l)) → At (admitted l)
+unfolding admitted inForm
+admitted-at l ok =
+    let r = admit-ok l .0 ok in
+    let s = storeOf l in
+    let F = form-fine l (r .0) in
+    record {
+      store = s;
+      base = l;
+      holds = sym (store-kept l (and-left (shaped l) (wellFormed s) (r .0)));
+      fine = F;
+      inv = inv-admitted s F (admissible-out s (r .1));
+    }
 
 pub advance-at : (c : Call) (t : Trace) → At t → At (advance c t)
 advance-at (new k w n p) t A = again-at k w n p t A

@@ -16,7 +16,7 @@ use Rattle.model.proofs.Draws.{pulled-out}
 use Rattle.model.proofs.Steps.{Accepted, step-planned}
 use Rattle.layout.proofs.Rules.Step.{site}
 use Rattle.layout.proofs.Follow.{Fine}
-use Rattle.history.specs.Listing.{BookCopy, bookCopies}
+use Rattle.history.specs.Listing.{noBase, BookCopy, bookCopies}
 use Rattle.history.specs.Book.{Book, BookBranch, BookRun, bookStepJob, withBookRun, withBookCaches}
 use Rattle.consistency.specs.Leading.{Named}
 use Rattle.consistency.proofs.Simulation.{Agree, Related, readStart-same, fetched-rel, pullSet-same, pulled-rel}
@@ -45,15 +45,13 @@ module _ (s : Store) (b : Book) (r j : ℕ) where
   copyPull =
       let K = s .counts .keys in
       pullSet (bookCopies K (s .counts .writers) (b .history)) K (stepPlan s r j)
-      (copyBranch .snapshot) copyCache
-      (stepReads s r j)
+      (copyBranch .snapshot) copyCache (stepReads s r j)
 
   unfoldable pub copySnapshot : Place BookCopy
   copySnapshot =
       let K = s .counts .keys in
       pulled (bookCopies K (s .counts .writers) (b .history)) K (stepPlan s r j)
-      (copyBranch .snapshot) copyCache
-      (stepReads s r j)
+      (copyBranch .snapshot) copyCache (stepReads s r j)
 
   unfoldable pub copyRun : BookRun
   copyRun = record {
@@ -91,7 +89,8 @@ module _ {s : Store} {b : Book} {r j : ℕ} (fine : Fine s) (F : Follows s b)
       (copyBranch s b r j .snapshot) (b .cache o) reads reads
       (snapshot-related F r (a .run-in)) rc (λ _ _. refl))
 
-  pub stepCache-closed : ClosedAll (s .counts .keys) (b .history) (copyCache s b r j)
+  pub stepCache-closed : ClosedAll (s .counts .keys) (s .counts .writers) (b .history) (b .base)
+      (copyCache s b r j)
   unfolding copyCache
   stepCache-closed =
       let o = stepSite s r j in
@@ -121,15 +120,15 @@ module _ {s : Store} {b : Book} {r j : ℕ} (fine : Fine s) (F : Follows s b)
       (λ _ _. refl) (snapshot-related F r (a .run-in)) stepCache-related (λ _ _. refl)
 
   -- The merges that it takes name somebody.
-  pub step-named : (k : ℕ) → k < s .counts .keys
+  pub step-named : b .base ≡ noBase → (k : ℕ) → k < s .counts .keys
       → Named (s .counts .writers) k (stepBranch s r j .snapshot k) (stepCache s r j k)
-  step-named k l =
-      now-named F k (stepBranch s r j .snapshot k) (stepCache s r j k)
+  step-named e k l =
+      now-named F e k (stepBranch s r j .snapshot k) (stepCache s r j k)
       (copyBranch s b r j .snapshot k) (copyCache s b r j k)
       (snapshot-related F r (a .run-in) k l) (stepCache-related k l)
 
-  pub stepSnapshot-closed : ClosedIn (s .counts .keys) (b .history) (stepPlan s r j)
-      (copySnapshot s b r j)
+  pub stepSnapshot-closed : ClosedIn (s .counts .keys) (s .counts .writers) (b .history) (b .base)
+      (stepPlan s r j) (copySnapshot s b r j)
   unfolding copySnapshot stepPlan
   stepSnapshot-closed =
       pulled-closed (now-laws F) (s .counts .keys) (stepPlan s r j)
@@ -142,6 +141,5 @@ module _ {s : Store} {b : Book} {r j : ℕ} (fine : Fine s) (F : Follows s b)
   unfolding copySnapshot copyPull
   copySnapshot-out k h e =
       pulled-out (bookCopies (s .counts .keys) (s .counts .writers) (b .history)) (s .counts .keys)
-      (stepPlan s r j)
-      (copyBranch s b r j .snapshot) (copyCache s b r j) (stepReads s r j) k
+      (stepPlan s r j) (copyBranch s b r j .snapshot) (copyCache s b r j) (stepReads s r j) k
       (sym (stepPull-same k h) ∙ e)

@@ -4,7 +4,7 @@
 -- Assumes nothing.
 use mathlib.Core.Path.{_≡_, refl, sym, ap, _∙_}
 use mathlib.Core.Bool.{false, So}
-use mathlib.Core.Logic.{_↔_, _⊎_, inl, inr, ⊎-elim}
+use mathlib.Core.Logic.{_⊎_, inl, inr, ⊎-elim}
 use mathlib.Core.List.{List, [], _∷_, _++_, append-nil}
 use Prim.Native.Nat.{ℕ, _≤_, _<_}
 use lib.Dec.{eqb}
@@ -15,7 +15,7 @@ use Rattle.clock.proofs.Standings.{standing-below, standing-self}
 use Rattle.sizes.specs.declared.Counts.{Counts}
 use Rattle.model.specs.Version.{Version, held, dependency, supersedes, versions}
 use Rattle.model.specs.Store.{Store, planned}
-use Rattle.model.specs.Outcome.{refused, broken, done, answer}
+use Rattle.model.specs.Outcome.{refused, broken, done}
 use Rattle.model.specs.Calls.Look.{lookPlace, lookLimit, rowNumbers, lookStanding, lookNumbers}
 use Rattle.model.specs.Calls.{step}
 use Rattle.model.proofs.Cuts.{causalCut-at, overlappingCut-within, overlappingCut-at}
@@ -23,7 +23,8 @@ use Rattle.layout.specs.Reading.{storeOf}
 use Rattle.layout.specs.Buffer.{inForm}
 use Rattle.layout.specs.Calls.{Call, on, newOn, callOn, isOk, after}
 use Rattle.history.specs.History.{History, HappensBefore, saved, inPast}
-use Rattle.history.specs.Copies.{CopyCount, CountedAs, counted}
+use Rattle.history.specs.Copies.{CopyCount, CountedAs}
+use Rattle.history.specs.Listing.{Base, countedCopy}
 use Rattle.consistency.specs.Trace.{ReadSet, Trace, start, follow, Among}
 use Rattle.consistency.specs.Claim.{Pick, Works, Choice, isRefused, isBroken, HoldsAt, Consistent, Demand3}
 use Rattle.consistency.proofs.Rows.{after-append, follow-append, follow-buffer}
@@ -59,6 +60,9 @@ module _ (t : Trace) (H : HoldsAt t) where
   abbrev h : History
   h = t .book .history
 
+  abbrev B : Base
+  B = t .book .base
+
   pub form : So (inForm (t .buffer))
   form = H .formed
 
@@ -85,20 +89,20 @@ module _ (t : Trace) (H : HoldsAt t) where
 
   -- "A version on the desk is its copy counted": master, shelves, cards, what jobs have read
   pub master-counted : (k : ℕ) → k < K
-      → Same (s .master k) (counted K h (t .book .master k .later))
+      → Same (s .master k) (countedCopy K h B (t .book .master k))
   master-counted k l = same (H .holds .master k l)
 
   pub cache-counted : (o : ℕ) → o < s .counts .sites → (k : ℕ) → k < K
-      → Same (s .site o .cache k) (counted K h (t .book .cache o k .later))
+      → Same (s .site o .cache k) (countedCopy K h B (t .book .cache o k))
   cache-counted o l k i = same (H .holds .caches o l k i)
 
   pub snapshot-counted : (r : ℕ) → r < s .counts .runs → (k : ℕ) → k < K
       → Same (s .run r .branch .snapshot k)
-      (counted K h (t .book .run r .branch .snapshot k .later))
+      (countedCopy K h B (t .book .run r .branch .snapshot k))
   snapshot-counted r l k i = same (H .holds .snapshots r l k i)
 
   pub read-counted : (r : ℕ) (x : ReadSet) → Among x (t .finished r) → (k : ℕ) → k < K
-      → So (x .keys k) → Same (x .version k) (counted K h (x .copy k .later))
+      → So (x .keys k) → Same (x .version k) (countedCopy K h B (x .copy k))
   read-counted r x p k l q = same (H .holds .reads r x p k l q)
 
   pub master-has : (k i : ℕ) → k < K → So (saved h k i) → So (t .book .master k .later i)

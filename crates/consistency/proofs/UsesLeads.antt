@@ -16,6 +16,7 @@ use Rattle.model.proofs.Merges.{version-path, merge-both}
 use Rattle.layout.specs.Reading.{storeOf}
 use Rattle.history.specs.History.{History, HappensBefore, writerOf}
 use Rattle.history.specs.Copies.{Copy, leading}
+use Rattle.history.specs.Listing.{noBase}
 use Rattle.consistency.specs.Trace.{ReadSet, Trace, Among}
 use Rattle.consistency.specs.Leading.{Leads, LedAs, OnPlace, OnPlace.onMaster, OnPlace.onCache, OnPlace.onSnapshot, Named}
 use Rattle.consistency.specs.Claim.{HoldsAt}
@@ -42,9 +43,9 @@ leaders-rival h k c u w ne L M =
     λ e. ne (sym (L .own) ∙ ap (writerOf h) (sym e) ∙ M .own) in
     L .free (M .last) (M .included) other
 
--- ---- at a point
+-- ---- at a point of a list from new
 
-module _ (t : Trace) (H : HoldsAt t) where
+module _ (t : Trace) (H : HoldsAt t) (plain : t .book .base ≡ noBase) where
   abbrev s : Store
   s = storeOf (t .buffer)
 
@@ -70,19 +71,19 @@ module _ (t : Trace) (H : HoldsAt t) where
 
   -- On master, shelves and cards, and of what finished jobs have read.
   pub master-led : (k : ℕ) → k < K → Names k (s .master k .leaders) (t .book .master k .later)
-  master-led k l = names (H .holds .leads .led-master k l)
+  master-led k l = names (H .holds .leads plain .led-master k l)
 
   pub cache-led : (o : ℕ) → o < s .counts .sites → (k : ℕ) → k < K
       → Names k (s .site o .cache k .leaders) (t .book .cache o k .later)
-  cache-led o l k i = names (H .holds .leads .led-caches o l k i)
+  cache-led o l k i = names (H .holds .leads plain .led-caches o l k i)
 
   pub snapshot-led : (r : ℕ) → r < s .counts .runs → (k : ℕ) → k < K
       → Names k (s .run r .branch .snapshot k .leaders) (t .book .run r .branch .snapshot k .later)
-  snapshot-led r l k i = names (H .holds .leads .led-snapshots r l k i)
+  snapshot-led r l k i = names (H .holds .leads plain .led-snapshots r l k i)
 
   pub read-led : (r : ℕ) (x : ReadSet) → Among x (t .finished r) → (k : ℕ) → k < K
       → So (x .keys k) → Names k (x .version k .leaders) (x .copy k .later)
-  read-led r x p k l q = names (H .holds .leads .led-reads r x p k l q)
+  read-led r x p k l q = names (H .holds .leads plain .led-reads r x p k l q)
 
   -- Number, mask and rows say all: the shelf's version of the master's copy is the master's.
   pub cache-is-master : (o : ℕ) → o < s .counts .sites → (k : ℕ) → k < K
@@ -90,8 +91,8 @@ module _ (t : Trace) (H : HoldsAt t) where
   cache-is-master o l k i e =
       let a = H .holds .caches o l k i in
       let b = H .holds .master k i in
-      let m = H .holds .leads .led-caches o l k i .mask in
-      let n = H .holds .leads .led-master k i .mask in
+      let m = H .holds .leads plain .led-caches o l k i .mask in
+      let n = H .holds .leads plain .led-master k i .mask in
       version-path (rw e at (a .issue) ∙ sym (b .issue)) (rw e at m ∙ sym n)
       (rw e at (a .past) ∙ sym (b .past))
 
@@ -99,15 +100,15 @@ module _ (t : Trace) (H : HoldsAt t) where
   -- shelves, of a card and a shelf,
   pub master-named : (o k : ℕ) → o < s .counts .sites → k < K
       → Named W k (s .master k) (s .site o .cache k)
-  master-named o k l i = H .holds .leads .named k _ _ i onMaster (onCache o l)
+  master-named o k l i = H .holds .leads plain .named k _ _ i onMaster (onCache o l)
 
   pub caches-named : (o q k : ℕ) → o < s .counts .sites → q < s .counts .sites → k < K
       → Named W k (s .site o .cache k) (s .site q .cache k)
-  caches-named o q k l j i = H .holds .leads .named k _ _ i (onCache o l) (onCache q j)
+  caches-named o q k l j i = H .holds .leads plain .named k _ _ i (onCache o l) (onCache q j)
 
   pub snapshot-named : (r o k : ℕ) → r < s .counts .runs → o < s .counts .sites → k < K
       → Named W k (s .run r .branch .snapshot k) (s .site o .cache k)
-  snapshot-named r o k l j i = H .holds .leads .named k _ _ i (onSnapshot r l) (onCache o j)
+  snapshot-named r o k l j i = H .holds .leads plain .named k _ _ i (onSnapshot r l) (onCache o j)
 
   -- so that the merged mask is whom the two masks name.
   pub merge-by-masks : (k : ℕ) (v w : Version) → k < K → OnPlace s k v → OnPlace s k w
@@ -116,6 +117,6 @@ module _ (t : Trace) (H : HoldsAt t) where
   unfolding larger mergedLeaders
   merge-by-masks k v w l p q x y =
       let named = leadsOn (v .leaders) (v .past k) (w .leaders) (w .past k) in
-      let u = H .holds .leads .named k v w l p q x y in
+      let u = H .holds .leads plain .named k v w l p q x y in
       let some = any-intro W named (u .0) (u .1) (u .2) in
       rw (merge-both W k v w x y, set-none W named, some) refl

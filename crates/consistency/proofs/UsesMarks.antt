@@ -1,12 +1,13 @@
 -- What a reader takes out of the claim on stale marks (CR 4); nothing here knows how it is proved.
 -- mark-is: every mark is the mask. marked-..: what a set bit says. behind-marked: a copy that is
--- behind is marked. in-master: what a shelf has, the master has. look-marked: a bit is set exactly
--- if the look there doesn't end in 0. empty-fails, same-fails: what is not behind.
+-- behind is marked. in-master, row-in-master: what a shelf has, the master has. look-marked: a bit
+-- is set exactly if the look there doesn't end in 0. empty-fails, same-fails: what is not behind.
 -- Assumes nothing.
 use mathlib.Core.Path.{_≡_, refl}
 use mathlib.Core.Bool.{false, So}
-use mathlib.Core.Logic.{_↔_, _≢_}
-use Prim.Native.Nat.{ℕ, _<_}
+use mathlib.Core.Logic.{_↔_, _≢_, _⊎_, inl, inr, ⊎-elim}
+use Prim.Native.Nat.{ℕ, _≤_, _<_}
+use native.Mathlib.Omega.{arith}
 use Rattle.words.proofs.Bools.{clash, and-right}
 use Rattle.masks.specs.Mask.{testBit}
 use Rattle.clock.specs.Clock.{standingNumber}
@@ -23,11 +24,14 @@ use Rattle.consistency.specs.Claim.{IsBehind, HoldsAt}
 
 -- ---- "isn't empty and isn't the master's"
 
-pub empty-fails : (c master : BookCopy) → ((i : ℕ) → c .later i ≡ false) → ¬ (IsBehind c master)
-empty-fails c master e b = clash (b .some .1) (e (b .some .0))
+-- It has neither a later save nor an admitted one.
+pub empty-fails : (W k : ℕ) (c master : BookCopy) → ((i : ℕ) → c .later i ≡ false)
+    → ((u : ℕ) → c .rows k u ≡ 0) → ¬ (IsBehind W k c master)
+empty-fails W k c master e z b =
+    ⊎-elim (λ p. clash (p .1) (e (p .0))) (λ p. absurd (omega (arith, p .2, z (p .0)))) (b .some)
 
-pub same-fails : (c : BookCopy) → ¬ (IsBehind c c)
-same-fails c b = b .other (λ i. refl)
+pub same-fails : (W k : ℕ) (c : BookCopy) → ¬ (IsBehind W k c c)
+same-fails W k c b = b .other (λ i. refl, λ u l. refl)
 
 -- ---- at a point
 
@@ -38,22 +42,42 @@ module _ (t : Trace) (H : HoldsAt t) (o : ℕ) (ho : o < storeOf (t .buffer) .co
   pub mark-is : s .site o .stale ≡ staleMask (s .counts) (s .master) (s .site o .cache)
   mark-is = H .holds .marks-true o ho
 
+  abbrev W : ℕ
+  W = s .counts .writers
+
   module _ (k : ℕ) (hk : k < s .counts .keys) where
+    -- The shelf's copy includes what the master's does.
+    abbrev AsMaster : Type 0
+    AsMaster =
+        ((i : ℕ) → t .book .cache o k .later i ≡ t .book .master k .later i)
+        × ((u : ℕ) → u < W → t .book .cache o k .rows k u ≡ t .book .master k .rows k u)
+
+    -- It includes a later save, or an admitted one,
     pub marked-some : So (testBit (s .site o .stale) k)
-        → (i : ℕ) × So (t .book .cache o k .later i)
+        → ((i : ℕ) × So (t .book .cache o k .later i))
+        ⊎ ((u : ℕ) × (u < W) × (1 ≤ t .book .cache o k .rows k u))
     marked-some p = H .holds .marks-copies o k ho hk .0 p .some
 
-    pub marked-other : So (testBit (s .site o .stale) k)
-        → ¬ ((i : ℕ) → t .book .cache o k .later i ≡ t .book .master k .later i)
+    -- and not all that the master's does.
+    pub marked-other : So (testBit (s .site o .stale) k) → ¬ AsMaster
     marked-other p = H .holds .marks-copies o k ho hk .0 p .other
 
-    pub behind-marked : (i : ℕ) → So (t .book .cache o k .later i)
-        → ¬ ((i : ℕ) → t .book .cache o k .later i ≡ t .book .master k .later i)
+    pub behind-marked : (i : ℕ) → So (t .book .cache o k .later i) → ¬ AsMaster
         → So (testBit (s .site o .stale) k)
-    behind-marked i p n = H .holds .marks-copies o k ho hk .1 (record { some = (i, p); other = n })
+    behind-marked i p n =
+        H .holds .marks-copies o k ho hk .1 (record { some = inl (i, p); other = n })
+
+    pub admitted-marked : (u : ℕ) → u < W → 1 ≤ t .book .cache o k .rows k u → ¬ AsMaster
+        → So (testBit (s .site o .stale) k)
+    admitted-marked u l p n =
+        H .holds .marks-copies o k ho hk .1 (record { some = inr (u, l, p); other = n })
 
     pub in-master : (i : ℕ) → So (t .book .cache o k .later i) → So (t .book .master k .later i)
     in-master i p = H .holds .caches-part o k i ho hk p
+
+    pub row-in-master : (u : ℕ) → u < W
+        → t .book .cache o k .rows k u ≤ t .book .master k .rows k u
+    row-in-master u l = H .holds .caches-admitted o k u ho hk l
 
     pub look-marked : So (testBit (s .site o .stale) k)
         ↔ ((lookCause s 1 o k ≡ 0) × (standingNumber (lookStanding (s .counts .writers) k

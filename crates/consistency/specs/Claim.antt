@@ -1,13 +1,14 @@
--- Demand 3: one claim about a whole list of calls on the buffer that an accepted new left.
+-- Demand 3: one claim about a whole list of calls on the buffer that an accepted new left, or
+-- that was admitted.
 -- PastIsBefore ("stands behind"), Counted (b; masks: specs/Leading), Snapshot (c), NotAhead (no
 -- copy is ahead of the master's), IsBehind (one is behind it), Pick, Works, BreakExact (d), Holds
--- (all of it at one point of the list), Consistent.
+-- (all of it at one point of the list), Consistent; Began, Demand3, AfterAdmission.
 -- Assumes nothing.
 use mathlib.Core.Path.{_≡_}
 use mathlib.Core.Bool.{Bool, true, false, cond, So}
 use mathlib.Core.Logic.{_↔_, _⊎_}
 use mathlib.Core.List.{List, _++_}
-use Prim.Native.Nat.{ℕ, _<_}
+use Prim.Native.Nat.{ℕ, _≤_, _<_}
 use Rattle.masks.specs.Mask.{testBit}
 use Rattle.clock.specs.declared.Standing.the-variants.{Equal, Older}
 use Rattle.clock.specs.Clock.{standing}
@@ -17,17 +18,20 @@ use Rattle.model.specs.Version.{Version, held, merge, unheld, versions}
 use Rattle.model.specs.Marks.{staleMask}
 use Rattle.model.specs.Store.{Store, planned}
 use Rattle.model.specs.Outcome.{Outcome, refused, broken, done, told}
-use Rattle.model.specs.Calls.{step}
+use Rattle.model.specs.Calls.Admit.{admissible}
+use Rattle.model.specs.Calls.{step, admit, ask}
 use Rattle.model.specs.Step.{stepBranch, stepReads, stepCache, stepPlan}
 use Rattle.layout.specs.Reading.{storeOf}
 use Rattle.layout.specs.Buffer.{inForm}
 use Rattle.layout.specs.Calls.{Call, on, callOn, newOn, isOk}
 use Rattle.history.specs.History.{History, HappensBefore, saved, inPast}
-use Rattle.history.specs.Copies.{CountedAs, counted}
-use Rattle.history.specs.Listing.{BookCopy}
+use Rattle.history.specs.Copies.{CountedAs}
+use Rattle.history.specs.Listing.{Base, noBase, BookCopy, countedCopy}
+use Rattle.history.specs.Lists.{IncludesAdmitted, ListedBehind}
 use Rattle.history.specs.Book.{Book}
-use Rattle.consistency.specs.Trace.{ReadSet, Among, Trace, start, follow}
+use Rattle.consistency.specs.Trace.{ReadSet, Among, Trace, start, admitted, follow}
 use Rattle.consistency.specs.Leading.{Leading}
+use Rattle.consistency.specs.Listed.{ListsHold}
 
 -- ---- "Save s stands behind save t": what the book computes is the paper's four clauses
 
@@ -41,24 +45,27 @@ PastIsBefore K h =
 -- ---- (b) "each version on master, shelves and cards is the one that document 01's book gives"
 
 -- Number and rows; the mask stands apart (specs/Leading): together all of a version.
-abbrev pub Counted : ℕ → History → Place Version → Place BookCopy → Type 0
-Counted K h p c = (k : ℕ) → k < K → CountedAs (p k) (counted K h (c k .later))
+abbrev pub Counted : ℕ → History → Base → Place Version → Place BookCopy → Type 0
+Counted K h B p c = (k : ℕ) → k < K → CountedAs (p k) (countedCopy K h B (c k))
 
 -- The same of the keys that a finished job has read.
-abbrev pub ReadCounted : ℕ → History → ReadSet → Type 0
-ReadCounted K h x =
+abbrev pub ReadCounted : ℕ → History → Base → ReadSet → Type 0
+ReadCounted K h B x =
     (k : ℕ) → k < K → So (x .keys k)
-    → CountedAs (x .version k) (counted K h (x .copy k .later))
+    → CountedAs (x .version k) (countedCopy K h B (x .copy k))
 
 -- ---- (c) "two finished jobs of one run, at one office or two, share one causal snapshot"
 
-pub record Snapshot (K : ℕ) (h : History) (x y : ReadSet) : Type 0 where
+pub record Snapshot (K W : ℕ) (h : History) (B : Base) (x y : ReadSet) : Type 0 where
   -- "a sheet that both read is one version"
   pub one-version : (k : ℕ) → k < K → So (x .keys k) → So (y .keys k) → x .version k ≡ y .version k
   -- "each save of a sheet that either read, if by the book it stands behind anything either read,
   -- is included in the version read": for x and y in either order, and for each with itself
   pub included : (e i d j : ℕ) → e < K → d < K → So (x .keys e) → So (x .copy e .later i)
       → So (y .keys d) → HappensBefore h d j e i → So (y .copy d .later j)
+  -- CR 6: so are admitted saves, "with needs listed at admission in place of the earlier history"
+  pub listed : (e d u n : ℕ) → e < K → d < K → u < W → So (x .keys e) → So (y .keys d)
+      → ListedBehind B h (x .copy e) d u n → IncludesAdmitted d (y .copy d) u n
 
 -- ---- "which copy is ahead": never one on a shelf or card
 
@@ -70,10 +77,12 @@ NotAhead W K master p =
 
 -- ---- CR 4: "which shelf copies are behind", on copies
 
--- A shelf's copy that isn't empty and isn't the master's.
-pub record IsBehind (c master : BookCopy) : Type 0 where
-  pub some : (i : ℕ) × So (c .later i)
-  pub other : ¬ ((i : ℕ) → c .later i ≡ master .later i)
+-- A shelf's copy of key k that isn't empty and isn't the master's: by the later saves, and the
+-- admitted ones of its own row.
+pub record IsBehind (W k : ℕ) (c master : BookCopy) : Type 0 where
+  pub some : ((i : ℕ) × So (c .later i)) ⊎ ((u : ℕ) × (u < W) × IncludesAdmitted k c u 1)
+  pub other : ¬ (((i : ℕ) → c .later i ≡ master .later i)
+      × ((u : ℕ) → u < W → c .rows k u ≡ master .rows k u))
 
 -- ---- (d) "a step in the list that is not turned down breaks its run exactly if no choice .. "
 
@@ -135,29 +144,32 @@ pub record BreakExact (x : Outcome) (s : Store) (r j : ℕ) : Type 0 where
 pub record Holds (s : Store) (b : Book) (finished : ℕ → List ReadSet) : Type 0 where
   pub counts : s .counts ≡ b .counts
   pub behind : PastIsBefore (s .counts .keys) (b .history)
+  pub lists : ListsHold s b finished
   -- (a) "each shelf is a causal cut"
   pub cuts : (o : ℕ) → o < s .counts .sites
       → So (causalCut (versions (s .counts .writers)) (s .counts .keys) (s .site o .cache))
   -- (b)
-  pub master : Counted (s .counts .keys) (b .history) (s .master) (b .master)
+  pub master : Counted (s .counts .keys) (b .history) (b .base) (s .master) (b .master)
   pub caches : (o : ℕ) → o < s .counts .sites
-      → Counted (s .counts .keys) (b .history) (s .site o .cache) (b .cache o)
+      → Counted (s .counts .keys) (b .history) (b .base) (s .site o .cache) (b .cache o)
   pub snapshots : (r : ℕ) → r < s .counts .runs
-      → Counted (s .counts .keys) (b .history) (s .run r .branch .snapshot)
+      → Counted (s .counts .keys) (b .history) (b .base) (s .run r .branch .snapshot)
       (b .run r .branch .snapshot)
   pub reads : (r : ℕ) (x : ReadSet) → Among x (finished r)
-      → ReadCounted (s .counts .keys) (b .history) x
-  -- The masks.
-  pub leads : Leading s b finished
+      → ReadCounted (s .counts .keys) (b .history) (b .base) x
+  -- The masks, of a list from new: an admitted desk's are free.
+  pub leads : b .base ≡ noBase → Leading s b finished
   -- (c)
   pub shared : (r : ℕ) (x y : ReadSet) → Among x (finished r) → Among y (finished r)
-      → Snapshot (s .counts .keys) (b .history) x y
+      → Snapshot (s .counts .keys) (s .counts .writers) (b .history) (b .base) x y
   -- Besides: each card is a keyset-overlapping cut for its plan, and the master holds every save.
   pub overlaps : (r : ℕ) → r < s .counts .runs
       → So (overlappingCut (versions (s .counts .writers)) (s .counts .keys)
       (planned (s .run r .jobs) (s .run r .job)) (s .run r .branch .snapshot))
   pub every-save : (k i : ℕ) → k < s .counts .keys → So (saved (b .history) k i)
       → So (b .master k .later i)
+  -- CR 6: it would be admitted.
+  pub admissible : So (admissible s)
   -- No copy is ahead of the master's.
   pub behind-caches : (o : ℕ) → o < s .counts .sites
       → NotAhead (s .counts .writers) (s .counts .keys) (s .master) (s .site o .cache)
@@ -166,12 +178,15 @@ pub record Holds (s : Store) (b : Book) (finished : ℕ → List ReadSet) : Type
   -- A shelf's copy is a part of the master's.
   pub caches-part : (o k i : ℕ) → o < s .counts .sites → k < s .counts .keys
       → So (b .cache o k .later i) → So (b .master k .later i)
+  pub caches-admitted : (o k u : ℕ) → o < s .counts .sites → k < s .counts .keys
+      → u < s .counts .writers → b .cache o k .rows k u ≤ b .master k .rows k u
   -- CR 4: each shelf's mark is "the mask of held sheets whose own row isn't equal to the
   -- master's", and names the copies that are behind.
   pub marks-true : (o : ℕ) → o < s .counts .sites
       → s .site o .stale ≡ staleMask (s .counts) (s .master) (s .site o .cache)
   pub marks-copies : (o k : ℕ) → o < s .counts .sites → k < s .counts .keys
-      → So (testBit (s .site o .stale) k) ↔ IsBehind (b .cache o k) (b .master k)
+      → So (testBit (s .site o .stale) k)
+      ↔ IsBehind (s .counts .writers) k (b .cache o k) (b .master k)
 
 -- At a point: the buffer is in form too, so that a store that spoils itself and then refuses all
 -- won't do. (d) is about the step as a call on that buffer.
@@ -186,8 +201,23 @@ pub record HoldsAt (t : Trace) : Type 0 where
 abbrev pub Consistent : List Call → Trace → Type 0
 Consistent cs t = (sofar rest : List Call) → cs ≡ sofar ++ rest → HoldsAt (follow sofar t)
 
+-- How a list may begin: on what an accepted new left, or on a buffer that was admitted (CR 6).
+pub data Began : Trace → Type 0 where
+  byNew : (l : List ℕ) (z : Counts) → So (isOk (newOn l z)) → Began (start z l)
+  byAdmission : (l : List ℕ) → So (isOk (callOn (on (ask admit)) l)) → Began (admitted l)
+
+-- One claim for both.
+abbrev pub BeganConsistent : Type 0
+BeganConsistent = (t : Trace) → Began t → (cs : List Call) → Consistent cs t
+
 -- Demand 3, for every list of calls after an accepted new, on any buffer.
 abbrev pub Demand3 : Type 0
 Demand3 =
     (l : List ℕ) (z : Counts) → So (isOk (newOn l z))
     → (cs : List Call) → Consistent cs (start z l)
+
+-- CR 6: "After admission, cuts and snapshots hold for later calls as on a new desk".
+abbrev pub AfterAdmission : Type 0
+AfterAdmission =
+    (l : List ℕ) → So (isOk (callOn (on (ask admit)) l))
+    → (cs : List Call) → Consistent cs (admitted l)

@@ -1,11 +1,13 @@
 -- A list of calls followed: the buffer, the book beside it, and what the finished jobs of each
 -- run have read.
--- ReadSet; Among: one of a list of them. Trace, start, advance, follow.
+-- ReadSet; Among: one of a list of them. Trace; start, admitted: how a list begins; advance,
+-- follow.
 -- Assumes nothing.
 use mathlib.Core.Bool.{cond}
 use mathlib.Core.List.{List, [], _∷_}
 use mathlib.Core.Option.{none, some}
 use Prim.Native.Nat.{ℕ}
+use lib.Dec.{ltb}
 use Rattle.words.specs.Tests.{Items}
 use Rattle.words.specs.Lists.{putAt}
 use Rattle.masks.specs.Mask.{testBit}
@@ -17,6 +19,7 @@ use Rattle.layout.specs.Reading.{storeOf}
 use Rattle.layout.specs.Calls.{Call, new, on, callOn, leaves, isOk, newOn}
 use Rattle.history.specs.Listing.{BookCopy}
 use Rattle.history.specs.Book.{Book, freshBook, bookStep}
+use Rattle.history.specs.Admission.{admittedPlace, admittedBook}
 use Rattle.consistency.specs.Roles.{Role, opening, working, freeing, elsewhere, roleOf}
 
 -- "A job whose step is answered ok is finished and has read its sheets, as that step left them on
@@ -40,6 +43,22 @@ pub record Trace : Type 0 where
 -- "The list starts on what an accepted new left."
 unfoldable pub start : Counts → List ℕ → Trace
 start z l = record { buffer = leaves (newOn l z) l; book = freshBook z; finished = λ r. [] }
+
+-- What run r of an admitted store has read counts as read by one finished job (CR 6).
+unfoldable pub admittedReads : Store → ℕ → List ReadSet
+admittedReads s r =
+    let a = s .run r .branch in
+    cond (ltb r (s .counts .runs)) (record {
+      keys = testBit (a .read);
+      version = a .snapshot;
+      copy = admittedPlace (a .snapshot);
+    } ∷ []) []
+
+-- A list that starts on a buffer that was admitted.
+unfoldable pub admitted : List ℕ → Trace
+admitted l =
+    let s = storeOf l in
+    record { buffer = l; book = admittedBook s; finished = admittedReads s }
 
 -- Run r's snapshot for the keys that its job j reads.
 unfoldable pub readNow : ℕ → ℕ → Store → Book → ReadSet

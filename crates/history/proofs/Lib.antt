@@ -10,4 +10,17 @@ pub mod Entered
 pub mod Leading
 pub mod LeadingJoined
 pub mod LeadingUnion
+pub mod Shifts
+pub mod Lists
+pub mod Listed
+pub mod Carrying
+pub mod Plain
+pub mod Listing
+pub mod ListingMeets
+pub mod ListingMerged
+pub mod BookWrites
+pub mod ListingEntered
+pub mod ListingIssued
+pub mod Admitted
+pub mod Bases
 pub mod Scripted

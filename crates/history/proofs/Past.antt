@@ -1,5 +1,5 @@
 -- Laws of histories: the issue on top, those below it, and the computed past.
--- writerOf-, saved-, readBy-, past- with top or low: at the issue on top, or below it.
+-- writerOf-, saved-, readBy-, rows-, past- with top or low: at the issue on top, or below it.
 -- leads-: what comes straight before the issue on top. topPast: its past, and the ways into it.
 -- past-laws: the laws that later proofs use.
 -- Assumes nothing.
@@ -15,7 +15,7 @@ use lib.ListN.{length}
 use Rattle.words.specs.Tests.{Items, anyBelow}
 use Rattle.words.proofs.Bools.{test, _∙˙_, and-intro, and-left, and-right, or-left, or-right, or-cases, eqb-eq, eq-eqb, ne-eqb}
 use Rattle.words.proofs.Tests.{below-cases, any-intro, any-some}
-use Rattle.history.specs.History.{Issue, History, writerOf, saved, readBy, leads, inPast}
+use Rattle.history.specs.History.{Issue, History, writerOf, saved, readBy, rowsOf, leads, inPast}
 use Rattle.history.proofs.Notions.{PastLaws}
 
 -- ---- the issue on top, and those below it
@@ -62,6 +62,14 @@ saved-below (e ∷ h) d i p =
     (λ n. omega (arith, saved-below h d i (rw n at p)))
 
 -- Only issues of the history have read.
+pub rows-top : (e : Issue) (h : History) → rowsOf (e ∷ h) (length h) ≡ e .rows
+unfolding rowsOf
+rows-top e h = at-top (length h) _ _
+
+pub rows-low : (e : Issue) (h : History) (i : ℕ) → i < length h → rowsOf (e ∷ h) i ≡ rowsOf h i
+unfolding rowsOf
+rows-low e h i l = below-top i (length h) _ _ l
+
 pub readBy-below : (h : History) (i d j : ℕ) → So (readBy h i d j) → i < length h
 unfolding readBy
 readBy-below [] i d j p = absurd (false≢true p)

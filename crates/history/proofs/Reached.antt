@@ -4,19 +4,18 @@
 -- copy-..: held, needs and meets as statements.
 -- Assumes nothing.
 use mathlib.Core.Path.{_≡_, _∙_, fun-ext}
-use mathlib.Core.Bool.{Bool, false, not, _&&_, _||_, So, false≢true}
+use mathlib.Core.Bool.{false, _&&_, _||_, So, false≢true}
 use mathlib.Core.Logic.{inl, inr, _↔_, _≢_}
 use Prim.Native.Nat.{ℕ, _≤_, _<_}
 use native.Mathlib.Omega.{arith}
-use lib.Dec.{eqb}
 use lib.ListN.{length}
-use Rattle.words.specs.Tests.{Items, Within, anyBelow, none}
-use Rattle.words.proofs.Bools.{test, clash, same-test, _∙˙_, and-intro, and-left, and-right, or-left, or-right, or-cases, or-false-right, not-intro, not-elim, ne-eqb, eqb-ne}
+use Rattle.words.specs.Tests.{Items, Within, none}
+use Rattle.words.proofs.Bools.{test, clash, same-test, _∙˙_, and-intro, and-left, and-right, or-left, or-right, or-cases, or-false-right}
 use Rattle.words.proofs.Tests.{any-intro, any-some, all-intro, all-at}
 use Rattle.model.specs.Algebra.{implies}
 use Rattle.model.proofs.Cuts.{implies-in, implies-out}
 use Rattle.history.specs.History.{History, writerOf, saved, inPast}
-use Rattle.history.specs.Copies.{Copy, reaches, heldCopy, needsCopy, meetsCopy, union}
+use Rattle.history.specs.Copies.{Copy, reaches, heldCopy, meetsCopy, union}
 use Rattle.history.proofs.Notions.{PastLaws, Good}
 
 module _ (K : ℕ) (h : History) where
@@ -74,28 +73,6 @@ module _ (K : ℕ) (h : History) where
   pub copy-held : (c : Copy) → So (heldCopy K h c) ↔ ((i : ℕ) × (i < length h) × So (c i))
   unfolding heldCopy
   copy-held c = (any-some (length h) c, λ r. any-intro (length h) c (r .0) (r .1) (r .2))
-
-  pub copy-needs : (k : ℕ) (c : Copy) (d : ℕ)
-      → So (needsCopy K h k c d) ↔ (d ≢ k) × (j : ℕ) × (j < length h) × So (reaches K h c d j)
-  unfolding needsCopy
-  copy-needs k c d = (there, back)
-    where
-      s : Items
-      s = reaches K h c d
-
-      other : Bool
-      other = not (eqb d k)
-
-      there : So (other && anyBelow (length h) s) → (d ≢ k) × (j : ℕ) × (j < length h) × So (s j)
-      there p =
-          let ne = eqb-ne d k (not-elim (and-left other (anyBelow (length h) s) p)) in
-          let r = any-some (length h) s (and-right other (anyBelow (length h) s) p) in
-          (ne, r .0, r .1, r .2)
-
-      back : (d ≢ k) × (j : ℕ) × (j < length h) × So (s j) → So (other && anyBelow (length h) s)
-      back r =
-          let ne : So other = not-intro (ne-eqb d k (r .0)) in
-          and-intro ne (any-intro (length h) s (r .1) (r .2) (r .3))
 
   pub copy-meets : (d : ℕ) (b c : Copy)
       → So (meetsCopy K h d b c) ↔ Within (length h) (reaches K h c d) b

@@ -1,7 +1,7 @@
 -- Scripts through store and book: after each call each version is its copy counted, and its mask
 -- names who leads in it.
 -- tabled, keptBook: a function, a book written down.
--- follows: the test. followed: the test after each call of a list.
+-- follows: the test. followed: the test after each call of a list; from-new, from-admitted.
 -- Assumes nothing.
 use mathlib.Core.Path.{_≡_, refl}
 use mathlib.Core.Bool.{Bool, true, false, _&&_}
@@ -18,7 +18,7 @@ use Rattle.reach.specs.Closure.{closure, rounds, round}
 use Rattle.clock.specs.Clock.{exceeds, standing, dominates, present, join}
 use Rattle.sizes.specs.Bounds.{countsOf, between, pastSize, versionSize, placeSize, siteSize, writerSize, runSize, masterAt, sitesAt, writersAt, runsAt, tailSize, tailAt, totalOf}
 use Rattle.sizes.specs.declared.Counts.{Counts}
-use Rattle.model.specs.Algebra.{Place, lacking}
+use Rattle.model.specs.Algebra.{Place, implies, lacking, needsMet, causalCut, overlappingCut}
 use Rattle.model.specs.Version.{Version, held, dependency, supersedes, leadsOn, mergedLeaders, larger, merge}
 use Rattle.model.specs.Sets.{draws, drawSet, fetchSet, fetched, unfetchable, evictSet, evicted, pullSet, pulled}
 use Rattle.model.specs.Store.{Store, fresh, planned, withMaster, withLast, withSites, withCache, siteWith, withMarks, withCaches, withWriter, withRun, withState, withSnapshot, withJobDone}
@@ -30,16 +30,21 @@ use Rattle.model.specs.Prepare.{jobStart, fetchReads, preparedCaches, unprepara
 use Rattle.model.specs.Step.{readStart, stepSite, stepReads, stepStart, stepFetch, stepCache, stepPlan, stepPull, stepSnapshot, stepMoved, jobLimit, notReady, jobCause, stepCause, stepBroken, stepDone, stepRule}
 use Rattle.model.specs.Issue.{raiseCause, issueCause, takenIn, rowsSet, newPast, newVersion, issuedMaster, issuedWriter, savedStore, issuedStore, issuedNumber, issueDone, issueRule}
 use Rattle.model.specs.Calls.Look.{lookPlace, lookLimit, lookCause, rowNumbers, lookStanding, lookNumbers, lookReply}
-use Rattle.model.specs.Calls.{StoreCall, fetch, replyOf, ruleOf}
+use Rattle.model.specs.Calls.Explain.{breaks, explainReply}
+use Rattle.model.specs.Calls.Admit.{everyPlace, everyVersion, everyPast, causalCuts, overlappingCuts, masterCovers, countsWithin, numberWithin, admissible, admitCause, admitReply}
+use Rattle.model.specs.Calls.{StoreCall, fetch, step, issue, replyOf, ruleOf}
 use Rattle.model.proofs.Outcomes.{nextStore}
 use Rattle.model.proofs.Scripts.{saving, case-a-script, longer-script, reading-script}
+use Rattle.model.proofs.Computed.Admit.{listed, listed-calls, broken-calls, written, past-calls}
 use Rattle.model.proofs.Leaders.{rival-script, second-script, chained-script}
 use Rattle.layout.specs.Words.{clockWords, pastWords, versionWords, placeWords, siteWords, sitesWords, writerWords, writersWords, jobWords, jobsWords, runWords, runsWords, tailWords, headerWords, storeWords}
 use Rattle.layout.specs.Reading.{readClock, readPast, readVersion, readPlace, readSite, readWriter, readJob, readJobs, readRun, readTail, countsIn, storeOf}
 use Rattle.layout.specs.Calls.{on, isOk}
 use Rattle.history.specs.History.{Issue, writerOf, leads, inPast}
 use Rattle.history.specs.Copies.{Copy, reaches, heldCopy, needsCopy, meetsCopy, union, lastIn, byWriter, counted, lastBy, behindOther, leading}
-use Rattle.history.specs.Listing.{BookCopy, plainCopy, heldBook, mergeBook, needsBook, meetsBook}
+use Rattle.history.specs.Listing.{BookCopy, plainCopy, heldBook, mergeBook, needsBook, meetsBook, readCopy, shift, countedCopy}
+use Rattle.history.specs.Lists.{writerList, listOf}
+use Rattle.history.specs.Admission.{baseOf, admittedRun, admittedBook}
 use Rattle.history.specs.Book.{BookRun, Book, noCopies, noRun, freshBook, withBookCaches, withBookRun, bookOpen, bookFetch, bookEvict, bookPrepare, bookStepJob, entry, bookIssue, bookIssued, bookRule, bookOk, bookStep}
 
 -- ---- a book written down: copies are functions, built on those before each call, and would be
@@ -65,13 +70,19 @@ abbrev pub keptSets : ℕ → ℕ → Place Copy → Place Copy
 keptSets K n p = tabled K none (λ k. tabled n false (p k))
 
 abbrev pub keptPlace : ℕ → ℕ → Place BookCopy → Place BookCopy
-keptPlace K n p = tabled K (plainCopy none) (λ k. plainCopy (tabled n false (p k .later)))
+keptPlace K n p =
+    tabled K (plainCopy none) (λ k. record {
+      later = tabled n false (p k .later);
+      rows = p k .rows;
+      number = p k .number;
+    })
 
 abbrev pub keptIssue : ℕ → ℕ → Issue → Issue
 keptIssue K n e = record {
   writer = e .writer;
   keys = tabled K false (e .keys);
   read = keptSets K n (e .read);
+  rows = e .rows;
 }
 
 abbrev pub keptRun : ℕ → ℕ → BookRun → BookRun
@@ -91,6 +102,7 @@ keptBook b =
     let n = length (b .history) in
     record {
       counts = z;
+      base = b .base;
       history = map (keptIssue K n) (b .history);
       master = keptPlace K n (b .master);
       cache = tabled (z .sites) noCopies (λ o. keptPlace K n (b .cache o));
@@ -99,38 +111,46 @@ keptBook b =
 
 -- ---- the test
 
--- A version of key k has the number and the rows of its copy, and its mask names who leads in it.
-abbrev pub isCopy : Book → ℕ → Version → BookCopy → Bool
-isCopy b k v c =
+-- A version of key k has the number and the rows of its copy, and its mask, if masks are asked,
+-- names who leads in it.
+abbrev pub isCopy : Bool → Book → ℕ → Version → BookCopy → Bool
+isCopy masks b k v c =
     let z = b .counts in
-    let n = counted (z .keys) (b .history) (c .later) in
+    let n = countedCopy (z .keys) (b .history) (b .base) c in
     eqb (v .issue) (n .issue)
-    && (eqb (v .leaders) (maskBelow (z .writers) (leading (z .keys) (b .history) k (c .later)))
+    && (implies masks
+    (eqb (v .leaders) (maskBelow (z .writers) (leading (z .keys) (b .history) k (c .later))))
     && allBelow (z .keys) (λ d. allBelow (z .writers) (λ w. eqb (v .past d w) (n .past d w))))
 
 -- Each version of a place is its copy.
-abbrev pub areCopies : Book → Place Version → Place BookCopy → Bool
-areCopies b p c = allBelow (b .counts .keys) (λ k. isCopy b k (p k) (c k))
+abbrev pub areCopies : Bool → Book → Place Version → Place BookCopy → Bool
+areCopies masks b p c = allBelow (b .counts .keys) (λ k. isCopy masks b k (p k) (c k))
 
 -- On master, caches and snapshots.
-abbrev pub follows : Store → Book → Bool
-follows s b =
-    areCopies b (s .master) (b .master)
-    && (allBelow (b .counts .sites) (λ o. areCopies b (s .site o .cache) (b .cache o))
+abbrev pub follows : Bool → Store → Book → Bool
+follows masks s b =
+    areCopies masks b (s .master) (b .master)
+    && (allBelow (b .counts .sites) (λ o. areCopies masks b (s .site o .cache) (b .cache o))
     && allBelow (b .counts .runs) (λ r.
-    areCopies b (s .run r .branch .snapshot) (b .run r .branch .snapshot)))
+    areCopies masks b (s .run r .branch .snapshot) (b .run r .branch .snapshot)))
 
 -- After each call. The store is written down as its words (crate layout, `store-back`: the same).
-abbrev pub followed : List StoreCall → Store → Book → Bool
-followed [] s b = true
-followed (c ∷ cs) s b =
+abbrev pub followed : Bool → List StoreCall → Store → Book → Bool
+followed masks [] s b = true
+followed masks (c ∷ cs) s b =
     let x = ruleOf c s in
     let t = storeOf (storeWords (nextStore x s)) in
     let d = keptBook (bookStep (on c) (isOk x) b) in
-    follows t d && followed cs t d
+    follows masks t d && followed masks cs t d
 
 abbrev pub from-new : Counts → List StoreCall → Bool
-from-new z cs = followed cs (fresh z) (freshBook z)
+from-new z cs = followed true cs (fresh z) (freshBook z)
+
+-- CR 6: from an admission, where masks are free.
+abbrev pub from-admitted : Store → List StoreCall → Bool
+from-admitted s cs =
+    let b = keptBook (admittedBook s) in
+    admissible s && (follows false s b && followed false cs s b)
 
 -- ---- the scripts
 
@@ -150,6 +170,14 @@ pub record Scripted : Type 0 where
   pub seen-first : from-new (countsOf 1 2 2 1) (second-script 1) ≡ true
   pub unseen-first : from-new (countsOf 1 2 2 1) (second-script 0) ≡ true
   pub chained : from-new (countsOf 2 3 1 1) chained-script ≡ true
+  -- CR 6: lists aren't chained through another copy's, in a step or an issue (sheet 2 lists 1, and
+  -- 1 lists 0 at 2), but its own has all; the writer's past stands behind its next issue, its own
+  -- earlier saves don't.
+  pub not-chained : from-admitted (listed 0) listed-calls ≡ true
+  pub not-followed : from-admitted (listed 0) (step 0 1 ∷ issue 0 0 4 ∷ []) ≡ true
+  pub in-its-list : from-admitted (listed 2) broken-calls ≡ true
+  pub past-listed : from-admitted written (past-calls 1) ≡ true
+  pub past-empty : from-admitted written (past-calls 0) ≡ true
 
 pub scripted : Scripted
 unfolding anyBelow allBelow only foldBelow countBelow largest when putAt upto blocks testBit
@@ -158,24 +186,25 @@ unfolding anyBelow allBelow only foldBelow countBelow largest when putAt upto bl
     writersAt runsAt tailSize tailAt totalOf lacking held dependency supersedes leadsOn
     mergedLeaders larger merge draws drawSet fetchSet fetched unfetchable evictSet evicted
     pullSet pulled fresh planned withMaster withLast withSites withCache siteWith withMarks
-    withCaches withWriter
-    withRun withState withSnapshot withJobDone validJob refuse unless allowed runCause
-    fetchCause fetchDone fetchRule evictCause evictDone evictRule listedJob listedCount
-    listedJobs listValid openCause openedRun openDone openRule dropCause dropDone dropRule
-    jobStart fetchReads preparedCaches unpreparable usesSite sitesMerged siteCaches prepareCause
-    prepareCaches prepareSnapshot prepareDone prepareRule readStart stepSite stepReads stepStart
-    stepFetch stepCache stepPlan stepPull stepSnapshot stepMoved jobLimit notReady jobCause
-    stepCause stepBroken stepDone stepRule raiseCause issueCause takenIn rowsSet newPast
-    newVersion issuedMaster issuedWriter savedStore issuedStore issuedNumber issueDone issueRule
-    lookPlace lookLimit lookCause rowNumbers lookStanding lookNumbers lookReply replied replyOf
-    ruleOf clockWords pastWords versionWords placeWords siteWords sitesWords writerWords
-    writersWords jobWords jobsWords runWords runsWords tailWords headerWords storeWords
-    readClock readPast readVersion readPlace readSite readWriter readJob readJobs readRun
-    readTail countsIn storeOf isOk writerOf leads inPast reaches heldCopy needsCopy meetsCopy
-    union heldBook mergeBook needsBook meetsBook lastIn byWriter counted lastBy behindOther
-    leading freshBook withBookCaches
-    withBookRun bookOpen bookFetch bookEvict bookPrepare bookStepJob entry bookIssue bookIssued
-    bookRule bookOk bookStep
+    withCaches withWriter withRun withState withSnapshot withJobDone validJob refuse unless
+    allowed runCause fetchCause fetchDone fetchRule evictCause evictDone evictRule listedJob
+    listedCount listedJobs listValid openCause openedRun openDone openRule dropCause dropDone
+    dropRule jobStart fetchReads preparedCaches unpreparable usesSite sitesMerged siteCaches
+    prepareCause prepareCaches prepareSnapshot prepareDone prepareRule readStart stepSite
+    stepReads stepStart stepFetch stepCache stepPlan stepPull stepSnapshot stepMoved jobLimit
+    notReady jobCause stepCause stepBroken stepDone stepRule raiseCause issueCause takenIn
+    rowsSet newPast newVersion issuedMaster issuedWriter savedStore issuedStore issuedNumber
+    issueDone issueRule lookPlace lookLimit lookCause rowNumbers lookStanding lookNumbers
+    lookReply replied replyOf ruleOf clockWords pastWords versionWords placeWords siteWords
+    sitesWords writerWords writersWords jobWords jobsWords runWords runsWords tailWords
+    headerWords storeWords readClock readPast readVersion readPlace readSite readWriter readJob
+    readJobs readRun readTail countsIn storeOf isOk writerOf leads inPast reaches heldCopy
+    needsCopy meetsCopy union heldBook mergeBook needsBook meetsBook readCopy shift countedCopy
+    writerList listOf lastIn byWriter counted lastBy behindOther leading freshBook
+    withBookCaches withBookRun bookOpen bookFetch bookEvict bookPrepare bookStepJob entry
+    bookIssue bookIssued bookRule bookOk bookStep needsMet causalCut overlappingCut everyPlace
+    everyVersion everyPast causalCuts overlappingCuts masterCovers countsWithin numberWithin
+    admissible admitCause admitReply breaks explainReply baseOf admittedRun admittedBook
 scripted = record {
   later = refl;
   reading = refl;
@@ -185,4 +214,9 @@ scripted = record {
   seen-first = refl;
   unseen-first = refl;
   chained = refl;
+  not-chained = refl;
+  not-followed = refl;
+  in-its-list = refl;
+  past-listed = refl;
+  past-empty = refl;
 }

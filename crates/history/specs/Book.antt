@@ -21,7 +21,8 @@ use Rattle.model.specs.Step.{readStart}
 use Rattle.model.specs.Calls.{StoreCall, openRun, fetch, evict, prepare, step, issue, dropRun, ask}
 use Rattle.layout.specs.Calls.{Call, new, on}
 use Rattle.history.specs.History.{Issue, History, inPast}
-use Rattle.history.specs.Listing.{BookCopy, plainCopy, mergeBook, bookCopies}
+use Rattle.history.specs.Listing.{Base, noBase, BookCopy, plainCopy, mergeBook, bookCopies, readCopy}
+use Rattle.history.specs.Lists.{listOf}
 
 -- "read sheets", and the card's copies.
 pub record BookBranch : Type 0 where
@@ -34,8 +35,10 @@ pub record BookRun : Type 0 where
   pub job : ℕ → Job
   pub branch : BookBranch
 
+-- base: what was admitted, if the book began so (CR 6).
 pub record Book : Type 0 where
   pub counts : Counts
+  pub base : Base
   pub history : History
   pub master : Place BookCopy
   pub cache : ℕ → Place BookCopy
@@ -54,6 +57,7 @@ noRun = record { jobs = 0; job = noJobs; branch = noBookBranch }
 unfoldable pub freshBook : Counts → Book
 freshBook z = record {
   counts = z;
+  base = noBase;
   history = [];
   master = noCopies;
   cache = λ o. noCopies;
@@ -63,6 +67,7 @@ freshBook z = record {
 unfoldable pub withBookCaches : Book → (ℕ → Place BookCopy) → Book
 withBookCaches b f = record {
   counts = b .counts;
+  base = b .base;
   history = b .history;
   master = b .master;
   cache = f;
@@ -72,6 +77,7 @@ withBookCaches b f = record {
 unfoldable pub withBookRun : Book → ℕ → BookRun → Book
 withBookRun b r x = record {
   counts = b .counts;
+  base = b .base;
   history = b .history;
   master = b .master;
   cache = b .cache;
@@ -138,23 +144,29 @@ bookStepJob r j b =
 
 -- ---- issue
 
--- "writer, mask, the copies its run had read"
+-- "writer, mask, the copies its run had read"; CR 6: lists "pass on by .. reading".
 unfoldable pub entry : ℕ → ℕ → ℕ → Book → Issue
-entry r w S b = record {
-  writer = w;
-  keys = testBit S;
-  read = λ k i. b .run r .branch .read k && b .run r .branch .snapshot k .later i;
-}
+entry r w S b =
+    let a = b .run r .branch in
+    record {
+      writer = w;
+      keys = testBit S;
+      read = λ k i. a .read k && a .snapshot k .later i;
+      rows = readCopy (b .counts .keys) (a .read) (a .snapshot) .rows;
+    }
 
 -- "for each k in S the master's copy takes in what the new version includes": "its own save and
--- all saves of its sheet behind it"
+-- all saves of its sheet behind it"; CR 6: lists "pass on by .. issue".
 unfoldable pub bookIssue : ℕ → ℕ → ℕ → Book → Book
 bookIssue r w S b =
     let K = b .counts .keys in
     let h = entry r w S b ∷ b .history in
-    let new : Place BookCopy = λ k. plainCopy (inPast K h (length (b .history)) k) in
+    let i = length (b .history) in
+    let new : Place BookCopy =
+    λ k. record { later = inPast K h i k; rows = listOf (b .base) h i; number = 0 } in
     record {
       counts = b .counts;
+      base = b .base;
       history = h;
       master = λ k. cond (testBit S k) (mergeBook K h (b .master k) (new k)) (b .master k);
       cache = b .cache;

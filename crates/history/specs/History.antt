@@ -1,6 +1,6 @@
 -- The history of issues, and what happens before a write (document 01: "save", "stands behind").
--- Issue, History; writerOf, saved, readBy: what stands in it. HappensBefore: the paper's four
--- clauses. inPast: the same, computed (proofs/Behind has the equivalence).
+-- Issue, History; writerOf, saved, readBy, rowsOf: what stands in it. HappensBefore: the paper's
+-- four clauses. inPast: the same, computed (proofs/Behind has the equivalence).
 -- A write ("save") is a key in an issue. Issues are told by position, counted from 0: issue
 -- number i + 1 is at i.
 -- Assumes nothing.
@@ -12,12 +12,16 @@ use Prim.Native.Nat.{ℕ, _<_}
 use lib.Dec.{eqb}
 use lib.ListN.{length}
 use Rattle.words.specs.Tests.{Items, anyBelow}
+use Rattle.clock.specs.Clock.{Clock}
+use Rattle.model.specs.Version.{zeroPast}
 
 -- Writer, mask, and for each key the copy that the issue's run had read: the issues of its writes.
+-- rows: what those copies include and list of the saves that were admitted (CR 6; specs/Listing).
 pub record Issue : Type 0 where
   pub writer : ℕ
   pub keys : Items
   pub read : ℕ → Items
+  pub rows : ℕ → Clock
 
 -- Newest first.
 abbrev pub History : Type 0
@@ -38,6 +42,11 @@ saved (e ∷ h) d i = cond (eqb i (length h)) (e .keys d) (saved h d i)
 unfoldable pub readBy : History → ℕ → ℕ → Items
 readBy [] i d j = false
 readBy (e ∷ h) i d j = cond (eqb i (length h)) (e .read d j) (readBy h i d j)
+
+-- The run of issue i had read copies with these rows.
+unfoldable pub rowsOf : History → ℕ → ℕ → Clock
+rowsOf [] i = zeroPast
+rowsOf (e ∷ h) i = cond (eqb i (length h)) (e .rows) (rowsOf h i)
 
 -- ---- "Save s stands behind save t": s is the write of key d in issue j, t that of key e in
 -- issue i

@@ -8,7 +8,7 @@ use mathlib.Core.Option.{none, some}
 use lib.ListN.{replicate}
 use Rattle.text.specs.Bytes.{bytesOf, sameBytes}
 use Rattle.text.specs.Fields.{inFirst, fieldsOf, digitsOnly, valueFrom, isEmpty, numberOf, numberBefore, numbersOf}
-use Rattle.model.specs.Calls.{openRun, fetch, evict, prepare, step, issue, dropRun, ask, look}
+use Rattle.model.specs.Calls.{openRun, fetch, evict, prepare, step, issue, dropRun, ask, look, admit}
 use Rattle.layout.specs.Calls.{new, on}
 use Rattle.lines.specs.Grammar.{formOf, takes, calling, asked, fieldsCall, lineCall}
 
@@ -48,16 +48,17 @@ case-lines = (
   refl,
 )
 
--- Zeros in front, the largest number, an open with any count of numbers.
+-- Zeros in front, the largest number, an open with any count of numbers, an admit with none.
 pub read-lines :
     (lineCall (bytesOf "fetch 000 00") ≡ some (on (fetch 0 0)))
     × (lineCall (bytesOf "fetch 0 4294967295") ≡ some (on (fetch 0 4294967295)))
     × (lineCall (bytesOf "fetch 0 0004294967295") ≡ some (on (fetch 0 4294967295)))
     × (lineCall (bytesOf "open 0") ≡ some (on (openRun 0 [])))
     × (lineCall (bytesOf "open 1 7") ≡ some (on (openRun 1 (7 ∷ []))))
+    × (lineCall (bytesOf "admit") ≡ some (on (ask admit)))
 unfolding lineCall fieldsCall fieldsOf inFirst asked formOf sameBytes takes calling numbersOf
     numberBefore numberOf isEmpty digitsOnly valueFrom
-read-lines = (refl, refl, refl, refl, refl)
+read-lines = (refl, refl, refl, refl, refl, refl)
 
 -- An empty line, spaces too many, a number too large, and what is no number.
 pub unread-lines :
@@ -83,9 +84,11 @@ pub unread-calls :
     × (lineCall (bytesOf "Fetch 0 0") ≡ none)
     × (lineCall (bytesOf "drop\t0") ≡ none)
     × (lineCall (bytesOf "7") ≡ none)
+    × (lineCall (bytesOf "admit 0") ≡ none)
+    × (lineCall (bytesOf "admit ") ≡ none)
 unfolding lineCall fieldsCall fieldsOf inFirst asked formOf sameBytes takes calling numbersOf
     numberBefore numberOf isEmpty digitsOnly valueFrom
-unread-calls = (refl, refl, refl, refl, refl, refl, refl, refl)
+unread-calls = (refl, refl, refl, refl, refl, refl, refl, refl, refl, refl)
 
 -- A word alone reaches the table: each command needs a number.
 pub bare-words :

@@ -31,7 +31,7 @@ struct Row {
 }
 
 // How many commands there are.
-const COMMANDS: usize = 11;
+const COMMANDS: usize = 12;
 
 // The commands: a command's number is its row's. Document 01's nine, then the later ones.
 const ROWS: [Row; COMMANDS] = [
@@ -89,6 +89,11 @@ const ROWS: [Row; COMMANDS] = [
         word: *b"stale   ",
         least: 1,
         most: 1,
+    },
+    Row {
+        word: *b"admit   ",
+        least: 0,
+        most: 0,
     },
 ];
 
@@ -156,6 +161,7 @@ fn later_command(number: usize, numbers: &[u32], n: usize) -> Command
     match number {
         9 => Command::Explain(a, b),
         10 => Command::Stale(a),
+        11 => Command::Admit,
         _ => Command::Unread,
     }
 }

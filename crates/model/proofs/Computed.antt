@@ -20,6 +20,7 @@ use Rattle.model.specs.Store.{fresh, planned, doneReads, siteWith, withM
 use Rattle.model.specs.Form.{zeroRows, zeroVersion, leadersFormed, versionFormed, placeFormed, validJob, zeroJob, freeFormed, jobsFormed, masksFormed, snapshotFormed, runFormed, siteFormed, wellFormed}
 use Rattle.model.specs.Marks.{isStale, staleMask}
 use Rattle.model.specs.Calls.Stale.{staleCause, staleReply}
+use Rattle.model.specs.Calls.Admit.{everyPlace, everyVersion, everyPast, causalCuts, overlappingCuts, masterCovers, countsWithin, numberWithin, admissible, admitCause, admitReply}
 use Rattle.model.specs.Outcome.{answer, refuse, unless, replied, allowed, runCause}
 use Rattle.model.specs.Caches.{fetchCause, fetchDone, fetchRule, evictCause, evictDone, evictRule}
 use Rattle.model.specs.Runs.{listedJob, listedCount, listedJobs, listValid, openCause, openedRun, openDone, openRule, dropCause, dropDone, dropRule}
@@ -36,10 +37,12 @@ use Rattle.model.proofs.Leaders as leaders
 use Rattle.model.proofs.Computed.Stale as stales
 use Rattle.model.proofs.Computed.Explain as explained
 use Rattle.model.proofs.Computed.Orders as ordered
+use Rattle.model.proofs.Computed.Admit as admits
 pub mod Look
 pub mod Explain
 pub mod Stale
 pub mod Orders
+pub mod Admit
 
 -- The ten marked readings pass, and each script is answered as it should be, answer by answer.
 pub record Computed : Type 0 where
@@ -115,6 +118,13 @@ pub record Computed : Type 0 where
       (fresh (countsOf 3 4 2 2)) ≡ ordered.shelf-answers
   pub full : ordered.full-told ≡ ordered.full-answers
   pub cards : ordered.cards ≡ replicate 6 true
+  pub admitted : admits.taken ≡ replicate 5 true
+  pub not-admitted : admits.turned-down ≡ replicate 9 true
+  pub unchained : answers admits.listed-calls (admits.listed 0) ≡ admits.listed-answers
+  pub unchained-rows : admits.listed-rows ≡ replicate 2 true
+  pub listed-twice : answers admits.broken-calls (admits.listed 2) ≡ admits.broken-answers
+  pub past-kept : answers (admits.past-calls 1) admits.written ≡ admits.past-answers
+  pub own-past : answers (admits.past-calls 0) admits.written ≡ admits.own-answers
 
 pub computed : Computed
 unfolding needsMet causalCut overlappingCut concurrent doneReads zeroRows zeroVersion
@@ -136,7 +146,8 @@ unfolding needsMet causalCut overlappingCut concurrent doneReads zeroRows zeroVe
     newVersion issuedMaster issuedWriter savedStore issuedStore issuedNumber issueDone issueRule
     lookPlace lookLimit lookCause rowNumbers lookStanding lookNumbers lookReply explainStart
     explainEdge explainGoal explainPath breaks explainReply lowest near distance nearest pathBy
-    shortestPath replied replyOf ruleOf
+    shortestPath everyPlace everyVersion everyPast causalCuts overlappingCuts masterCovers
+    countsWithin numberWithin admissible admitCause admitReply replied replyOf ruleOf
 computed = record {
   ten = refl;
   texts = refl;
@@ -189,4 +200,11 @@ computed = record {
   by-shelf = refl;
   full = refl;
   cards = refl;
+  admitted = refl;
+  not-admitted = refl;
+  unchained = refl;
+  unchained-rows = refl;
+  listed-twice = refl;
+  past-kept = refl;
+  own-past = refl;
 }

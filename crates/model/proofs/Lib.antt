@@ -16,3 +16,5 @@ pub mod DoneReads
 pub mod Formed
 pub mod Plans
 pub mod Marked
+pub mod Admits
+pub mod Sufficing

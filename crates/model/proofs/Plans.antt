@@ -1,6 +1,7 @@
 -- Laws of the form of a run.
 -- Valid: a valid job. Plan: the form of a run that isn't free, as a record; plan-out, plan-in.
--- free-formed: a free run. run-place: the card. read-planned: what is read is in the plan.
+-- free-formed: a free run. free-or-plan: a run is one of the two. run-place: the card.
+-- read-planned: what is read is in the plan.
 -- state-low: its state.
 -- Assumes nothing.
 use mathlib.Core.Path.{_≡_, refl, ap}
@@ -184,50 +185,58 @@ free-formed z =
     and-intro (all-intro maxJobs (λ i. zeroJob noJob) (λ i h. zero-job))
     (all-intro (z .keys) (λ k. not (held unheld) && zeroVersion z unheld) (λ k h. zero-version z))
 
--- A free run has read nothing, and its card is in form (nothing is held).
-free-out : (z : Counts) (a : Run) → So (freeFormed z a)
-    → (a .branch .read ≡ 0) × PlaceFormed z (a .branch .snapshot)
-unfolding freeFormed versionFormed
+-- A free run has no jobs, has read nothing, and holds nothing.
+pub free-out : (z : Counts) (a : Run) → So (freeFormed z a) → (a .jobs ≡ 0) × (a .branch .read ≡ 0)
+    × ((k : ℕ) → k < z .keys → (held (a .branch .snapshot k) ≡ false)
+    × So (zeroVersion z (a .branch .snapshot k)))
+unfolding freeFormed
 free-out z a p =
+    let none = eqb (a .jobs) 0 in
+    let done = eqb (a .done) 0 in
+    let read = eqb (a .branch .read) 0 in
     let jobs = allBelow maxJobs (λ i. zeroJob (a .job i)) in
     let out : ℕ → Bool = λ k. not (held (a .branch .snapshot k)) in
     let zeros : ℕ → Bool = λ k. zeroVersion z (a .branch .snapshot k) in
     let place = allBelow (z .keys) (λ k. out k && zeros k) in
-    let read = eqb (a .branch .read) 0 in
-    let done = eqb (a .done) 0 in
-    let q =
-    and-right done (read && (jobs && place))
-    (and-right (eqb (a .jobs) 0) (done && (read && (jobs && place))) p) in
+    let rest = done && (read && (jobs && place)) in
+    let q = and-right done (read && (jobs && place)) (and-right none rest p) in
     let each =
     all-at (z .keys) (λ k. out k && zeros k)
     (and-right jobs place (and-right read (jobs && place) q)) in (
+      eqb-eq (a .jobs) 0 (and-left none rest p),
       eqb-eq (a .branch .read) 0 (and-left read (jobs && place) q),
-      λ k l.
-          let none : held (a .branch .snapshot k) ≡ false =
-          not-elim (and-left (out k) (zeros k) (each k l)) in
-          rw none (and-right (out k) (zeros k) (each k l)),
+      λ k l. (
+        not-elim (and-left (out k) (zeros k) (each k l)),
+        and-right (out k) (zeros k) (each k l),
+      ),
     )
+
+-- A run is free, or isn't.
+pub free-or-plan {ℓ} : {X : Type ℓ} (z : Counts) (a : Run) → So (runFormed z a)
+    → (So (freeFormed z a) → X) → (Plan z a → X) → X
+unfolding runFormed
+free-or-plan z a F f g =
+    test (eqb (a .state) 0)
+    (λ y. f (rw y at F))
+    (λ n. let used : 1 ≤ a .state = omega (arith, eqb-ne (a .state) 0 n) in
+    g (plan-out z a used F))
 
 -- The card of a run, free or not.
 pub run-place : (z : Counts) (a : Run) → So (runFormed z a)
     → PlaceFormed z (a .branch .snapshot)
-unfolding runFormed
+unfolding versionFormed
 run-place z a F =
-    test (eqb (a .state) 0)
-    (λ y. free-out z a (rw y at F) .1)
-    (λ n. let used : 1 ≤ a .state = omega (arith, eqb-ne (a .state) 0 n) in
-    plan-out z a used F .snapshot .place)
+    free-or-plan z a F
+    (λ p k l. let none = free-out z a p .2 k l in rw (none .0) (none .1))
+    (λ P. P .snapshot .place)
 
 -- What a run has read is among the keys of its plan.
 pub read-planned : (z : Counts) (a : Run) → So (runFormed z a) → (k : ℕ) → k < z .keys
     → So (testBit (a .branch .read) k) → So (planned (a .jobs) (a .job) k)
-unfolding runFormed
 read-planned z a F k l p =
-    test (eqb (a .state) 0)
-    (λ y. clash (ap (λ (m : ℕ). testBit m k) (free-out z a (rw y at F) .0) ∙˙ p) (test-none k))
-    (λ n. let used : 1 ≤ a .state = omega (arith, eqb-ne (a .state) 0 n) in
-    let P = plan-out z a used F in
-    P .snapshot .carried k l (P .snapshot .has k l p))
+    free-or-plan z a F
+    (λ f. clash (ap (λ (m : ℕ). testBit m k) (free-out z a f .1) ∙˙ p) (test-none k))
+    (λ P. P .snapshot .carried k l (P .snapshot .has k l p))
 
 -- ---- states
 

@@ -5,6 +5,7 @@
 pub mod Look
 pub mod Explain
 pub mod Stale
+pub mod Admit
 use mathlib.Core.List.{List}
 use Prim.Native.Nat.{ℕ}
 use Rattle.model.specs.Store.{Store}
@@ -17,17 +18,20 @@ use Rattle.model.specs.Issue.{issueRule}
 use Rattle.model.specs.Calls.Look.{lookReply}
 use Rattle.model.specs.Calls.Explain.{explainReply}
 use Rattle.model.specs.Calls.Stale.{staleReply}
+use Rattle.model.specs.Calls.Admit.{admitReply}
 
 -- A call that only answers.
 pub data Query : Type 0 where
   look : ℕ → ℕ → ℕ → Query  -- place, its number, sheet
   explain : ℕ → ℕ → Query  -- run, job
   stale : ℕ → Query  -- office
+  admit : Query
 
 unfoldable pub replyOf : Query → Store → Reply
 replyOf (look p i k) = lookReply p i k
 replyOf (explain r j) = explainReply r j
 replyOf (stale o) = staleReply o
+replyOf admit = admitReply
 
 -- A call on a store that is in form.
 pub data StoreCall : Type 0 where

@@ -6,7 +6,7 @@ use sizes::header::HeaderOffset;
 use words::larger;
 ghost use mathlib.Core.Path.{_≡_};
 ghost use Prim.Native.Nat.{_≤_, _<_, max};
-ghost use lib.Dec.{eqb, leb};
+ghost use lib.Dec.{eqb, leb, ltb};
 ghost use lib.ListN.{length, getD, set};
 ghost use Rattle.clock.specs.Count.{maxWord};
 ghost use Rattle.sizes.specs.Bounds.{headerSize, lastOffset};
@@ -41,6 +41,13 @@ impl IssueNumber {
         ensures { λ r. ⌜ r ≡ leb 1 (self .0) ⌝ }
     {
         1 <= self.0
+    }
+
+    // Whether it is larger than another.
+    pub fn exceeds(self, other: IssueNumber) -> bool
+        ensures { λ r. ⌜ r ≡ ltb (other .0) (self .0) ⌝ }
+    {
+        other.0 < self.0
     }
 
     // The larger of two.

@@ -5,7 +5,7 @@ pub mod clocks;
 
 use form::in_form;
 ghost use mathlib.Core.Path.{_≡_};
-ghost use Rattle.model.specs.Calls.{look, explain, stale, openRun, fetch, evict, prepare, step, issue, dropRun, ask};
+ghost use Rattle.model.specs.Calls.{look, explain, stale, admit, openRun, fetch, evict, prepare, step, issue, dropRun, ask};
 ghost use Rattle.layout.specs.Calls.{new, on};
 ghost use Rattle.calls.specs.Performs.{Exported};
 
@@ -116,12 +116,20 @@ pub extern "C" fn sheetdesk_stale(store: &[u32], site: u32, out: &mut [u32]) -> 
     calls::later::stale(store, in_form(store), site, out)
 }
 
+#[no_mangle]
+pub extern "C" fn sheetdesk_admit(store: &[u32], out: &mut [u32]) -> u32
+    ensures { λ n. ⌜ Exported (on (ask admit))
+        (now (store .entry)) (now (store .entry)) (now (out .entry)) (now (out .exit)) n ⌝ }
+{
+    calls::later::admit(store, in_form(store), out)
+}
+
 // The version of this interface: it rises when a call, its arguments or its answer change.
 #[no_mangle]
 pub extern "C" fn sheetdesk_version() -> u32
-    ensures { λ r. ⌜ r ≡ 5 ⌝ }
+    ensures { λ r. ⌜ r ≡ 6 ⌝ }
 {
-    5
+    6
 }
 
 // The version of the layout: it rises when the words of a desk change.

@@ -80,6 +80,8 @@ make-spec =
     (λ c κs. search needs)
     (λ c. search needs)
     (λ c κs. search needs)
+    (λ c. search needs)
+    (λ c κs. search needs)
     returns
     (λ c. search needs)
     (λ c. search needs)
@@ -87,6 +89,9 @@ make-spec =
     (λ c. search needs)
     (λ c. search needs)
     returns-3
+    (λ c. search needs)
+    (λ c. search needs)
+    (λ c. search made-of)
     (λ c. search needs)
     (λ c. search needs)
     (λ c. search made-of)

@@ -32,7 +32,7 @@ use Rattle.consistency.proofs.Changing.{inv-cache}
 cache-next : {s : Store} {b : Book} {f : ℕ → List ReadSet} (o : ℕ) (p : Place Version)
     (q : Counts → Place BookCopy) → Inv s b f
     → Related (s .counts .keys) (Stands s b) p (q (s .counts))
-    → ClosedAll (s .counts .keys) (b .history) (q (s .counts))
+    → ClosedAll (s .counts .keys) (s .counts .writers) (b .history) (b .base) (q (s .counts))
     → Inv (withCache s o p) (withBookCaches b (putAt (b .cache) o (q (b .counts)))) f
 cache-next {s} {b} {f} o p q v rel closed =
     by-counts (v .follows)
@@ -51,8 +51,7 @@ fetch-laws o k s _ =
           cache-next o
           (fetched (versions (s .counts .writers)) K (s .master) (s .site o .cache) (only k))
           (λ z. fetched (bookCopies (z .keys) (z .writers) (b .history)) (z .keys) (b .master)
-          (b .cache o)
-          (only k))
+          (b .cache o) (only k))
           v (fetched-rel (now-simulates F) (s .master) (s .site o .cache) (b .master) (b .cache o)
           (only k) (only k) (master-related F) (cache-related F o l) (λ _ _. refl))
           (fetched-closed (now-laws F) K (b .master) (b .cache o) (only k) (cache-part F o l)

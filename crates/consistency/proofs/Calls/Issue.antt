@@ -2,46 +2,56 @@
 -- issuedBook, issued-..: store and book with the new issue. writer-..: the writers.
 -- Assumes nothing.
 use mathlib.Core.Path.{_≡_, refl, sym, _∙_}
-use mathlib.Core.Bool.{false}
+use mathlib.Core.Bool.{So, false}
 use mathlib.Core.Logic.{_≢_}
 use mathlib.Core.List.{List, [], _∷_}
-use Prim.Native.Nat.{ℕ, _<_, _^_}
+use Prim.Native.Nat.{ℕ, _≤_, _<_, _^_}
 use native.Mathlib.Omega.{arith}
 use native.Mathlib.Decide.{ℕ-discrete}
 use lib.Dec.{eqb}
+use lib.ListN.{length}
 use Rattle.words.specs.Lists.{putAt}
 use Rattle.words.proofs.Bools.{test, and-left, and-right, leb-gt}
 use Rattle.words.proofs.Lists.{putAt-same, putAt-other}
 use Rattle.masks.proofs.Bits.{test-low}
 use Rattle.masks.proofs.Sets.{mask-some}
+use Rattle.sizes.specs.declared.Counts.{Counts}
+use Rattle.model.specs.Algebra.{Place}
 use Rattle.model.specs.Store.{Store, freeRun, siteWith, withCaches, withLast, withMarks, withMaster, withSites, withRun, withWriter}
 use Rattle.model.specs.Outcome.{runCause}
 use Rattle.model.specs.Issue.{issueCause, issuedWriter, savedStore, issuedStore, issueDone, issueRule}
 use Rattle.model.specs.Calls.{issue}
 use Rattle.model.proofs.Outcomes.{no-cause}
 use Rattle.layout.proofs.Follow.{Fine}
+use Rattle.history.specs.History.{saved}
+use Rattle.history.specs.Listing.{BookCopy}
+use Rattle.history.specs.Lists.{listOf}
 use Rattle.history.specs.Book.{Book, noRun, withBookRun, entry, bookIssue, bookIssued, bookRule}
 use Rattle.history.proofs.Notions.{Sound}
 use Rattle.history.proofs.Past.{past-laws}
 use Rattle.history.proofs.Sounds.{sound-issue}
 use Rattle.history.proofs.Grown.{writer-count, other-count}
-use Rattle.history.proofs.Entered.{writer-past, other-past}
+use Rattle.history.proofs.Carrying.{ListsSound, read-least, read-carries, lists-issue, list-most}
+use Rattle.history.proofs.ListingEntered.{writer-rows, other-rows}
+use Rattle.history.proofs.ListingIssued.{Whole}
 use Rattle.consistency.specs.Roles.{roleOf}
 use Rattle.consistency.specs.Trace.{ReadSet, finishBy, finish}
 use Rattle.consistency.proofs.Closing.{closed-grow}
+use Rattle.consistency.proofs.Counting.{Masked}
 use Rattle.consistency.proofs.Invariant.{WriterFollows, Follows, Inv, Moves}
 use Rattle.consistency.proofs.Laws.{Laws, laws-unless}
-use Rattle.consistency.proofs.Following.{cache-related, free-follows, follows-run}
+use Rattle.consistency.proofs.Following.{by-counts, cache-related, free-follows, follows-run}
 use Rattle.consistency.proofs.Changing.{nothing-read, inv-next, inv-anew}
-use Rattle.consistency.proofs.Issuing.{place-grow, run-grow, issuedCopies, issued-every, issued-writes, newPast-entered, issuedMaster-stands}
+use Rattle.consistency.proofs.Issuing.{place-grow, run-grow, issuedCopies, issued-every, newPast-entered, issuedMaster-whole, issuedMaster-led}
 
 -- ---- the book with the new issue, the run not yet freed
 
 unfoldable issuedBook : ℕ → ℕ → ℕ → Book → Book
 issuedBook r w S b = record {
   counts = b .counts;
+  base = b .base;
   history = entry r w S b ∷ b .history;
-  master = issuedCopies (b .counts .keys) (entry r w S b) (b .history) (b .master);
+  master = issuedCopies (b .counts .keys) (entry r w S b) (b .history) (b .base) (b .master);
   cache = b .cache;
   run = b .run;
 }
@@ -66,12 +76,30 @@ module _ (s : Store) (b : Book) (F : Follows s b) (r w S : ℕ) (hr : r < s .cou
       (λ d. test-low S K d hS) (mask-some K S hS some)
       (λ d j p.
       let l = G .low d (and-left (c .read d) (c .snapshot d .later j) p) in
-      let u = G .closed .good d l .writes j (and-right (c .read d) (c .snapshot d .later j) p) in
+      let u = G .closed .good d l .good .writes j
+      (and-right (c .read d) (c .snapshot d .later j) p) in
       (l, u .0, u .1))
+
+  -- They list what was admitted, and carry it on.
+  issued-lists : ListsSound (b .base) (entry r w S b ∷ b .history)
+  unfolding entry
+  issued-lists =
+      let K = s .counts .keys in
+      let G = F .run r hr .branch in
+      let c = b .run r .branch in
+      lists-issue (b .base) K (s .counts .writers) (entry r w S b) (b .history) issued-sound
+      (F .lists) (rw (← F .counts) (λ d u.
+      read-least K (c .read) (c .snapshot) d u (b .base .saves d u)
+      (λ k l _. G .closed .good k l .listed .low d u)))
+      (rw (← F .counts) (λ d j p.
+      read-carries (b .base) (b .history) K (c .read) (c .snapshot)
+      (λ k l _. G .closed .good k l .carries) d j
+      (G .low d (and-left (c .read d) (c .snapshot d .later j) p)) p))
 
   -- The writer has one issue more, whose past is its own now,
   writer-next : (v : ℕ) → v ≡ w
-      → WriterFollows (s .counts .keys) (entry r w S b ∷ b .history) (savedStore s r w S) v
+      → WriterFollows (s .counts .keys) (entry r w S b ∷ b .history) (b .base)
+      (savedStore s r w S) v
   unfolding savedStore withMarks withCaches withSites siteWith withLast withWriter withMaster
       issuedWriter entry
   writer-next v q =
@@ -79,17 +107,27 @@ module _ (s : Store) (b : Book) (F : Follows s b) (r w S : ℕ) (hr : r < s .cou
       let e = entry r w S b in
       let h = b .history in
       let put = putAt-same (s .writer) w (issuedWriter s r w S) in
+      let within : (d u : ℕ) → listOf (b .base) (e ∷ h) (length h) d u ≤ b .base .count u =
+      λ d u. omega (
+        arith,
+        list-most (b .base)
+            (F .based) e h issued-lists d u,
+        F .based .counts d u,
+      )
+      in
       let old = F .writer w hw .count in
       record {
         count = rw (q, put) (omega (arith, writer-count K e h, old));
         past = rw (q, put) (newPast-entered s b F r w S hr hw
-            ∙ sym (writer-past K e h (past-laws K h)));
+            ∙ sym (writer-rows K e h (b .base) (past-laws K h) within));
       }
 
   -- and the others are as they were.
   writer-same : (v : ℕ) → v < s .counts .writers → v ≢ w
-      → WriterFollows (s .counts .keys) (entry r w S b ∷ b .history) (savedStore s r w S) v
-  unfolding savedStore withMarks withCaches withSites siteWith withLast withWriter withMaster entry
+      → WriterFollows (s .counts .keys) (entry r w S b ∷ b .history) (b .base)
+      (savedStore s r w S) v
+  unfolding savedStore withMarks withCaches withSites siteWith withLast withWriter withMaster
+      entry
   writer-same v l q =
       let K = s .counts .keys in
       let e = entry r w S b in
@@ -98,33 +136,43 @@ module _ (s : Store) (b : Book) (F : Follows s b) (r w S : ℕ) (hr : r < s .cou
       let old = F .writer v l in
       let ne : w ≢ v = λ z. q (sym z) in
       record {
-        count = rw put (old .count ∙ sym (other-count K e h v ne));
-        past = rw put (old .past ∙ sym (other-past K e h (past-laws K h) v ne));
+        count = rw put (omega (arith, old .count, other-count K e h v ne));
+        past = rw put (old .past ∙ sym (other-rows K e h (b .base) (past-laws K h) v ne));
       }
 
   issued-follows : Follows (savedStore s r w S) (issuedBook r w S b)
   unfolding savedStore withMarks withCaches withSites siteWith issuedBook withLast withWriter
-      withMaster entry
+      withMaster
   issued-follows =
       let W = s .counts .writers in
       let K = s .counts .keys in
-      let master = issuedMaster-stands s b F r w S hr hw issued-sound in
+      let B = b .base in
+      let copies : Counts → Place BookCopy =
+      λ z. issuedCopies (z .keys) (entry r w S b) (b .history) (b .base) (b .master) in
       let e = entry r w S b in
       let h = b .history in
       record {
         counts = F .counts;
         last = omega (arith, F .last);
+        based = F .based;
+        lists = issued-lists;
         sound = issued-sound;
-        master = rw (← F .counts) (λ k l. master k l .counts);
-        led-master = rw (← F .counts) (λ k l. master k l .led);
-        every = rw (← F .counts) (issued-every K e h (b .master) (F .every));
-        writes = rw (← F .counts) (issued-writes K e h (b .master) (F .writes));
-        cache = λ o l k i. place-grow W K e h (F .closed o l) (cache-related F o l) k i .counts;
-        led-cache = λ o l k i. place-grow W K e h (F .closed o l) (cache-related F o l) k i .led;
+        master = by-counts F (λ z. (k : ℕ) → k < K
+            → Whole K W (e ∷ h) B k (savedStore s r w S .master k) (copies z k))
+            (issuedMaster-whole s b F r w S hr hw issued-sound issued-lists);
+        led-master = by-counts F
+            (λ z. Masked W K (e ∷ h) B (savedStore s r w S .master) (copies z))
+            (issuedMaster-led s b F r w S hr hw issued-sound issued-lists);
+        every = by-counts F
+            (λ z. (d i : ℕ) → d < K → So (saved (e ∷ h) d i) → So (copies z d .later i))
+            (issued-every K e h B (b .master) (F .every));
+        cache = λ o l k i. place-grow W K e h B (F .closed o l) (cache-related F o l) k i .counts;
+        led-cache = λ o l q k i.
+            place-grow W K e h B (F .closed o l) (cache-related F o l) k i .led q;
         closed = λ o l. closed-grow (F .closed o l) e;
         writer = λ v l.
             elim (ℕ-discrete v w) [ yes q ↦ writer-next v q | no q ↦ writer-same v l q ];
-        run = λ q l. run-grow W K e h (F .run q l);
+        run = λ q l. run-grow W K e h B (F .run q l);
       }
 
   issued-inv : (f : ℕ → List ReadSet) → Inv s b f
@@ -138,7 +186,7 @@ module _ (s : Store) (b : Book) (F : Follows s b) (r w S : ℕ) (hr : r < s .cou
       let W = s .counts .writers in
       let K = s .counts .keys in
       inv-next (withRun t r freeRun) (withBookRun c r noRun) (putAt f r []) r freeRun noRun v
-      (follows-run issued-follows r freeRun noRun (free-follows W K (c .history)))
+      (follows-run issued-follows r freeRun noRun (free-follows W K (c .history) (c .base)))
       refl refl refl hr (putAt-other f r []) (nothing-read K freeRun noRun f r)
 
 -- ---- the call
@@ -151,7 +199,7 @@ unfolding issueDone issuedStore bookRule bookIssued finish finishBy roleOf
 done-moves s b f r w S v hr hw hS =
     test (eqb S 0)
     (λ y. rw y (inv-anew v r freeRun noRun
-    (free-follows (s .counts .writers) (s .counts .keys) (b .history)) hr))
+    (free-follows (s .counts .writers) (s .counts .keys) (b .history) (b .base)) hr))
     (λ n. rw (n, book-issued r w S b) (issued-inv s b (v .follows) r w S hr hw hS n f v))
 
 pub issue-laws : (r w S : ℕ) (s : Store) → Fine s → Laws (issue r w S) s (issueRule r w S s)

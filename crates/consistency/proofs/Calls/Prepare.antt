@@ -17,7 +17,7 @@ use Rattle.model.specs.Calls.{prepare}
 use Rattle.model.proofs.Plans.{valid-out}
 use Rattle.layout.proofs.Rules.Prepare.{Accepted, accepted, was, unread}
 use Rattle.layout.proofs.Follow.{Fine}
-use Rattle.history.specs.Listing.{BookCopy, bookCopies}
+use Rattle.history.specs.Listing.{noBase, BookCopy, bookCopies}
 use Rattle.history.specs.Book.{Book, BookRun, bookPrepare, bookRule, withBookRun, withBookCaches}
 use Rattle.consistency.specs.Roles.{roleOf}
 use Rattle.consistency.specs.Trace.{ReadSet, finishBy, finish}
@@ -45,8 +45,7 @@ module _ (s : Store) (b : Book) (r : ℕ) where
   copySnapshot =
       let a = s .run r in
       sitesMerged (bookCopies (s .counts .keys) (s .counts .writers) (b .history))
-      (s .counts .sites)
-      (usesSite (a .jobs) (a .job)) (planned (a .jobs) (a .job)) copyCaches
+      (s .counts .sites) (usesSite (a .jobs) (a .job)) (planned (a .jobs) (a .job)) copyCaches
 
   unfoldable copyRun : BookRun
   copyRun = record {
@@ -77,7 +76,8 @@ module _ {s : Store} {b : Book} {r : ℕ} (fine : Fine s) (F : Follows s b) (A :
       (a .job) (master-related F) (a .jobs) (siteCaches s) (b .cache) (λ _ _. refl) at-sites
       (cache-related F)
 
-  caches-cuts : CutsWithin (bookWrites (s .counts .keys) (b .history)) (s .counts .keys)
+  caches-cuts : CutsWithin
+      (bookWrites (s .counts .keys) (s .counts .writers) (b .history) (b .base)) (s .counts .keys)
       (s .counts .sites) (b .master) (copyCaches s b r)
   unfolding copyCaches
   caches-cuts =
@@ -96,12 +96,12 @@ module _ {s : Store} {b : Book} {r : ℕ} (fine : Fine s) (F : Follows s b) (A :
       (prepareCaches s r) (copyCaches s b r) (λ _ _. refl) (λ _ _. refl) caches-related
 
   -- The merges that it takes, office after office, name somebody.
-  pub prepare-named : (o k : ℕ) → o < s .counts .sites → k < s .counts .keys
+  pub prepare-named : b .base ≡ noBase → (o k : ℕ) → o < s .counts .sites → k < s .counts .keys
       → Named (s .counts .writers) k
       (sitesMerged (versions (s .counts .writers)) o (usesSite (s .run r .jobs) (s .run r .job))
       (planned (s .run r .jobs) (s .run r .job)) (prepareCaches s r) k)
       (prepareCaches s r o k)
-  prepare-named o k l h =
+  prepare-named e o k l h =
       let a = s .run r in
       let sites = usesSite (a .jobs) (a .job) in
       let plan = planned (a .jobs) (a .job) in
@@ -109,13 +109,13 @@ module _ {s : Store} {b : Book} {r : ℕ} (fine : Fine s) (F : Follows s b) (A :
       let sofar = sitesMerged-rel (now-simulates F) o sites sites plan plan (prepareCaches s r)
       (copyCaches s b r) (λ _ _. refl) (λ _ _. refl) (λ i m. caches-related i (omega arith)) in
       let W = s .counts .writers in
-      now-named F k (sitesMerged (versions W) o sites plan (prepareCaches s r) k)
+      now-named F e k (sitesMerged (versions W) o sites plan (prepareCaches s r) k)
       (prepareCaches s r o k)
       (sitesMerged (bookCopies K (s .counts .writers) (b .history)) o sites plan
       (copyCaches s b r) k)
       (copyCaches s b r o k) (sofar k h) (caches-related o l k h)
 
-  snapshot-closed : ClosedIn (s .counts .keys) (b .history)
+  snapshot-closed : ClosedIn (s .counts .keys) (s .counts .writers) (b .history) (b .base)
       (planned (s .run r .jobs) (s .run r .job)) (copySnapshot s b r)
   unfolding copySnapshot
   snapshot-closed =
@@ -124,7 +124,7 @@ module _ {s : Store} {b : Book} {r : ℕ} (fine : Fine s) (F : Follows s b) (A :
       (planned (a .jobs) (a .job)) (copyCaches s b r) (s .counts .sites)
       (λ o l. caches-cuts o l .0)
 
-  run-follows : RunFollows (s .counts .writers) (s .counts .keys) (b .history)
+  run-follows : RunFollows (s .counts .writers) (s .counts .keys) (b .history) (b .base)
       (withSnapshot (s .run r) (prepareSnapshot s r)) (copyRun s b r)
   unfolding withSnapshot copyRun
   run-follows = record {
@@ -134,7 +134,7 @@ module _ {s : Store} {b : Book} {r : ℕ} (fine : Fine s) (F : Follows s b) (A :
       read = F .run r (A .run) .branch .read;
       low = F .run r (A .run) .branch .low;
       snapshot = λ k l. snapshot-related k l .counts;
-      led = λ k l. snapshot-related k l .led;
+      led = λ e k l. snapshot-related k l .led e;
       closed = snapshot-closed;
     };
   }

@@ -39,6 +39,7 @@ open-laws r l s F =
     record {
       moves = λ b f v.
           inv-anew v r _ _ (empty-follows (s .counts .writers) (s .counts .keys) (b .history)
+          (b .base)
           openState (listedCount l) 0 (listedJobs l)) low;
       turns = record {
         run = openedRun l;
@@ -53,7 +54,7 @@ drop-laws r s _ =
     laws-unless (dropRun r) s (dropCause s r) (dropDone s r) (λ e. record {
       moves = λ b f v.
           inv-anew v r freeRun noRun
-          (free-follows (s .counts .writers) (s .counts .keys) (b .history))
+          (free-follows (s .counts .writers) (s .counts .keys) (b .history) (b .base))
           (leb-gt _ _ (no-cause _ 3 _ (omega arith) e .0));
       turns = record { run = freeRun; how = refl; put = refl };
     })

@@ -37,6 +37,7 @@ unfolding withBookRun
 same-book b r =
     ap (λ (f : ℕ → BookRun). record {
       counts = b .counts;
+      base = b .base;
       history = b .history;
       master = b .master;
       cache = b .cache;
@@ -51,7 +52,7 @@ inv-state {s} {b} {f} v r n l =
     let a = withState (s .run r) n in
     rw (same-book b r) at (inv-run v f r a (b .run r) follows l (λ _ _. refl) has)
   where
-    follows : RunFollows (s .counts .writers) (s .counts .keys) (b .history)
+    follows : RunFollows (s .counts .writers) (s .counts .keys) (b .history) (b .base)
         (withState (s .run r) n) (b .run r)
     follows =
         let G = v .follows .run r l in
@@ -78,7 +79,7 @@ module _ {s : Store} {b : Book} {f : ℕ → List ReadSet} {r j : ℕ} (fine : F
       withBookRun (withBookCaches b (putAt (b .cache) (stepSite s r j) (copyCache s b r j))) r
       (copyRun s b r j)
 
-  stepped-follows : RunFollows (s .counts .writers) (s .counts .keys) (b .history)
+  stepped-follows : RunFollows (s .counts .writers) (s .counts .keys) (b .history) (b .base)
       (steppedRun s r j) (copyRun s b r j)
   unfolding withJobDone copyRun stepReads stepPlan
   stepped-follows =
@@ -98,7 +99,7 @@ module _ {s : Store} {b : Book} {f : ℕ → List ReadSet} {r j : ℕ} (fine : F
                 | inr q ↦ test-low reads (s .counts .keys) k job-reads q
               ];
           snapshot = λ k h. stepSnapshot-related fine F a k h .counts;
-          led = λ k h. stepSnapshot-related fine F a k h .led;
+          led = λ e k h. stepSnapshot-related fine F a k h .led e;
           closed = stepSnapshot-closed fine F a;
         };
       }

@@ -21,11 +21,23 @@ returns-2 c =
     (rw (c .match .keys2, a), omega arith)
 
 returns-3 : tie.Need-returns-3
-returns-3 c =
+unfolding calling formAt
+returns-3 c = (rw (c .match .keys3), omega arith)
+
+returns-4 : tie.Need-returns-4
+returns-4 c =
     let s = c .before .before .before .before in
-    let past = next (next (s .pre .0) (c .match .rest .0 .1)) (c .match .rest .1) in
+    let r = c .match .rest in
+    let past = next (next (next (s .pre .0) (r .0 .0 .1)) (r .0 .1)) (r .1) in
     absurd (not-past (in-table (s .args .number) (s .args .n) (s .pre .1 .0)) past)
 
 pub later-command-spec : {M : Type 1} → statement M
 later-command-spec =
-    tie.close (tie.spec (λ c κs. search needs) (λ c κs. search needs) returns returns-2 returns-3)
+    tie.close
+    (tie.spec
+    (λ c κs. search needs)
+    (λ c κs. search needs)
+    returns
+    returns-2
+    returns-3
+    returns-4)

@@ -1,0 +1,44 @@
+-- By which numbers a call may be refused (demand 1: "one of the outcomes listed for that call").
+-- refusalsOf: of each call, as documents 01 and 02 name them. RefusedAsListed: no call is refused
+-- by another one. ElevenAlone: 11 comes "from admission alone" (CR 6).
+-- Assumes nothing.
+use mathlib.Core.Path.{_≡_}
+use mathlib.Core.Bool.{Bool, false, So, _||_}
+use mathlib.Core.List.{List, [], _∷_}
+use Prim.Native.Nat.{ℕ}
+use lib.Dec.{eqb}
+use Rattle.model.specs.Outcome.{refused}
+use Rattle.model.specs.Calls.{Query, look, explain, stale, admit, StoreCall, openRun, fetch, evict, prepare, step, issue, dropRun, ask}
+use Rattle.layout.specs.Calls.{Call, new, on, callOn}
+
+abbrev pub isOneOf : ℕ → List ℕ → Bool
+isOneOf n [] = false
+isOneOf n (x ∷ xs) = eqb n x || isOneOf n xs
+
+-- After 1, which every call on a desk has.
+unfoldable pub askedRefusals : Query → List ℕ
+askedRefusals (look p i k) = 3 ∷ 8 ∷ []
+askedRefusals (explain r j) = 3 ∷ 4 ∷ 6 ∷ 7 ∷ []
+askedRefusals (stale o) = 3 ∷ []
+askedRefusals admit = 11 ∷ []
+
+unfoldable pub storeRefusals : StoreCall → List ℕ
+storeRefusals (openRun r l) = 3 ∷ 4 ∷ 5 ∷ []
+storeRefusals (fetch o k) = 3 ∷ 7 ∷ []
+storeRefusals (evict o k) = 3 ∷ 8 ∷ []
+storeRefusals (prepare r) = 3 ∷ 4 ∷ 6 ∷ 7 ∷ []
+storeRefusals (step r j) = 3 ∷ 4 ∷ 6 ∷ 7 ∷ []
+storeRefusals (issue r w S) = 3 ∷ 4 ∷ 6 ∷ 9 ∷ 10 ∷ []
+storeRefusals (dropRun r) = 3 ∷ 4 ∷ []
+storeRefusals (ask q) = askedRefusals q
+
+unfoldable pub refusalsOf : Call → List ℕ
+refusalsOf (new k w n p) = 2 ∷ 1 ∷ []
+refusalsOf (on c) = 1 ∷ storeRefusals c
+
+abbrev pub RefusedAsListed : Type 0
+RefusedAsListed =
+    (c : Call) (l : List ℕ) (n : ℕ) → callOn c l ≡ refused n → So (isOneOf n (refusalsOf c))
+
+abbrev pub ElevenAlone : Type 0
+ElevenAlone = (c : Call) (l : List ℕ) → callOn c l ≡ refused 11 → c ≡ on (ask admit)

@@ -1,0 +1,117 @@
+//! One call after the other: what each was answered, and the desk that it left, held against the
+//! book.
+
+use super::{Book, Run};
+use crate::desk::{admit, in_form, Answer};
+use crate::text::Call;
+
+/// How much a list of calls gave to test.
+#[derive(Default)]
+pub struct Seen {
+    pub calls: usize,
+    pub snapshots: usize,
+    pub tried: usize,
+    pub broken: usize,
+    pub paths: usize,
+}
+
+impl Book {
+    /// A call with its answer, and the desk's words behind it: every claim.
+    pub fn follow(
+        &mut self,
+        call: &Call,
+        answer: &Answer,
+        words: &[u32],
+        seen: &mut Seen,
+    ) -> Result<(), String> {
+        seen.calls += 1;
+        let refused = matches!(answer, Answer::Refused(_));
+        if let (Call::Step(run, job), false) = (call, refused) {
+            self.check_step(*run as usize, *job as usize, answer, seen)?;
+        }
+        if let (Call::Explain(run, job), false) = (call, refused) {
+            self.check_path(*run as usize, *job as usize, answer, seen)?;
+        }
+        self.check_answer(call, answer)?;
+        self.check_claims(words)?;
+        let pairs = |run: &Run| run.finished.len() * run.finished.len().saturating_sub(1) / 2;
+        seen.snapshots += self.runs.iter().map(pairs).sum::<usize>();
+        Ok(())
+    }
+
+    /// The claims on desk and book as any call must leave them.
+    fn check_claims(&self, words: &[u32]) -> Result<(), String> {
+        let s = in_form(words).ok_or("the desk is not in form")?;
+        self.check_cuts(words, s)?;
+        self.check_versions(words, s)?;
+        self.check_none_ahead(words, s)?;
+        self.check_named()?;
+        self.check_marks(words, s)?;
+        self.check_lists()?;
+        if admit(words) != Answer::Ok(vec![0]) {
+            return Err("admit doesn't take the desk back".into());
+        }
+        self.check_snapshots()
+    }
+
+    /// 3d: a step breaks exactly if no choice stands; the broken sheets are those of C.
+    fn check_step(
+        &self,
+        run: usize,
+        job: usize,
+        answer: &Answer,
+        seen: &mut Seen,
+    ) -> Result<(), String> {
+        let due = self.find_step(run, job).set & self.runs[run].read;
+        let given = if let Answer::Broken(mask) = answer { *mask } else { 0 };
+        if given != due {
+            return Err(format!("the step broke with {given}, the book has {due}"));
+        }
+        seen.broken += usize::from(given != 0);
+        if let Some(goes) = self.goes_through(run, job) {
+            seen.tried += 1;
+            if goes != (given == 0) {
+                return Err(format!("3d: broken with {given}, some choice stands: {goes}"));
+            }
+        }
+        Ok(())
+    }
+
+    /// The path is the one on copies, and there is one exactly if no choice of 3d stands.
+    fn check_path(
+        &self,
+        run: usize,
+        job: usize,
+        answer: &Answer,
+        seen: &mut Seen,
+    ) -> Result<(), String> {
+        let due = self.find_path(run, job).map_or(Answer::Clear, Answer::Path);
+        if *answer != due {
+            return Err(format!("explain answered {answer:?}, the book has {due:?}"));
+        }
+        seen.paths += usize::from(due != Answer::Clear);
+        match self.goes_through(run, job) {
+            Some(goes) if goes != (due == Answer::Clear) => {
+                Err(format!("explain answered {answer:?}, some choice stands: {goes}"))
+            }
+            _ => Ok(()),
+        }
+    }
+
+    /// Feeds the book and compares what the rules on copies answer. `Clear` and `Path` are not
+    /// `ok`: nothing changes. Of leading writers a book that began at an admission knows nothing.
+    fn check_answer(&mut self, call: &Call, answer: &Answer) -> Result<(), String> {
+        let Answer::Ok(numbers) = answer else {
+            self.feed(call, false);
+            return Ok(());
+        };
+        let mut due = self.feed(call, true);
+        if let (Call::Look(..), false) = (call, self.from_new) {
+            due[1] = numbers[1];
+        }
+        if !matches!(call, Call::New(_)) && due != *numbers {
+            return Err(format!("the desk answered {numbers:?}, the book {due:?}"));
+        }
+        Ok(())
+    }
+}

@@ -1,0 +1,116 @@
+//! "A desk read back from disk": `readback SEED DESKS` bends desks that generated calls have made
+//! and, where admit takes one, goes on with calls and tests demand 3 by the book of that admission.
+//! Ends with 1, and prints the desk and the calls, if a claim fails.
+#![allow(dead_code)]
+
+#[path = "generate/bent.rs"]
+mod bent;
+mod book;
+#[path = "generate/chains.rs"]
+mod chains;
+#[path = "generate/counts.rs"]
+mod counts;
+mod desk;
+#[path = "generate/everyday.rs"]
+mod everyday;
+#[path = "generate/odd.rs"]
+mod odd;
+#[path = "generate/plots.rs"]
+mod plots;
+#[path = "generate/random.rs"]
+mod random;
+#[path = "generate/rivals.rs"]
+mod rivals;
+#[path = "generate/teller.rs"]
+mod teller;
+mod text;
+
+use book::follow::Seen;
+use book::Book;
+use desk::{Answer, Sizes};
+use random::Random;
+use teller::Teller;
+
+#[derive(Default)]
+struct Met {
+    /// Verdicts of admit: taken, 1, 11.
+    taken: u64,
+    formless: u64,
+    refused: u64,
+}
+
+fn main() {
+    let numbers = std::env::args().skip(1).map(|word| word.parse::<u64>().ok());
+    let [seed, desks] = match numbers.collect::<Option<Vec<u64>>>().as_deref() {
+        Some([]) => [1, 2000],
+        Some([seed, desks]) => [*seed, *desks],
+        _ => {
+            eprintln!("usage: readback [SEED DESKS]");
+            std::process::exit(2);
+        }
+    };
+    let (mut met, mut seen) = (Met::default(), Seen::default());
+    for desk in 0..desks {
+        let mut random = Random::new(seed.wrapping_mul(1_000_003).wrapping_add(desk));
+        let (words, s) = bent_desk(&mut random);
+        match desk::admit(&words) {
+            Answer::Refused(11) => met.refused += 1,
+            Answer::Refused(_) => met.formless += 1,
+            _ => {
+                met.taken += 1;
+                if let Err(claim) = go_on(&mut random, words, s, &mut seen) {
+                    println!("{claim}");
+                    println!("readback: seed {seed}, desk {desk}: a claim fails");
+                    std::process::exit(1);
+                }
+            }
+        }
+    }
+    let Met { taken, formless, refused } = met;
+    println!(
+        "readback: {desks} desks, {taken} admitted, {refused} refused with 11, {formless} with 1; \
+         {} calls, {} steps tried against all choices, {} broken, {} pairs of finished jobs, \
+         {} paths",
+        seen.calls, seen.tried, seen.broken, seen.snapshots, seen.paths
+    );
+    // Of a few desks chance has too large a part.
+    let few = 2 * taken < desks || 10 * refused < desks || (10 * seen.broken as u64) < desks;
+    if desks >= 500 && few {
+        println!("readback: too few of some");
+        std::process::exit(1);
+    }
+}
+
+/// A desk that a story of calls has made, bent.
+fn bent_desk(random: &mut Random) -> (Vec<u32>, Sizes) {
+    let mut teller = Teller::new(random.next());
+    plots::fresh_desk(&mut teller);
+    while teller.counts.lines < 60 {
+        plots::without_new(&mut teller);
+    }
+    let s = teller.sizes();
+    teller.words.truncate(s.total());
+    bent::bend(random, &mut teller.words, s);
+    (teller.words, s)
+}
+
+/// Calls on an admitted desk, each followed by the book.
+fn go_on(random: &mut Random, words: Vec<u32>, s: Sizes, seen: &mut Seen) -> Result<(), String> {
+    let mut book = Book::admitted(&words, s);
+    let mut teller = Teller::new(random.next());
+    let mut desk = words.clone();
+    teller.words = words.clone();
+    while teller.counts.lines < 60 {
+        plots::without_new(&mut teller);
+    }
+    let mut told = String::new();
+    for line in teller.script.split(|byte| *byte == b'\n') {
+        if let Some(call) = text::read_line(line) {
+            told.push_str(&format!("{}\n", call.line()));
+            let answer = text::run(&mut desk, &call);
+            let followed = book.follow(&call, &answer, &desk, seen);
+            followed.map_err(|claim| format!("{words:?}\n{told}{claim}"))?;
+        }
+    }
+    Ok(())
+}
