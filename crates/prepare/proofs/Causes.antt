@@ -1,9 +1,9 @@
 -- The causes of prepare, as the code tests them.
--- cause-..: a cause found. used-run: where none of those that calls on a run share is, the run
--- isn't free.
+-- cause-..: a cause found, or none. used-run: where none of those that calls on a run share is,
+-- the run isn't free.
 -- Assumes nothing.
 use mathlib.Core.Path.{_≡_, refl, sym, ap, _∙_}
-use mathlib.Core.Bool.{Bool, cond, not}
+use mathlib.Core.Bool.{Bool, true, false, cond, not}
 use mathlib.Core.Logic.{_≢_}
 use mathlib.Core.List.{List}
 use Prim.Native.Nat.{ℕ}
@@ -21,46 +21,66 @@ use Rattle.form.specs.Parts.{FormWith}
 use Rattle.form.proofs.Known.{form-counts}
 use Rattle.status.proofs.Known.{cause-below}
 use Rattle.trial.specs.Jobs.{UsedRun}
+use Rattle.prepare.specs.Turns.{earlyCause}
 
--- What is asked of the run's jobs.
-jobsCause : Store → ℕ → ℕ
-jobsCause s r =
-    let z = s .counts in
-    let a = s .run r in
-    refuse (not (eqb (a .done) 0)) 6
-    (refuse (unpreparable (versions (z .writers)) (z .keys) (s .master) (a .job) (a .jobs)
-    (siteCaches s)) 7
-    0)
+-- ---- those that the run decides
 
-prepare-cause : (s : Store) (r : ℕ)
-    → prepareCause s r
-    ≡ cond (eqb (runCause s prepareRow r 0) 0) (jobsCause s r) (runCause s prepareRow r 0)
-unfolding prepareCause jobsCause
-prepare-cause s r = run-rest s prepareRow r _
+early-rest : (s : Store) (r n : ℕ)
+    → earlyCause s r n ≡ cond (eqb (earlyCause s r 0) 0) n (earlyCause s r 0)
+unfolding earlyCause runCause refuse
+early-rest s r n =
+    go (leb (s .counts .runs) r) (not (allowed prepareRow (s .run r .state)))
+    (not (eqb (s .run r .done) 0))
+  where
+    go : (a b c : Bool) → refuse a 3 (refuse b 4 (refuse c 6 n))
+        ≡ cond (eqb (refuse a 3 (refuse b 4 (refuse c 6 0))) 0) n
+        (refuse a 3 (refuse b 4 (refuse c 6 0)))
+    go true b c = refl
+    go false true c = refl
+    go false false true = refl
+    go false false false = refl
 
 -- n: what the code finds of the run.
 pub cause-run : (s : Store) (r n : ℕ) → n ≡ runCause s prepareRow r 0 → n ≢ 0
-    → n ≡ prepareCause s r
-cause-run s r n e h = rw (prepare-cause s r, ← e, ne-eqb n 0 h)
+    → n ≡ earlyCause s r 0
+unfolding earlyCause
+cause-run s r n e h = rw (run-rest s prepareRow r _, ← e, ne-eqb n 0 h)
 
 pub cause-done : (s : Store) (r : ℕ) → runCause s prepareRow r 0 ≡ 0 → s .run r .done ≢ 0
-    → 6 ≡ prepareCause s r
-unfolding jobsCause refuse
-cause-done s r e h = rw (prepare-cause s r, e, ne-eqb (s .run r .done) 0 h)
+    → 6 ≡ earlyCause s r 0
+unfolding earlyCause refuse
+cause-done s r e h = rw (run-rest s prepareRow r _, e, ne-eqb (s .run r .done) 0 h)
+
+pub cause-none : (s : Store) (r : ℕ) → runCause s prepareRow r 0 ≡ 0 → s .run r .done ≡ 0
+    → 0 ≡ earlyCause s r 0
+unfolding earlyCause refuse
+cause-none s r e h = rw (run-rest s prepareRow r _, e, h)
+
+-- ---- all of them
+
+prepare-cause : (s : Store) (r : ℕ) → let z = s .counts in
+    let a = s .run r in
+    prepareCause s r
+    ≡ earlyCause s r (refuse (unpreparable (versions (z .writers)) (z .keys) (s .master) (a .job)
+    (a .jobs) (siteCaches s)) 7 0)
+unfolding prepareCause earlyCause
+prepare-cause s r = refl
+
+pub cause-early : (s : Store) (r n : ℕ) → n ≡ earlyCause s r 0 → n ≢ 0 → n ≡ prepareCause s r
+cause-early s r n e h = rw (prepare-cause s r, early-rest s r _, ← e, ne-eqb n 0 h)
 
 -- b: what it finds of the keys to be fetched.
 pub cause-lacks : (l : List ℕ) (z : Counts) (r : ℕ) (b : Bool) → FormWith l z
     → let s = storeOf l in
-    runCause s prepareRow r 0 ≡ 0 → s .run r .done ≡ 0
+    earlyCause s r 0 ≡ 0
     → b ≡ unpreparable (versions (z .writers)) (z .keys) (s .master) (s .run r .job)
     (s .run r .jobs) (siteCaches s)
     → refuse b 7 0 ≡ prepareCause s r
-unfolding jobsCause refuse
-cause-lacks l z r b H e d f =
+cause-lacks l z r b H e f =
     let s = storeOf l in
     let g = f ∙ ap (λ (y : Counts). unpreparable (versions (y .writers)) (y .keys) (s .master)
     (s .run r .job) (s .run r .jobs) (siteCaches s)) (sym (form-counts l z H)) in
-    rw (prepare-cause s r, e, d, ← g)
+    rw (prepare-cause s r, early-rest s r _, e, ← g)
 
 pub used-run : (l : List ℕ) (z : Counts) (r : ℕ) → FormWith l z
     → runCause (storeOf l) prepareRow r 0 ≡ 0 → UsedRun l z r
@@ -74,9 +94,9 @@ used-run l z r H e =
       used = allowed-used prepareRow (storeOf l .run r .state) refl (b .0);
     }
 
--- No cause at all.
-pub no-run-cause : (s : Store) (r : ℕ) → prepareCause s r ≡ 0 → runCause s prepareRow r 0 ≡ 0
-unfolding prepareCause runCause refuse
+-- No early cause: the run passes.
+pub no-run-cause : (s : Store) (r : ℕ) → earlyCause s r 0 ≡ 0 → runCause s prepareRow r 0 ≡ 0
+unfolding earlyCause runCause refuse
 no-run-cause s r e =
     let a = no-cause (leb (s .counts .runs) r) 3 _ (omega arith) e in
     let b = no-lack (allowed prepareRow (s .run r .state)) 4 _ (omega arith) (a .1) in

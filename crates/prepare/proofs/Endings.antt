@@ -5,7 +5,6 @@ use mathlib.Core.Bool.{So}
 use mathlib.Core.Logic.{_≢_}
 use mathlib.Core.List.{List, [], _∷_}
 use Prim.Native.Nat.{ℕ}
-use native.Mathlib.Omega.{arith}
 use Rattle.words.proofs.Lists.{putAt-same}
 use Rattle.masks.specs.Mask.{maskBelow}
 use Rattle.sizes.specs.declared.Counts.{Counts}
@@ -28,8 +27,8 @@ use Rattle.layout.proofs.Kept.{Kept}
 use Rattle.layout.proofs.Rules.Prepare.{prepare-kept}
 use Rattle.form.proofs.Known.{form-counts, Ends, ends-refused, ends-done}
 use Rattle.trial.specs.Jobs.{UsedRun}
-use Rattle.prepare.specs.Turns.{fetchedJobs, mergedSites, merged}
-use Rattle.prepare.proofs.Turning.{jobs-fits}
+use Rattle.prepare.specs.Turns.{mergedSites, merged}
+use Rattle.prepare.proofs.Taking.{prepared}
 
 prepare-rule : (r : ℕ) (s : Store)
     → ruleOf (prepare r) s ≡ unless (prepareCause s r) (prepareDone s r)
@@ -47,20 +46,20 @@ prepare-refused l r n F e h =
 
 -- The next store, with all fetches and then all merges.
 next : Store → ℕ → Store
-next s r = merged (fetchedJobs s r (s .run r .jobs)) r
+next s r = merged (prepared s r) r
 
 -- "the carried mask"
 abbrev carriedMask : Store → ℕ → ℕ
 carriedMask s r = maskBelow (s .counts .keys) (λ k. held (prepareSnapshot s r k))
 
 next-as : (s : Store) (r : ℕ) → prepareDone s r ≡ done (carriedMask s r ∷ []) (next s r)
-unfolding prepareDone next merged mergedSites fetchedJobs withCaches withSites siteWith
+unfolding prepareDone next merged mergedSites withCaches withSites siteWith
     prepareSnapshot prepareCaches siteCaches
 next-as s r = refl
 
 -- Its snapshot of the run.
 next-snapshot : (s : Store) (r : ℕ) → next s r .run r .branch .snapshot ≡ prepareSnapshot s r
-unfolding next merged mergedSites fetchedJobs withCaches withSites siteWith withRun withSnapshot
+unfolding next merged mergedSites withCaches withSites siteWith withRun withSnapshot
     prepareSnapshot prepareCaches siteCaches
 next-snapshot s r = ap (λ (a : Run). a .branch .snapshot) (putAt-same (s .run) r _)
 
@@ -69,7 +68,7 @@ unfolding merged withRun
 merged-counts s r = refl
 
 next-counts : (s : Store) (r : ℕ) → next s r .counts ≡ s .counts
-unfolding next merged fetchedJobs withCaches withSites withRun
+unfolding next merged withCaches withSites withRun
 next-counts s r = refl
 
 module _ (l : List ℕ) (z : Counts) (r : ℕ) (U : UsedRun l z r)
@@ -85,16 +84,13 @@ module _ (l : List ℕ) (z : Counts) (r : ℕ) (U : UsedRun l z r)
       L .fine .fits
 
   -- l₁: the buffer after the fetches. m: after the merges.
-  module _ (l₁ m : List ℕ)
-      (e : l₁ ≡ written (fetchedJobs (storeOf l) r (storeOf l .run r .jobs)) l)
-      (f : m ≡ written (merged (storeOf l₁) r) l₁) where
+  module _ (l₁ m : List ℕ) (e : l₁ ≡ written (prepared (storeOf l) r) l)
+      (F : FitStore (prepared (storeOf l) r)) (f : m ≡ written (merged (storeOf l₁) r) l₁) where
     next-left : m ≡ written (next (storeOf l) r) l
     unfolding next
     next-left =
-        let s = storeOf l in
-        let s₁ = fetchedJobs s r (s .run r .jobs) in
-        f ∙ rw e (phase s₁ l (λ (t : Store). merged t r)
-        (jobs-fits l z r U (s .run r .jobs) (omega arith)) (merged-counts s₁ r))
+        let s₁ = prepared (storeOf l) r in
+        f ∙ rw e (phase s₁ l (λ (t : Store). merged t r) F (merged-counts s₁ r))
 
     carried : (at : ℕ) → at ≡ snapshotAt z r
         → readPlace z m at ≡ prepareSnapshot (storeOf l) r

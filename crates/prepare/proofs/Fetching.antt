@@ -1,52 +1,105 @@
--- The fetches of a run's jobs, as changes of the store.
--- lacking-bits: a mask of lacking keys is their set. site-again: a true mark set again. start-as,
--- lacked-as, job-stored: what the code finds and stores for one job. job-idle, job-left: where
--- there is nothing to fetch.
--- no-jobs, more-jobs: the fetches of the first jobs. jobs-fine: they keep the store fine.
+-- What a run's jobs fetch, site by site.
+-- reads-..: what the jobs at a site read. start-..: what its cache lacks of that.
+-- prepared-cache: the cache after the fetches of a prepare.
+-- sets-..: a mask for each site, as the code has it. sets-lacked: whether the master lacks a key.
 -- Assumes nothing.
 use mathlib.Core.Path.{_≡_, refl, sym, ap, _∙_, fun-ext}
-use mathlib.Core.Bool.{Bool, not, _&&_}
+use mathlib.Core.Bool.{not, _&&_}
 use mathlib.Core.Logic.{⊎-elim}
 use mathlib.Core.List.{List}
-use Prim.Native.Nat.{ℕ, zero, suc, _+_, _<_, _^_}
-use native.Mathlib.Numerals.{add-one}
+use Prim.Native.Nat.{ℕ, _+_, _<_, _^_}
+use native.Mathlib.Nat.{zero-add}
 use native.Mathlib.Omega.{arith}
 use lib.Dec.{eqb}
-use Rattle.words.specs.Tests.{Items, none}
-use Rattle.words.specs.Numbers.{foldBelow}
-use Rattle.words.specs.Lists.{putAt}
-use Rattle.words.proofs.Bools.{test, eqb-eq}
-use Rattle.words.proofs.Lists.{putAt-itself}
-use Rattle.words.proofs.Tests.{below-or-not}
-use Rattle.masks.specs.Mask.{testBit, maskBelow}
-use Rattle.masks.proofs.Bits.{test-high, test-none}
-use Rattle.masks.proofs.Sets.{mask-lt, test-mask}
+use lib.Bits.{bitOr}
+use lib.ListN.{length}
+use Rattle.words.specs.Tests.{Items, none, anyBelow}
+use Rattle.words.specs.Numbers.{when}
+use Rattle.words.specs.Words.{put}
+use Rattle.words.proofs.Bools.{ne-eqb}
+use Rattle.words.proofs.Numbers.{when-le}
+use Rattle.words.proofs.Tests.{below-or-not, any-no, any-same}
+use Rattle.words.proofs.Words.{length-put, put-in}
+use Rattle.masks.specs.Mask.{testBit, unionBelow, maskBelow}
+use Rattle.masks.proofs.Bits.{test-high, test-when}
+use Rattle.masks.proofs.Sets.{mask-lt, test-mask, union-more, union-lt, test-union}
 use Rattle.sizes.specs.declared.Counts.{Counts}
-use Rattle.sizes.specs.Bounds.{masterAt, siteAt}
+use Rattle.sizes.specs.Bounds.{Ranged, siteAt}
 use Rattle.model.specs.Algebra.{Algebra, Place, lacking}
 use Rattle.model.specs.Version.{Version, versions}
 use Rattle.model.specs.Sets.{fetched, unfetchable}
-use Rattle.model.specs.Store.{Store, siteMarked, siteWith, withCaches, withSites, withCache}
-use Rattle.model.specs.Prepare.{jobStart, fetchReads, preparedCaches, siteCaches}
+use Rattle.model.specs.Store.{Store}
+use Rattle.model.specs.Prepare.{unpreparable, siteCaches, prepareCaches}
 use Rattle.model.proofs.Draws.{fetched-none}
-use Rattle.model.proofs.Formed.{well-out, formed-cache}
+use Rattle.model.proofs.AtOnce.{siteReads, prepared-at-once, unpreparable-sites}
 use Rattle.layout.specs.Reading.{readPlace, storeOf}
-use Rattle.layout.specs.Stored.{putPlace}
-use Rattle.layout.specs.Buffer.{written}
-use Rattle.layout.proofs.Parts.{FitPlace, place-laws}
-use Rattle.layout.proofs.Fit.{fit-cache, marks-beyond}
-use Rattle.layout.proofs.Readings.{master-in, cache-in}
-use Rattle.layout.proofs.Follow.{Fine, form-fine}
-use Rattle.layout.proofs.Kept.{fine-next, fetched-fits, fetched-formed}
-use Rattle.version.specs.Places.{putMark}
-use Rattle.form.proofs.Known.{form-counts, form-again, cache-stored}
+use Rattle.layout.proofs.Readings.{cache-in}
+use Rattle.form.proofs.Known.{form-area}
+use Rattle.fetching.proofs.Taking.{taken-lacked}
 use Rattle.trial.specs.Jobs.{UsedRun}
-use Rattle.prepare.specs.Turns.{startOf, fetchedJob, fetchedJobs}
 use Rattle.trial.proofs.Known.{job-known}
+use Rattle.prepare.specs.Turns.{noSets, readsAt, takenAt, setOf, SetsOf}
 
--- ---- masks of lacking keys
+-- ---- what the jobs at a site read
 
-pub lacking-bits : {A : Type 0} (alg : Algebra A) (K : ℕ) (p : Place A) (m : ℕ) → m < 2 ^ K
+-- One job more.
+pub reads-more : (s : Store) (r o n : ℕ) → let a = s .run r in
+    unionBelow (n + 1) (λ j. when (eqb (a .job j .site) o) (a .job j .reads))
+    ≡ bitOr (unionBelow n (λ j. when (eqb (a .job j .site) o) (a .job j .reads)))
+    (when (eqb (a .job n .site) o) (a .job n .reads))
+reads-more s r o n =
+    let a = s .run r in union-more (λ j. when (eqb (a .job j .site) o) (a .job j .reads)) n
+
+reads-bits : (s : Store) (r o : ℕ)
+    → testBit (readsAt s r o) ≡ siteReads (s .run r .jobs) (s .run r .job) o
+unfolding readsAt
+reads-bits s r o =
+    let a = s .run r in
+    let f : ℕ → ℕ = λ j. when (eqb (a .job j .site) o) (a .job j .reads) in
+    fun-ext (λ k. test-union (a .jobs) f k
+    ∙ any-same (a .jobs) (λ j. testBit (f j) k)
+    (λ j. eqb (a .job j .site) o && testBit (a .job j .reads) k)
+    (λ j _. test-when (eqb (a .job j .site) o) (a .job j .reads) k))
+
+-- A cache after all fetches: one fetch of what it lacks of them.
+pub prepared-cache : (s : Store) (z : Counts) (r o : ℕ) → s .counts ≡ z
+    → let alg = versions (z .writers) in
+    let cache = s .site o .cache in
+    prepareCaches s r o
+    ≡ fetched alg (z .keys) (s .master) cache
+    (lacking alg (z .keys) cache (testBit (readsAt s r o)))
+unfolding prepareCaches siteCaches
+prepared-cache s z r o e =
+    let a = s .run r in
+    let cache = s .site o .cache in
+    let once : Counts → Items → Place Version = λ y S.
+    fetched (versions (y .writers)) (y .keys) (s .master) cache
+    (lacking (versions (y .writers)) (y .keys) cache S) in
+    let y = s .counts in
+    prepared-at-once (versions (y .writers)) (y .keys) (s .master) (a .job) (siteCaches s)
+    (a .jobs) o
+    ∙ ap (once y) (sym (reads-bits s r o))
+    ∙ ap (λ (y : Counts). once y (testBit (readsAt s r o))) e
+
+-- A site that no job is at keeps its cache.
+pub prepared-beyond : (s : Store) (r o : ℕ)
+    → ((j : ℕ) → j < s .run r .jobs → s .run r .job j .site < o)
+    → prepareCaches s r o ≡ s .site o .cache
+unfolding lacking
+prepared-beyond s r o h =
+    let z = s .counts in
+    let a = s .run r in
+    let idle : siteReads (a .jobs) (a .job) o ≡ none =
+    fun-ext (λ k. any-no (a .jobs) (λ j. eqb (a .job j .site) o && testBit (a .job j .reads) k)
+    (λ j i. rw (ne-eqb (a .job j .site) o (λ e. absurd (omega (arith, h j i)))))) in
+    prepared-cache s z r o refl
+    ∙ rw (reads-bits s r o, idle)
+    (fetched-none (versions (z .writers)) (z .keys) (s .master) (s .site o .cache))
+
+-- ---- on a buffer
+
+-- A mask of lacking keys is their set.
+lacking-bits : {A : Type 0} (alg : Algebra A) (K : ℕ) (p : Place A) (m : ℕ) → m < 2 ^ K
     → testBit (maskBelow K (lacking alg K p (testBit m))) ≡ lacking alg K p (testBit m)
 unfolding lacking
 lacking-bits alg K p m h =
@@ -55,158 +108,78 @@ lacking-bits alg K p m h =
     (λ g. test-high (maskBelow K S) K k (mask-lt K S K (omega arith)) g
     ∙ rw (test-high m K k h g)) (below-or-not k K))
 
--- ---- one job
+module _ (l : List ℕ) (z : Counts) (r : ℕ) (U : UsedRun l z r) where
+  abbrev s : Store
+  s = storeOf l
 
--- A site of a fine store is as it is with its mark set again.
-site-again : (s : Store) → Fine s → (o : ℕ) → siteWith s (s .site o) (s .site o .cache) ≡ s .site o
-unfolding siteWith
-site-again s F o =
-    ⊎-elim
-    (λ h. ap (λ (m : ℕ). siteMarked (s .site o) m) (sym (well-out s (F .formed) .mark o h)))
-    (marks-beyond s (F .fits) o) (below-or-not o (s .counts .sites))
+  pub reads-low : (o : ℕ) → readsAt s r o < 2 ^ z .keys
+  unfolding readsAt
+  reads-low o =
+      let a = s .run r in
+      union-lt (a .jobs) (λ j. when (eqb (a .job j .site) o) (a .job j .reads)) (z .keys)
+      (λ j i. omega (
+        arith,
+        when-le (eqb (a .job j .site) o) (a .job j .reads),
+        job-known l z r U j i .reads,
+      ))
 
--- The cache of job j of run r after its fetch.
-abbrev jobCache : Store → ℕ → ℕ → Place Version
-jobCache s r j =
-    let z = s .counts in
-    fetched (versions (z .writers)) (z .keys) (s .master) (siteCaches s (s .run r .job j .site))
-    (startOf z s r j)
+  -- What site o has to fetch.
+  abbrev start : ℕ → Items
+  start o = lacking (versions (z .writers)) (z .keys) (s .site o .cache) (testBit (readsAt s r o))
 
--- It changes one cache.
-job-cache : (s : Store) (r j : ℕ) → Fine s
-    → withCache s (s .run r .job j .site) (jobCache s r j) ≡ fetchedJob s r j
-unfolding fetchedJob withCaches withCache fetchReads putAt siteCaches
-job-cache s r j F =
-    let o = s .run r .job j .site in
-    ap (withSites s) (fun-ext (λ i. test (eqb i o)
-    (λ y. rw y (ap (λ (k : ℕ). siteWith s (s .site k) (jobCache s r j)) (sym (eqb-eq i o y))))
-    (λ n. rw n (sym (site-again s F i)))))
-
-job-fine : (s : Store) (r j : ℕ) → s .run r .job j .site < s .counts .sites → Fine s
-    → Fine (fetchedJob s r j)
-unfolding withCache withSites siteCaches
-job-fine s r j h F =
-    let o = s .run r .job j .site in
-    let z = s .counts in
-    let G = well-out s (F .formed) in
-    let start = startOf z s r j in
-    let p = jobCache s r j in
-    let fits = fetched-fits z (s .master) (s .site o .cache) start (F .fits .master)
-    (F .fits .site .each o h .cache) in
-    let formed = fetched-formed z (s .master) (s .site o .cache) start (G .master)
-    (G .cache o h) in
-    rw (← job-cache s r j F)
-    (fine-next s (withCache s o p) F (fit-cache s (F .fits) o p h fits)
-    (formed-cache s G o p formed) refl)
-
--- A job that has nothing to fetch leaves the store.
-job-idle : (s : Store) (r j : ℕ) → Fine s → startOf (s .counts) s r j ≡ none → fetchedJob s r j ≡ s
-unfolding withCache withSites siteCaches
-job-idle s r j F e =
-    let z = s .counts in
-    let o = s .run r .job j .site in
-    let same : jobCache s r j ≡ s .site o .cache =
-    rw e (fetched-none (versions (z .writers)) (z .keys) (s .master) (s .site o .cache)) in
-    sym (job-cache s r j F)
-    ∙ rw (same, site-again s F o) (ap (withSites s) (putAt-itself (s .site) o))
-
--- ---- the code of one job
-
-module _ (l : List ℕ) (z : Counts) (r j : ℕ) (U : UsedRun l z r)
-    (h : j < storeOf l .run r .jobs) where
-  -- What job j has to fetch.
-  abbrev start : Items
-  start = startOf z (storeOf l) r j
-
-  start-bits : testBit (maskBelow (z .keys) start) ≡ start
-  unfolding jobStart
-  start-bits =
-      lacking-bits (versions (z .writers)) (z .keys) _ (storeOf l .run r .job j .reads)
-      (job-known l z r U j h .reads)
-
-  pub start-low : (m : ℕ) → m ≡ maskBelow (z .keys) start → m < 2 ^ z .keys
-  start-low m e = rw e (mask-lt (z .keys) start (z .keys) (omega arith))
-
-  pub site-low : (o : ℕ) → o ≡ storeOf l .run r .job j .site → o < z .sites
-  site-low o e = rw e (job-known l z r U j h .site)
-
-  -- o, at, reads: the site of the job, where it is, and what the job reads.
-  pub start-as : (o at reads m : ℕ) → o ≡ storeOf l .run r .job j .site → at ≡ siteAt z o
-      → reads ≡ storeOf l .run r .job j .reads
+  -- at, reads, m: where the site is, what is read there, and what its cache lacks of it.
+  pub start-as : (o at reads m : ℕ) → o < z .sites → at ≡ siteAt z o → reads ≡ readsAt s r o
       → m ≡ maskBelow (z .keys) (lacking (versions (z .writers)) (z .keys) (readPlace z l at)
       (testBit reads))
-      → m ≡ maskBelow (z .keys) start
-  unfolding jobStart siteCaches
-  start-as o at reads m p q f e =
-      rw (← f, ← p, cache-in l z (U .form .counts) o (site-low o p), ← q) e
+      → testBit m ≡ start o
+  start-as o at reads m h p q e =
+      let found : m ≡ maskBelow (z .keys) (start o) =
+      rw (cache-in l z (U .form .counts) o h, ← p, ← q) e in
+      ap testBit found
+      ∙ lacking-bits (versions (z .writers)) (z .keys) (s .site o .cache) (readsAt s r o)
+      (reads-low o)
 
-  -- master, mask: where the master is, and the mask of what is to be fetched.
-  pub lacked-as : (master mask : ℕ) (b : Bool) → master ≡ masterAt z
-      → mask ≡ maskBelow (z .keys) start
-      → b ≡ unfetchable (versions (z .writers)) (z .keys) (readPlace z l master) (testBit mask)
-      → b ≡ unfetchable (versions (z .writers)) (z .keys) (storeOf l .master) start
-  lacked-as master mask b p q e =
-      rw (← start-bits, ← q, master-in l z (U .form .counts), ← p) e
+  -- ---- T of each site
 
-  pub job-stored : (o at master mask : ℕ) (m : List ℕ) → o ≡ storeOf l .run r .job j .site
-      → at ≡ siteAt z o → master ≡ masterAt z → mask ≡ maskBelow (z .keys) start
-      → m ≡ putMark z (putPlace z l at (fetched (versions (z .writers)) (z .keys)
-      (readPlace z l master) (readPlace z l at) (testBit mask))) master at
-      → m ≡ written (fetchedJob (storeOf l) r j) l
-  unfolding siteCaches
-  job-stored o at master mask m p q f g e =
-      let s = storeOf l in
-      let below = site-low o p in
-      let cache = s .site o .cache in
-      let taken = fetched (versions (z .writers)) (z .keys) (s .master) cache start in
-      let same : taken ≡ jobCache s r j = rw (form-counts l z (U .form), ← p) in
-      let P = place-laws z .fits l in
-      let C : FitPlace z cache = rw (cache-in l z (U .form .counts) o below) (P (siteAt z o)) in
-      let M : FitPlace z (s .master) = rw (master-in l z (U .form .counts)) (P (masterAt z)) in
-      let stored : m ≡ putMark z (putPlace z l (siteAt z o) taken) (masterAt z) (siteAt z o) =
-      rw (
-        ← start-bits,
-        ← g,
-        master-in l z (U .form .counts),
-        ← f,
-        cache-in l z (U .form .counts) o below,
-        ← q,
-      ) e in
-      stored
-      ∙ cache-stored l z (U .form) o taken below (fetched-fits z (s .master) cache start M C)
-      ∙ ap (λ (t : Store). written t l)
-      (ap (withCache s o) same ∙ rw p (job-cache s r j (form-fine l (U .form .form))))
+  -- t: the masks as the code has them.
+  module _ (t : List ℕ)
+      (e : t ≡ put noSets 0 (z .sites) (λ o. maskBelow (z .keys) (takenAt z s r o))) where
+    long : 8 ≡ length t
+    unfolding noSets
+    long = rw e (sym (length-put noSets 0 (z .sites) _))
 
-  pub job-left : (mask : ℕ) → mask ≡ maskBelow (z .keys) start → mask ≡ 0
-      → l ≡ written (fetchedJob (storeOf l) r j) l
-  job-left mask e n =
-      let empty : start ≡ none =
-      sym start-bits ∙ ap testBit (sym e ∙ n) ∙ fun-ext (λ k. test-none k) in
-      let s = storeOf l in
-      let same = ap (λ (y : Counts). startOf y s r j) (form-counts l z (U .form)) in
-      rw (job-idle s r j (form-fine l (U .form .form)) (same ∙ empty))
-      (sym (form-again l z (U .form)))
+    pub set-at : (o : ℕ) → o < z .sites → setOf t o ≡ maskBelow (z .keys) (takenAt z s r o)
+    unfolding noSets
+    set-at o h =
+        let f : ℕ → ℕ = λ o. maskBelow (z .keys) (takenAt z s r o) in
+        let R : Ranged z = form-area l z (U .form) .ranged in
+        rw e (ap (setOf (put noSets 0 (z .sites) f)) (sym (zero-add o))
+        ∙ put-in noSets 0 (z .sites) f o h (omega (arith, R .sites-high)))
 
--- ---- the first n jobs
+    pub sets-of : SetsOf z t
+    sets-of =
+        let R : Ranged z = form-area l z (U .form) .ranged in
+        record {
+          long = omega (arith, R .sites-high, long);
+          low = λ o h. rw (set-at o h)
+              (mask-lt (z .keys) (takenAt z s r o) (z .keys) (omega arith));
+        }
 
-pub no-jobs : (s : Store) (r : ℕ) → Fine s → fetchedJobs s r 0 ≡ s
-unfolding fetchedJobs withCaches withSites preparedCaches foldBelow siteCaches
-no-jobs s r F = ap (withSites s) (fun-ext (site-again s F))
-
-job-next : (s : Store) (r n : ℕ) → fetchedJob (fetchedJobs s r n) r n ≡ fetchedJobs s r (suc n)
-unfolding fetchedJob fetchedJobs withCaches withSites siteWith preparedCaches foldBelow siteCaches
-job-next s r n = refl
-
-pub more-jobs : (s : Store) (r n : ℕ)
-    → fetchedJob (fetchedJobs s r n) r n ≡ fetchedJobs s r (n + 1)
-more-jobs s r n = job-next s r n ∙ ap (fetchedJobs s r) (sym (add-one n))
-
-pub jobs-fine : (s : Store) (r n : ℕ)
-    → ((j : ℕ) → j < n → s .run r .job j .site < s .counts .sites) → Fine s
-    → Fine (fetchedJobs s r n)
-unfolding fetchedJobs withCaches withSites
-jobs-fine s r zero h F = rw (no-jobs s r F) F
-jobs-fine s r (suc n) h F =
-    rw (← job-next s r n)
-    (job-fine (fetchedJobs s r n) r n (h n (omega arith))
-    (jobs-fine s r n (λ j l. h j (omega arith)) F))
+    -- The master lacks a key for a job exactly if it lacks one of these.
+    pub sets-lacked :
+        anyBelow (z .sites)
+        (λ o. unfetchable (versions (z .writers)) (z .keys) (s .master) (testBit (setOf t o)))
+        ≡ unpreparable (versions (z .writers)) (z .keys) (s .master) (s .run r .job)
+        (s .run r .jobs) (siteCaches s)
+    unfolding takenAt siteCaches
+    sets-lacked =
+        let alg = versions (z .writers) in
+        let a = s .run r in
+        any-same (z .sites)
+        (λ o. unfetchable alg (z .keys) (s .master) (testBit (setOf t o)))
+        (λ o. unfetchable alg (z .keys) (s .master)
+        (lacking alg (z .keys) (s .site o .cache) (siteReads (a .jobs) (a .job) o)))
+        (λ o h. taken-lacked z (s .master) (s .site o .cache) (start o) (setOf t o) (set-at o h)
+        ∙ rw (reads-bits s r o))
+        ∙ sym (unpreparable-sites alg (z .keys) (s .master) (a .job) (siteCaches s) (z .sites)
+        (a .jobs) (λ j i. job-known l z r U j i .site))

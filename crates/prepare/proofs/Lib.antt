@@ -1,7 +1,6 @@
-pub mod Unpreparable
 pub mod Sites
 pub mod Fetching
-pub mod Turning
+pub mod Taking
 pub mod Merging
 pub mod Carrying
 pub mod Causes

@@ -1,45 +1,68 @@
 -- What the parts of prepare leave of a store, and what they ask of a buffer.
--- startOf: what a job has to fetch. fetchedJob, fetchedJobs: the fetch of one job, of the first n.
+-- earlyCause: the causes that the run decides. readsAt: what the jobs at a site read. takenAt: T
+-- of a site. noSets, setOf, SetsOf: a mask for each site. takenSites: the fetches of the first n.
 -- mergedSites, merged: the merge of the first n sites, of all. siteMerged: of one, in words.
 -- MergeArea: a snapshot that the caches are merged into.
 -- Assumes nothing.
 use mathlib.Core.Path.{_≡_}
-use mathlib.Core.Bool.{_&&_}
+use mathlib.Core.Bool.{cond, not, _&&_}
 use mathlib.Core.List.{List}
-use Prim.Native.Nat.{ℕ, _+_, _≤_, _<_}
-use lib.ListN.{length}
+use Prim.Native.Nat.{ℕ, _+_, _^_, _≤_, _<_}
+use lib.Dec.{eqb, ltb}
+use lib.ListN.{length, getD, replicate}
 use Rattle.words.specs.Tests.{Items}
-use Rattle.masks.specs.Mask.{testBit}
+use Rattle.words.specs.Numbers.{when}
+use Rattle.masks.specs.Mask.{testBit, unionBelow}
 use Rattle.sizes.specs.declared.Counts.{Counts}
-use Rattle.sizes.specs.Bounds.{placeSize, siteAt}
-use Rattle.model.specs.Algebra.{Place}
+use Rattle.sizes.specs.Bounds.{maxSites, placeSize, siteAt}
+use Rattle.model.specs.Algebra.{Place, lacking}
 use Rattle.model.specs.Version.{Version, merge, versions}
+use Rattle.model.specs.Sets.{fetchSet}
 use Rattle.model.specs.Store.{Store, emptyPlace, planned, withCaches, withRun, withSnapshot}
-use Rattle.model.specs.Prepare.{jobStart, fetchReads, preparedCaches, usesSite, sitesMerged, siteCaches}
+use Rattle.model.specs.Outcome.{refuse, prepareRow, runCause}
+use Rattle.model.specs.Prepare.{usesSite, sitesMerged, siteCaches}
 use Rattle.layout.specs.Reading.{readPlace}
 use Rattle.layout.specs.Stored.{putPlace}
 use Rattle.version.specs.Places.{choice, Area}
 
+-- ---- the causes
+
+-- The causes of prepare that its run decides alone, above those that are left.
+unfoldable pub earlyCause : Store → ℕ → ℕ → ℕ
+earlyCause s r rest = runCause s prepareRow r (refuse (not (eqb (s .run r .done) 0)) 6 rest)
+
 -- ---- the caches
 
--- What job j of run r has to fetch, with the counts z of the store.
-abbrev pub startOf : Counts → Store → ℕ → ℕ → Items
-startOf z s r j =
-    jobStart (versions (z .writers)) (z .keys) (s .master) (s .run r .job) j (siteCaches s)
+-- What the jobs of run r at site o read.
+unfoldable pub readsAt : Store → ℕ → ℕ → ℕ
+readsAt s r o =
+    let a = s .run r in
+    unionBelow (a .jobs) (λ j. when (eqb (a .job j .site) o) (a .job j .reads))
 
--- The store after the fetch of job j of run r.
-unfoldable pub fetchedJob : Store → ℕ → ℕ → Store
-fetchedJob s r j =
-    let z = s .counts in
-    withCaches s
-    (fetchReads (versions (z .writers)) (z .keys) (s .master) (s .run r .job) j (siteCaches s))
+-- T of site o for run r, with the counts z of the store: from those of them that its cache lacks.
+unfoldable pub takenAt : Counts → Store → ℕ → ℕ → Items
+takenAt z s r o =
+    let alg = versions (z .writers) in
+    let cache = s .site o .cache in
+    fetchSet alg (z .keys) (s .master) cache
+    (lacking alg (z .keys) cache (testBit (readsAt s r o)))
 
--- The store after the fetches of the first n jobs of run r.
-unfoldable pub fetchedJobs : Store → ℕ → ℕ → Store
-fetchedJobs s r n =
-    let z = s .counts in
-    withCaches s
-    (preparedCaches (versions (z .writers)) (z .keys) (s .master) (s .run r .job) n (siteCaches s))
+-- A mask for each of 8 sites: none has a key; that of site o; a mask of keys for each site.
+unfoldable pub noSets : List ℕ
+noSets = replicate maxSites 0
+
+abbrev pub setOf : List ℕ → ℕ → ℕ
+setOf t o = getD t o 0
+
+pub record SetsOf (z : Counts) (t : List ℕ) : Type 0 where
+  pub long : z .sites ≤ length t
+  pub low : (o : ℕ) → o < z .sites → setOf t o < 2 ^ z .keys
+
+-- The store after the first n sites have taken the keys of their masks.
+unfoldable pub takenSites : Store → (ℕ → ℕ) → ℕ → Store
+takenSites s f n =
+    withCaches s (λ o. cond (ltb o n)
+    (choice (testBit (f o)) (s .master) (s .site o .cache)) (s .site o .cache))
 
 -- ---- the snapshot
 

@@ -1,6 +1,9 @@
-// The fetches of a run's jobs, in number order, and whether the master lacks a key for them.
-use sets::fetch_keys;
-use sets::missing::is_unfetchable;
+// The fetches of a prepare, one at each site: what the jobs there read and the cache lacks is
+// fetched together. T of every site is found before a word is stored.
+use fetching::find_taken;
+use fetching::is_lacked;
+use fetching::take_keys;
+use masks::mask_if;
 use sets::missing::lacking;
 use sizes::Counts;
 use trial::jobs::job_count;
@@ -8,87 +11,89 @@ use trial::jobs::job_of;
 use words::wide;
 ghost use mathlib.Core.Path.{_≡_};
 ghost use Prim.Native.Nat.{_<_};
-ghost use Rattle.masks.specs.Mask.{maskBelow};
+ghost use Rattle.words.specs.Tests.{anyBelow};
+ghost use Rattle.words.specs.Words.{put};
+ghost use Rattle.masks.specs.Mask.{testBit, maskBelow};
 ghost use Rattle.model.specs.Version.{versions};
 ghost use Rattle.model.specs.Sets.{unfetchable};
-ghost use Rattle.model.specs.Prepare.{unpreparable, siteCaches};
 ghost use Rattle.layout.specs.Reading.{storeOf};
 ghost use Rattle.layout.specs.Buffer.{written};
+ghost use Rattle.form.specs.Parts.{FormWith};
 ghost use Rattle.trial.specs.Jobs.{UsedRun};
-ghost use Rattle.prepare.specs.Turns.{startOf, fetchedJob, fetchedJobs};
+ghost use Rattle.prepare.specs.Turns.{noSets, readsAt, takenAt, setOf, SetsOf, takenSites};
 
-// What job j of run r has to fetch: its reads that its cache lacks.
-pub fn job_start(words: &[u32], z: Counts, r: usize, j: usize) -> u32
+// What the jobs of run r at site o read.
+fn reads_at(words: &[u32], z: Counts, r: usize, o: usize) -> u32
     requires { ⌜ UsedRun (now words) z r ⌝ }
-    requires { ⌜ j < storeOf (now words) .run r .jobs ⌝ }
-    ensures { λ m. ⌜ m ≡ maskBelow (z .keys) (startOf z (storeOf (now (words .entry))) r j) ⌝ }
-{
-    let job = job_of(words, z, r, j);
-    let at = z.site_at(wide(job.site));
-    lacking(words, z, at, job.reads)
-}
-
-// Whether the master lacks a key that job j of run r has to fetch.
-pub fn is_lacked(words: &[u32], z: Counts, r: usize, j: usize) -> bool
-    requires { ⌜ UsedRun (now words) z r ⌝ }
-    requires { ⌜ j < storeOf (now words) .run r .jobs ⌝ }
-    ensures { λ b. ⌜ b ≡ unfetchable (versions (z .writers)) (z .keys)
-        (storeOf (now (words .entry)) .master)
-        (startOf z (storeOf (now (words .entry))) r j) ⌝ }
-{
-    let start = job_start(words, z, r, j);
-    let areas = z.areas();
-    is_unfetchable(words, z, areas.master, start)
-}
-
-// Whether the master lacks a key that a job of run r has to fetch. The caches are asked as they
-// are: the fetch of a job before it brings no key that the master lacks.
-pub fn is_unpreparable(words: &[u32], z: Counts, r: usize) -> bool
-    requires { ⌜ UsedRun (now words) z r ⌝ }
-    ensures { λ b. ⌜ b ≡ unpreparable (versions (z .writers)) (z .keys)
-        (storeOf (now (words .entry)) .master) (storeOf (now (words .entry)) .run r .job)
-        (storeOf (now (words .entry)) .run r .jobs)
-        (siteCaches (storeOf (now (words .entry)))) ⌝ }
+    ensures { λ m. ⌜ m ≡ readsAt (storeOf (now (words .entry))) r o ⌝ }
 {
     let n = wide(job_count(words, z, r));
+    let mut all: u32 = 0;
     let mut j = 0;
     while j < n {
-        if is_lacked(words, z, r, j) {
+        let job = job_of(words, z, r, j);
+        all = all | mask_if(wide(job.site) == o, job.reads);
+        j += 1;
+    }
+    all
+}
+
+// T of site o: from what the jobs of run r there read and its cache lacks.
+fn taken_at(words: &[u32], z: Counts, r: usize, o: usize) -> u32
+    requires { ⌜ UsedRun (now words) z r × (o < z .sites) ⌝ }
+    ensures { λ m. ⌜ m ≡ maskBelow (z .keys) (takenAt z (storeOf (now (words .entry))) r o) ⌝ }
+{
+    let reads = reads_at(words, z, r, o);
+    let at = z.site_at(o);
+    let start = lacking(words, z, at, reads);
+    find_taken(words, z, o, start)
+}
+
+// T of each site, for run r.
+pub fn site_sets(words: &[u32], z: Counts, r: usize) -> [u32; 8]
+    requires { ⌜ UsedRun (now words) z r ⌝ }
+    ensures { λ t. ⌜ t ≡ put noSets 0 (z .sites)
+        (λ o. maskBelow (z .keys) (takenAt z (storeOf (now (words .entry))) r o)) ⌝ }
+{
+    let n = z.sites;
+    let mut sets = [0u32; 8];
+    let mut o = 0;
+    while o < n {
+        sets[o] = taken_at(words, z, r, o);
+        o += 1;
+    }
+    sets
+}
+
+// Whether the master lacks a key of the T of a site.
+pub fn is_unpreparable(words: &[u32], z: Counts, sets: &[u32]) -> bool
+    requires { ⌜ FormWith (now words) z ⌝ }
+    requires { ⌜ SetsOf z (now sets) ⌝ }
+    ensures { λ b. ⌜ b ≡ anyBelow (z .sites) (λ o. unfetchable (versions (z .writers)) (z .keys)
+        (storeOf (now (words .entry)) .master) (testBit (setOf (now (sets .entry)) o))) ⌝ }
+{
+    let n = z.sites;
+    let mut o = 0;
+    while o < n {
+        if is_lacked(words, z, sets[o]) {
             return true;
         }
-        j += 1;
+        o += 1;
     }
     false
 }
 
-// The cache of job j of run r takes what the job has to fetch. Where that is nothing, nothing is
-// stored: the mark is true already.
-pub fn fetch_job(words: &mut [u32], z: Counts, r: usize, j: usize)
-    requires { ⌜ UsedRun (now words) z r ⌝ }
-    requires { ⌜ j < storeOf (now words) .run r .jobs ⌝ }
-    ensures { λ _. ⌜ now (words .exit)
-        ≡ written (fetchedJob (storeOf (now (words .entry))) r j) (now (words .entry)) ⌝ }
+// Each site takes its T.
+pub fn take_sets(words: &mut [u32], z: Counts, sets: &[u32])
+    requires { ⌜ FormWith (now words) z ⌝ }
+    requires { ⌜ SetsOf z (now sets) ⌝ }
+    ensures { λ _. ⌜ now (words .exit) ≡ written (takenSites (storeOf (now (words .entry)))
+        (setOf (now (sets .entry))) (z .sites)) (now (words .entry)) ⌝ }
 {
-    let start = job_start(words, z, r, j);
-    if start == 0 {
-        return;
-    }
-    let job = job_of(words, z, r, j);
-    let cache = z.site_at(wide(job.site));
-    let areas = z.areas();
-    fetch_keys(words, z, areas.master, cache, start);
-}
-
-// The fetches of all jobs of run r.
-pub fn fetch_jobs(words: &mut [u32], z: Counts, r: usize)
-    requires { ⌜ UsedRun (now words) z r ⌝ }
-    ensures { λ _. ⌜ now (words .exit) ≡ written (fetchedJobs (storeOf (now (words .entry))) r
-        (storeOf (now (words .entry)) .run r .jobs)) (now (words .entry)) ⌝ }
-{
-    let n = wide(job_count(words, z, r));
-    let mut j = 0;
-    while j < n {
-        fetch_job(words, z, r, j);
-        j += 1;
+    let n = z.sites;
+    let mut o = 0;
+    while o < n {
+        take_keys(words, z, o, sets[o]);
+        o += 1;
     }
 }

@@ -4,8 +4,9 @@ pub mod fetches;
 pub mod merges;
 
 use answers::Answered;
-use fetches::fetch_jobs;
 use fetches::is_unpreparable;
+use fetches::site_sets;
+use fetches::take_sets;
 use form::header::counts;
 use merges::merge_run;
 use sizes::Counts;
@@ -16,13 +17,13 @@ use version::held_mask;
 ghost use mathlib.Core.Path.{_≡_};
 ghost use mathlib.Core.Bool.{So};
 ghost use Rattle.model.specs.Outcome.{answer};
-ghost use Rattle.model.specs.Prepare.{prepareCause};
 ghost use Rattle.model.specs.Calls.{prepare};
 ghost use Rattle.layout.specs.Reading.{storeOf};
 ghost use Rattle.layout.specs.Buffer.{inForm};
 ghost use Rattle.layout.specs.Calls.{on, callOn, leaves};
 ghost use Rattle.form.specs.Parts.{FormWith};
 ghost use Rattle.answers.specs.Answers.{answeredWords};
+ghost use Rattle.prepare.specs.Turns.{earlyCause};
 
 // Fetches what the jobs of a run read, and makes the snapshot the merge of their caches. Answers
 // the mask of the keys that it carries.
@@ -35,21 +36,25 @@ pub fn prepare(words: &mut [u32], run: u32) -> Answered
 {
     let z = counts(words);
     let r = run as usize;
-    let cause = prepare_cause(words, z, r);
+    let cause = early_cause(words, z, r);
     if cause != 0 {
         return Answered::Refused(cause);
     }
-    fetch_jobs(words, z, r);
+    let sets = site_sets(words, z, r);
+    if is_unpreparable(words, z, &sets) {
+        return Answered::Refused(7);
+    }
+    take_sets(words, z, &sets);
     merge_run(words, z, r);
     let snapshot = z.snapshot_at(r);
     let carried = held_mask(words, z, snapshot);
     Answered::Done(carried)
 }
 
-// The first cause for which a prepare is refused, or 0.
-fn prepare_cause(words: &[u32], z: Counts, r: usize) -> u32
+// The first cause for which a prepare is refused by its run alone, or 0.
+fn early_cause(words: &[u32], z: Counts, r: usize) -> u32
     requires { ⌜ FormWith (now words) z ⌝ }
-    ensures { λ n. ⌜ n ≡ prepareCause (storeOf (now (words .entry))) r ⌝ }
+    ensures { λ n. ⌜ n ≡ earlyCause (storeOf (now (words .entry))) r 0 ⌝ }
 {
     let cause = run_cause(words, z, PREPARE_ROW, r);
     if cause != 0 {
@@ -58,9 +63,6 @@ fn prepare_cause(words: &[u32], z: Counts, r: usize) -> u32
     let at = z.run_at(r);
     if words[at + RunOffset::DONE] != 0 {
         return 6;
-    }
-    if is_unpreparable(words, z, r) {
-        return 7;
     }
     0
 }

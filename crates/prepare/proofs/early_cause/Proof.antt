@@ -1,20 +1,18 @@
--- `prepare_cause` tests the run, its done mask, then what its jobs have to fetch.
+-- `early_cause` tests the run, then its done mask.
 -- Assumes nothing.
 use mathlib.Core.Path.{_≡_, sym, ap, _∙_}
-use mathlib.Core.Bool.{Bool}
 use Prim.Native.Nat.{ℕ, _+_, _≤_}
 use borrow.Author.Needs.{needs}
 use native.Mathlib.Omega.{arith}
 use lib.ListN.{length, getD}
 use Rattle.sizes.specs.Bounds.{snapshotOffset}
-use Rattle.model.specs.Outcome.{refuse, prepareRow, runCause}
-use Rattle.model.specs.Prepare.{prepareCause}
+use Rattle.model.specs.Outcome.{prepareRow, runCause}
 use Rattle.layout.specs.Reading.{storeOf}
 use Rattle.trial.specs.Jobs.{UsedRun}
 use Rattle.trial.proofs.Known.{jobs-known, run-index, done-word}
-use Rattle.prepare.proofs.Causes.{cause-run, cause-done, cause-lacks, used-run}
-use Rattle.prepare.proofs.prepare_cause.Statement.{statement}
-use Rattle.prepare.proofs.prepare_cause.Tie as tie
+use Rattle.prepare.proofs.Causes.{cause-run, cause-done, cause-none, used-run}
+use Rattle.prepare.proofs.early_cause.Statement.{statement}
+use Rattle.prepare.proofs.early_cause.Tie as tie
 
 returns : tie.Need-returns
 returns c =
@@ -53,31 +51,13 @@ returns-2 c =
     let n = c .before .before in
     cause-done _ _ (passed (n .before)) (λ e. c .if2 .taken (read n ∙ e))
 
-is-unpreparable-requires : tie.Need-is-unpreparable-requires
-is-unpreparable-requires c κs = used (c .before .before .before)
-
--- What the test of the keys says.
-told : (c : tie.After-is-unpreparable)
-    → let a = c .before .before .before .before .before .before .before .args in
-    refuse (c .is-unpreparable .result) 7 0 ≡ prepareCause (storeOf (a .words .now)) (a .r)
-told c =
-    let d = c .before in
-    let n = d .before .before in
-    let e = n .before in
-    let s = e .before .before .before in
-    cause-lacks (s .args .words .now) (s .args .z) (s .args .r) _ (s .pre) (passed e)
-    (sym (read n) ∙ d .if2 .left) (c .is-unpreparable .ensures)
-
 returns-3 : tie.Need-returns-3
-unfolding refuse
-returns-3 c = ap (λ (t : Bool). refuse t 7 0) (sym (c .if3 .taken)) ∙ told (c .before)
+returns-3 c =
+    let n = c .before .before in
+    cause-none _ _ (passed (n .before)) (sym (read n) ∙ c .if2 .left)
 
-returns-4 : tie.Need-returns-4
-unfolding refuse
-returns-4 c = ap (λ (t : Bool). refuse t 7 0) (sym (c .if3 .left)) ∙ told (c .before)
-
-pub prepare-cause-spec : {M : Type 1} → statement M
-prepare-cause-spec =
+pub early-cause-spec : {M : Type 1} → statement M
+early-cause-spec =
     tie.close
     (tie.spec
     (λ c κs. search needs)
@@ -87,6 +67,4 @@ prepare-cause-spec =
     (λ c. omega (arith, here c))
     (λ c. omega (arith, here (c .before)))
     returns-2
-    is-unpreparable-requires
-    returns-3
-    returns-4)
+    returns-3)
