@@ -1,117 +1,94 @@
 -- What fetch comes to on a buffer in form: refused by its cause, or done.
--- unfetchable-one: one key to be fetched. fetch-rule: the cause as the code tests it.
--- fetch-out, fetch-lacks, fetch-done: answer and buffer.
+-- fetch-out: out of range. fetch-rule: the cause as the code tests it, by T.
+-- fetch-lacks, fetch-done: answer and buffer.
 -- Assumes nothing.
-use mathlib.Core.Path.{_≡_, refl, ap, _∙_}
-use mathlib.Core.Bool.{Bool, true, false, not, So, _&&_}
+use mathlib.Core.Path.{_≡_, refl, sym, ap, _∙_}
+use mathlib.Core.Bool.{Bool, true, false}
 use mathlib.Core.List.{List, [], _∷_}
-use Prim.Native.Nat.{ℕ, _<_}
-use lib.Dec.{eqb}
-use Rattle.words.specs.Tests.{Items, only, anyBelow}
-use Rattle.words.proofs.Bools.{same-test, and-intro, and-left, and-right, eqb-eq, eq-eqb}
-use Rattle.words.proofs.Tests.{any-intro, any-some}
+use Prim.Native.Nat.{ℕ}
+use native.Mathlib.Omega.{arith}
+use Rattle.words.specs.Tests.{only}
 use Rattle.masks.specs.Mask.{testBit, withBit, maskBelow}
 use Rattle.sizes.specs.declared.Counts.{Counts}
-use Rattle.sizes.specs.Bounds.{masterAt, siteAt}
-use Rattle.model.specs.Algebra.{Algebra, Place, lacking}
-use Rattle.model.specs.Version.{Version, held, versions}
+use Rattle.model.specs.Algebra.{Place}
+use Rattle.model.specs.Version.{Version, versions}
 use Rattle.model.specs.Sets.{fetchSet, fetched, unfetchable}
-use Rattle.model.specs.Store.{withCache}
-use Rattle.model.specs.Outcome.{done, answer, refuse, unless}
+use Rattle.model.specs.Store.{Store, withCache}
+use Rattle.model.specs.Outcome.{answer, refuse, unless}
 use Rattle.model.specs.Caches.{fetchCause, fetchDone, fetchRule}
 use Rattle.model.specs.Calls.{fetch, ruleOf}
-use Rattle.layout.specs.Reading.{readPlace, storeOf}
-use Rattle.layout.specs.Calls.{on, callOn, leaves}
-use Rattle.layout.proofs.Readings.{master-in, cache-in}
-use Rattle.layout.specs.Stored.{putPlace}
-use Rattle.layout.proofs.Parts.{place-laws}
-use Rattle.layout.proofs.Kept.{fetched-fits}
-use Rattle.version.specs.Places.{putMark}
+use Rattle.layout.specs.Reading.{storeOf}
+use Rattle.layout.specs.Buffer.{written}
+use Rattle.layout.specs.Calls.{leaves}
+use Rattle.layout.proofs.Follow.{form-fine}
+use Rattle.version.specs.Places.{choice}
 use Rattle.form.specs.Parts.{FormWith}
-use Rattle.form.proofs.Known.{form-counts, cache-stored, Ends, ends}
+use Rattle.form.proofs.Known.{form-counts, Ends, ends-refused, ends-done}
+use Rattle.fetching.proofs.Taking.{taken-cache, taken-lacked}
 use Rattle.caches.specs.Range.{outOfRange}
-use Rattle.caches.proofs.Known.{inside, range-cause, keyCause, keyed-out, keyed-lacks, keyed-free, one-key}
-
--- ---- the cause
-
--- One key to be fetched: the master holds it or not.
-unfetchable-one : {A : Type 0} (alg : Algebra A) (K : ℕ) (p : Place A) (k : ℕ) → k < K
-    → unfetchable alg K p (only k) ≡ not (alg .held (p k))
-unfolding unfetchable lacking only
-unfetchable-one alg K p k h = same-test there back
-  where
-    absent : Items
-    absent d = eqb d k && not (alg .held (p d))
-
-    there : So (anyBelow K absent) → So (not (alg .held (p k)))
-    there a =
-        let r = any-some K absent a in
-        let e = eqb-eq (r .0) k (and-left (eqb (r .0) k) (not (alg .held (p (r .0)))) (r .2)) in
-        rw (← e) (and-right (eqb (r .0) k) (not (alg .held (p (r .0)))) (r .2))
-
-    back : So (not (alg .held (p k))) → So (anyBelow K absent)
-    back n = any-intro K absent k h (and-intro (eq-eqb k k refl) n)
+use Rattle.caches.proofs.Known.{inside, range-cause, one-key}
 
 module _ (l : List ℕ) (z : Counts) (H : FormWith l z) (o k : ℕ) where
-  -- The rule, with its cause as the code tests it.
-  fetch-rule : ruleOf (fetch o k) (storeOf l)
-      ≡ unless (keyCause (outOfRange z o k) (held (readPlace z l (masterAt z) k)) 7)
-      (fetchDone (storeOf l) o k)
-  unfolding ruleOf fetchRule fetchCause keyCause
-  fetch-rule =
-      let p = readPlace z l (masterAt z) in
-      ap (λ (n : ℕ). unless n (fetchDone (storeOf l) o k))
-      (rw (form-counts l z H, master-in l z (H .counts)) (range-cause z o k _ _ (λ in-range.
-      ap (λ (t : Bool). refuse t 7 0)
-      (unfetchable-one (versions (z .writers)) (z .keys) p k (inside z o k in-range .1)))))
+  abbrev s : Store
+  s = storeOf l
+
+  -- What is asked behind the range.
+  abbrev lacks : Counts → Bool
+  lacks y = unfetchable (versions (y .writers)) (y .keys) (s .master) (only k)
+
+  range-rule : ruleOf (fetch o k) s
+      ≡ unless (refuse (outOfRange z o k) 3 (refuse (lacks z) 7 0)) (fetchDone s o k)
+  unfolding ruleOf fetchRule fetchCause
+  range-rule =
+      ap (λ (n : ℕ). unless n (fetchDone s o k))
+      (rw (form-counts l z H) (range-cause z o k _ _ (λ _. refl)))
 
   pub fetch-out : outOfRange z o k ≡ true → Ends (fetch o k) l (2 ∷ 3 ∷ []) l
-  fetch-out = keyed-out (fetch o k) l (H .form) _ _ 6 _ fetch-rule
+  unfolding refuse
+  fetch-out p = ends-refused (fetch o k) l 3 (fetchDone s o k) (H .form) (rw p at range-rule)
+      (omega arith)
 
--- T of one key, and the cache with it, as the code reads them.
-abbrev takenOf : Counts → List ℕ → ℕ → ℕ → Items → ℕ
-takenOf z l master cache start =
-    maskBelow (z .keys)
-    (fetchSet (versions (z .writers)) (z .keys) (readPlace z l master) (readPlace z l cache) start)
+  -- start, T: the key as a mask, and what is found for it.
+  module _ (in-range : outOfRange z o k ≡ false) (start T : ℕ) (d : start ≡ withBit 0 k)
+      (e : T ≡ maskBelow (z .keys) (fetchSet (versions (z .writers)) (z .keys) (s .master)
+      (s .site o .cache) (testBit start))) where
+    taken : T ≡ maskBelow (z .keys) (fetchSet (versions (z .writers)) (z .keys) (s .master)
+        (s .site o .cache) (only k))
+    taken = rw (← one-key k, ← d) e
 
-abbrev cacheOf : Counts → List ℕ → ℕ → ℕ → Items → Place Version
-cacheOf z l master cache start =
-    fetched (versions (z .writers)) (z .keys) (readPlace z l master) (readPlace z l cache) start
+    fetch-rule : ruleOf (fetch o k) s
+        ≡ unless (refuse (unfetchable (versions (z .writers)) (z .keys) (s .master) (testBit T))
+        7 0) (fetchDone s o k)
+    unfolding refuse
+    fetch-rule =
+        let rule : ruleOf (fetch o k) s ≡ unless (refuse (lacks z) 7 0) (fetchDone s o k) =
+        rw in-range at range-rule in
+        rule ∙ ap (λ (b : Bool). unless (refuse b 7 0) (fetchDone s o k))
+        (sym (taken-lacked z (s .master) (s .site o .cache) (only k) T taken))
 
-module _ (l : List ℕ) (z : Counts) (H : FormWith l z) (o k master : ℕ) (a : master ≡ masterAt z)
-    (in-range : outOfRange z o k ≡ false) where
-  pub fetch-lacks : held (readPlace z l master k) ≡ false → Ends (fetch o k) l (2 ∷ 7 ∷ []) l
-  fetch-lacks q =
-      keyed-lacks (fetch o k) l (H .form) _ _ 6 _ (fetch-rule l z H o k) in-range (rw (← a) q)
+    pub fetch-lacks :
+        unfetchable (versions (z .writers)) (z .keys) (s .master) (testBit T) ≡ true
+        → Ends (fetch o k) l (2 ∷ 7 ∷ []) l
+    unfolding refuse
+    fetch-lacks p =
+        ends-refused (fetch o k) l 7 (fetchDone s o k) (H .form) (rw p at fetch-rule) (omega arith)
 
-  taken-as : held (readPlace z l (masterAt z) k) ≡ true
-      → callOn (on (fetch o k)) l
-      ≡ done (takenOf z l (masterAt z) (siteAt z o) (only k) ∷ [])
-      (withCache (storeOf l) o (cacheOf z l (masterAt z) (siteAt z o) (only k)))
-  unfolding fetchDone
-  taken-as q =
-      keyed-free (fetch o k) l (H .form) _ _ 6 _ (fetch-rule l z H o k) in-range q
-      ∙ rw (
-        form-counts l z H,
-        master-in l z (H .counts),
-        cache-in l z (H .counts) o (inside z o k in-range .0),
-      )
-
-  pub fetch-done : held (readPlace z l master k) ≡ true → (cache start T : ℕ) (m : List ℕ)
-      → cache ≡ siteAt z o → start ≡ withBit 0 k
-      → T ≡ takenOf z l master cache (testBit start)
-      → m ≡ putMark z (putPlace z l cache (cacheOf z l master cache (testBit start))) master cache
-      → Ends (fetch o k) l (0 ∷ T ∷ []) m
-  unfolding answer leaves
-  fetch-done has cache start T m b d p q =
-      let t : T ≡ takenOf z l (masterAt z) (siteAt z o) (only k) =
-      rw (← a, ← b, ← one-key k, ← d) p in
-      let at = siteAt z o in
-      let p = cacheOf z l (masterAt z) at (only k) in
-      let n : m ≡ putMark z (putPlace z l at p) (masterAt z) at =
-      rw (← a, ← b, ← one-key k, ← d) q in
-      let F = place-laws z .fits l in
-      ends (fetch o k) l _ (0 ∷ T ∷ []) m (taken-as (rw (← a) has)) (ap (λ (T : ℕ). 0 ∷ T ∷ []) t)
-      (n ∙ cache-stored l z H o p (inside z o k in-range .0)
-      (fetched-fits z (readPlace z l (masterAt z)) (readPlace z l at) (only k)
-      (F (masterAt z)) (F at)))
+    pub fetch-done :
+        unfetchable (versions (z .writers)) (z .keys) (s .master) (testBit T) ≡ false
+        → (m : List ℕ)
+        → m ≡ written (withCache s o (choice (testBit T) (s .master) (s .site o .cache))) l
+        → Ends (fetch o k) l (0 ∷ T ∷ []) m
+    unfolding answer leaves fetchDone refuse
+    fetch-done p m f =
+        let F = form-fine l (H .form) .fits in
+        let cache = s .site o .cache in
+        let same = form-counts l z H in
+        let alike : choice (testBit T) (s .master) cache
+        ≡ fetched (versions (s .counts .writers)) (s .counts .keys) (s .master) cache (only k) =
+        taken-cache z (s .master) cache (only k) T taken (rw (← same) (F .master))
+        (rw (← same) (F .site .each o (rw same (inside z o k in-range .0)) .cache))
+        ∙ ap (λ (y : Counts). fetched (versions (y .writers)) (y .keys) (s .master) cache (only k))
+        (sym same) in
+        ends-done (fetch o k) l _ (fetchDone s o k) (H .form) (rw p at fetch-rule) refl
+        (0 ∷ T ∷ []) m (rw same (ap (λ (T : ℕ). 0 ∷ T ∷ []) taken))
+        (f ∙ ap (λ (p : Place Version). written (withCache s o p) l) alike)

@@ -1,9 +1,11 @@
 // Fetch and evict: a site's cache takes keys from the master, or leaves them.
 use answers::Answered;
+use fetching::find_taken;
+use fetching::is_lacked;
+use fetching::take_keys;
 use form::header::counts;
 use masks::with_item;
 use sets::evict_keys;
-use sets::fetch_keys;
 use sizes::Counts;
 use version::held;
 ghost use mathlib.Core.Path.{_≡_};
@@ -37,13 +39,12 @@ pub fn fetch(words: &mut [u32], site: u32, key: u32) -> Answered
     if out_of_range(z, o, k) {
         return Answered::Refused(3);
     }
-    let areas = z.areas();
-    if !held(words, z, areas.master, k) {
+    let wanted = with_item(0, key);
+    let taken = find_taken(words, z, o, wanted);
+    if is_lacked(words, z, taken) {
         return Answered::Refused(7);
     }
-    let at = z.site_at(o);
-    let wanted = with_item(0, key);
-    let taken = fetch_keys(words, z, areas.master, at, wanted);
+    take_keys(words, z, o, taken);
     Answered::Done(taken)
 }
 

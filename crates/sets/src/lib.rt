@@ -1,5 +1,5 @@
-// The least sets T, E and C as masks of keys, from the places of a buffer, and the caches that T
-// and E leave.
+// The least sets T, E and C as masks of keys, from the places of a buffer, and the cache that E
+// leaves.
 pub mod growth;
 pub mod missing;
 
@@ -8,7 +8,6 @@ use crate::growth::grow;
 use masks::has;
 use sizes::Counts;
 use version::clear_keys;
-use version::copy_keys;
 use version::held;
 use version::held_mask;
 use version::mark::mark_site;
@@ -19,9 +18,9 @@ ghost use Prim.Native.Nat.{_<_, _^_};
 ghost use lib.ListN.{length};
 ghost use Rattle.masks.specs.Mask.{testBit, maskBelow};
 ghost use Rattle.model.specs.Version.{versions};
-ghost use Rattle.model.specs.Sets.{drawSet, fetchSet, fetched, evictSet, evicted};
+ghost use Rattle.model.specs.Sets.{drawSet, fetchSet, evictSet, evicted};
 ghost use Rattle.layout.specs.Reading.{readPlace};
-ghost use Rattle.version.specs.Places.{putMark, SiteArea, Area, Areas};
+ghost use Rattle.version.specs.Places.{putMark, SiteArea, Area};
 ghost use Rattle.layout.specs.Stored.{putPlace};
 ghost use Rattle.sets.specs.Draws.{viewAt, viewed, DrawArea, drawsIn};
 
@@ -102,24 +101,6 @@ pub fn fetch_set(words: &[u32], z: Counts, master: usize, cache: usize, start: u
     let scope = held_mask(words, z, master);
     let source = View::of(master);
     draw_set(words, z, scope, cache, source, start)
-}
-
-// The cache of a site takes the master's version of each key in T, and its mark is set. Answers T.
-pub fn fetch_keys(words: &mut [u32], z: Counts, master: usize, cache: usize, start: u32) -> u32
-    requires { ⌜ Areas (length (now words)) z cache master ⌝ }
-    requires { ⌜ SiteArea (length (now words)) z cache ⌝ }
-    requires { ⌜ start < 2 ^ z .keys ⌝ }
-    ensures answers { λ r. ⌜ r ≡ maskBelow (z .keys)
-        (fetchSet (versions (z .writers)) (z .keys) (readPlace z (now (words .entry)) master)
-        (readPlace z (now (words .entry)) cache) (testBit start)) ⌝ }
-    ensures leaves { λ _. ⌜ now (words .exit) ≡ putMark z (putPlace z (now (words .entry)) cache
-        (fetched (versions (z .writers)) (z .keys) (readPlace z (now (words .entry)) master)
-        (readPlace z (now (words .entry)) cache) (testBit start))) master cache ⌝ }
-{
-    let taken = fetch_set(words, z, master, cache, start);
-    copy_keys(words, z, cache, master, taken);
-    mark_site(words, z, master, cache);
-    taken
 }
 
 // E: the keys of the start, and the held ones that need a member.

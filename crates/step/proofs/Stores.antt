@@ -1,7 +1,6 @@
 -- What a step that doesn't break stores: the cache with T and its mark, the snapshot with C, and
 -- two masks.
--- fetch-areas, mark-areas, merge-areas: where the places lie.
--- copied, cache-kept, merged: the two places as the rule has them.
+-- merge-areas: where the places lie. site-taken, merged: the two places as the rule has them.
 -- step-left: the buffer after it.
 -- Assumes nothing.
 use mathlib.Core.Path.{_≡_, sym, ap, subst, _∙_}
@@ -16,7 +15,7 @@ use Rattle.sizes.specs.declared.Counts.{Counts}
 use Rattle.sizes.specs.Bounds.{doneOffset, readOffset, siteAt, runAt, snapshotAt}
 use Rattle.model.specs.Algebra.{Place}
 use Rattle.model.specs.Version.{Version, merge, versions}
-use Rattle.model.specs.Sets.{fetched, pulled}
+use Rattle.model.specs.Sets.{fetchSet, fetched, pulled}
 use Rattle.model.specs.Store.{Run, Site, Store, siteWith, withSites, withCache, withRun, withSnapshot, withJobDone}
 use Rattle.model.specs.Step.{stepBranch, stepSite, stepStart, stepFetch, stepCache, stepPull, stepSnapshot, stepDone}
 use Rattle.layout.specs.Reading.{readPlace, countsIn, storeOf}
@@ -25,22 +24,22 @@ use Rattle.layout.specs.Buffer.{written}
 use Rattle.layout.specs.Calls.{leaves}
 use Rattle.layout.proofs.Parts.{FitPlace, place-laws}
 use Rattle.layout.proofs.Whole.{counts-back, store-back}
-use Rattle.layout.proofs.Fit.{fit-cache}
+use Rattle.layout.proofs.Fit.{fit-choice, fit-cache}
 use Rattle.layout.proofs.Readings.{cache-in, snapshot-in}
 use Rattle.layout.proofs.Follow.{form-fine}
 use Rattle.layout.proofs.Updates.{put-snapshot, put-masks, run-twice}
-use Rattle.layout.proofs.Kept.{fetched-fits}
-use Rattle.version.specs.Places.{putMark, choice, Area, SiteArea, Areas}
-use Rattle.version.proofs.Stores.{site-master, site-whole, snapshot-site}
+use Rattle.version.specs.Places.{choice, Areas}
+use Rattle.version.proofs.Stores.{snapshot-site}
 use Rattle.form.specs.Parts.{FormWith}
-use Rattle.form.proofs.Known.{form-area, form-counts, cache-stored}
+use Rattle.form.proofs.Known.{form-area, form-counts}
 use Rattle.sets.proofs.Views.{chosen}
+use Rattle.fetching.proofs.Taking.{taken-cache}
 use Rattle.trial.specs.declared.Visit.{Visit}
 use Rattle.trial.specs.declared.Trial.{Trial}
 use Rattle.trial.specs.Jobs.{UsedRun}
 use Rattle.trial.specs.Trials.{Finds}
 use Rattle.trial.proofs.Known.{done-word}
-use Rattle.trial.proofs.Finds.{found-counts, found-run, found-site, found-taken, found-pulled, found-read, found-reads, found-cache-at, found-snapshot-at, found-master-at, found-master, found-cache}
+use Rattle.trial.proofs.Finds.{found-counts, found-run, found-site, found-site-at, found-taken, found-pulled, found-read, found-reads, found-cache-at, found-snapshot-at, found-master, found-cache}
 
 -- ---- by the store
 
@@ -101,19 +100,6 @@ module _ (l : List ℕ) (z : Counts) (r j : ℕ) (v : Visit) (t : Trial)
   snapshot-at : v .snapshot ≡ snapshotAt z r
   snapshot-at = found-snapshot-at l z r j v t F
 
-  pub fetch-areas : Areas (length l) z (v .cache) (v .master)
-  fetch-areas =
-      let S = form-area l z (F .form) in
-      rw (site-at, found-master-at l z r j v t F)
-      (site-master (length l) z (S .ranged) (S .fits) _ site-low)
-
-  pub mark-areas : Area (length l) z (v .master) × SiteArea (length l) z (v .cache)
-  mark-areas =
-      let S = form-area l z (F .form) in (
-        fetch-areas .source,
-        rw site-at (site-whole (length l) z (S .ranged) (S .fits) _ site-low),
-      )
-
   pub merge-areas : Areas (length l) z (v .snapshot) (v .cache)
   merge-areas =
       let S = form-area l z (F .form) in
@@ -122,51 +108,42 @@ module _ (l : List ℕ) (z : Counts) (r j : ℕ) (v : Visit) (t : Trial)
 
   -- ---- the cache
 
-  abbrev master : Place Version
-  master = readPlace z l (v .master)
+  fits : (FitPlace z (s .master)) × (FitPlace z (s .site (stepSite s r j) .cache))
+  fits =
+      let P = place-laws z .fits l in (
+        rw (found-master l z r j v t F) (P (v .master)),
+        rw (found-cache l z r j v t F) (P (v .cache)),
+      )
 
-  abbrev cache : Place Version
-  cache = readPlace z l (v .cache)
-
-  same-master : s .master ≡ master
-  same-master = found-master l z r j v t F
-
-  same-cache : s .site (stepSite s r j) .cache ≡ cache
-  same-cache = found-cache l z r j v t F
-
-  pub copied :
-      putPlace z l (v .cache) (choice (testBit (t .taken)) master cache)
-      ≡ putPlace z l (v .cache) (stepCache s r j)
-  unfolding stepCache fetched stepFetch
-  copied =
-      rw (← same-master, ← same-cache)
-      (chosen z l (v .cache) (t .taken) (stepFetch s r j) (s .master)
-      (s .site (stepSite s r j) .cache)
-      (found-taken l z r j v t F
-      ∙ ap (λ (y : Counts). maskBelow (y .keys) (stepFetch s r j)) counts))
-
-  as-fetched : stepCache s r j
-      ≡ fetched (versions (z .writers)) (z .keys) master cache (stepStart s r j)
-  unfolding stepCache
-  as-fetched =
+  -- The cache with the keys of T.
+  taken-as : choice (testBit (t .taken)) (s .master) (s .site (stepSite s r j) .cache)
+      ≡ stepCache s r j
+  unfolding stepCache stepFetch
+  taken-as =
       let start = stepStart s r j in
       let old = s .site (stepSite s r j) .cache in
-      let taken : Counts → Place Version → Place Version → Place Version =
-      λ y p q. fetched (versions (y .writers)) (y .keys) p q start in
-      ap (λ (y : Counts). taken y (s .master) old) counts
-      ∙ ap (λ (p : Place Version). taken z p old) same-master ∙ ap (taken z master) same-cache
+      let mask : t .taken
+      ≡ maskBelow (z .keys) (fetchSet (versions (z .writers)) (z .keys) (s .master) old start) =
+      found-taken l z r j v t F
+      ∙ ap (λ (y : Counts). maskBelow (y .keys) (fetchSet (versions (y .writers)) (y .keys)
+      (s .master) old start)) counts in
+      taken-cache z (s .master) old start (t .taken) mask (fits .0) (fits .1)
+      ∙ ap (λ (y : Counts). fetched (versions (y .writers)) (y .keys) (s .master) old start)
+      (sym counts)
 
   cache-fits : FitPlace z (stepCache s r j)
-  cache-fits =
-      rw as-fetched (fetched-fits z master cache (stepStart s r j)
-      (place-laws z .fits l (v .master)) (place-laws z .fits l (v .cache)))
+  cache-fits = rw (← taken-as) (fit-choice z (testBit (t .taken)) _ _ (fits .0) (fits .1))
 
-  pub cache-kept :
-      putMark z (putPlace z l (v .cache) (stepCache s r j)) (v .master) (v .cache)
-      ≡ written (shelved s r j) l
-  cache-kept =
-      rw (site-at, found-master-at l z r j v t F)
-      (cache-stored l z (F .form) (stepSite s r j) (stepCache s r j) site-low cache-fits)
+  pub site-taken : (m : List ℕ)
+      → m ≡ written (withCache s (v .site)
+      (choice (testBit (t .taken)) (s .master) (s .site (v .site) .cache))) l
+      → m ≡ written (shelved s r j) l
+  site-taken m e =
+      let o = stepSite s r j in
+      let at-site : m ≡ written (withCache s o
+      (choice (testBit (t .taken)) (s .master) (s .site o .cache))) l =
+      rw (← found-site-at l z r j v t F) e in
+      at-site ∙ ap (λ (p : Place Version). written (withCache s o p) l) taken-as
 
   -- ---- the snapshot, on the buffer with that cache
 

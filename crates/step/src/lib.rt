@@ -1,6 +1,7 @@
 // Step: a job reads its keys, from the snapshot, its site's cache or the master. What it would do
 // is found first, and nothing is stored before that.
 use answers::put_two;
+use fetching::take_keys;
 use form::header::counts;
 use masks::with_item;
 use masks::without;
@@ -12,8 +13,6 @@ use trial::Trial;
 use trial::Tried;
 use trial::Visit;
 use trial::try_job;
-use version::copy_keys;
-use version::mark::mark_site;
 use version::merge::merge_keys;
 ghost use mathlib.Core.Path.{_≡_};
 ghost use mathlib.Core.Bool.{So};
@@ -84,8 +83,7 @@ fn finish(words: &mut [u32], z: Counts, r: usize, job: u32, visit: Visit, trial:
 {
     let at = z.run_at(r);
     let jobs_done = with_item(words[at + RunOffset::DONE], job);
-    copy_keys(words, z, visit.cache, visit.master, trial.taken);
-    mark_site(words, z, visit.master, visit.cache);
+    take_keys(words, z, visit.site, trial.taken);
     merge_keys(words, z, visit.snapshot, visit.cache, trial.pulled);
     mark_done(words, at, jobs_done, visit.read | visit.reads);
 }

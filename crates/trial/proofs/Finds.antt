@@ -27,7 +27,7 @@ use Rattle.trial.specs.declared.Trial.{Trial}
 use Rattle.trial.specs.Jobs.{UsedRun}
 use Rattle.trial.specs.Trials.{visitOf, trialOf, Finds}
 use Rattle.trial.proofs.Known.{job-known, job-ready}
-use Rattle.trial.proofs.Trials.{master-at, cache-at, old-master, old-cache}
+use Rattle.trial.proofs.Trials.{site-at, master-at, cache-at, old-master, old-cache}
 
 -- ---- the visit and the trial
 
@@ -67,6 +67,9 @@ module _ (l : List ℕ) (z : Counts) (r j : ℕ) (v : Visit) (t : Trial)
   pub found-snapshot-at : v .snapshot ≡ snapshotAt z r
   unfolding visitOf
   found-snapshot-at = ap (λ (v : Visit). v .snapshot) (F .visit)
+
+  pub found-site-at : v .site ≡ stepSite s r j
+  found-site-at = site-at l z r j (snapshotAt z r) (found-run .0) (found-run .1) v (F .visit)
 
   pub found-cache-at : v .cache ≡ siteAt z (stepSite s r j)
   found-cache-at = cache-at l z r j (snapshotAt z r) (found-run .0) (found-run .1) v (F .visit)

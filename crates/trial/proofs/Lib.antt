@@ -1,4 +1,5 @@
 pub mod Known
 pub mod Masks
+pub mod Cases
 pub mod Trials
 pub mod Finds

@@ -1,20 +1,16 @@
 -- The trial of a job finds what the rule of step does.
--- tried-no, tried-yes: its two cases. refused-as, found-as: what each of them tells.
 -- visit-is: a visit as the code makes it. VisitKnown, visit-known: what holds of it.
--- master-at, cache-at, old-..: the parts of the rule, where a visit reads them.
--- cause-last: cause 7, as the code tests it. trial-found: T and C.
+-- site-at, master-at, cache-at, old-..: the parts of the rule, where a visit reads them.
+-- taken-read: T. cause-last: cause 7, as the code tests it. trial-found: T and C.
 -- branch-own: the run's own snapshot and read mask.
 -- Assumes nothing.
-use mathlib.Core.Path.{_≡_, refl, sym, ap, _∙_}
-use mathlib.Core.Bool.{Bool, true, false}
-use mathlib.Core.Logic.{_≢_}
+use mathlib.Core.Path.{_≡_, sym, ap, _∙_}
+use mathlib.Core.Bool.{Bool}
 use mathlib.Core.List.{List}
 use Prim.Native.Nat.{ℕ, _+_, _<_, _^_}
 use native.Mathlib.Omega.{arith}
-use lib.Dec.{eqb}
 use lib.ListN.{length, getD}
 use Rattle.words.specs.Tests.{Items}
-use Rattle.words.proofs.Bools.{test, clash, eqb-eq, eqb-ne, ne-eqb}
 use Rattle.masks.specs.Mask.{testBit, maskBelow}
 use Rattle.sizes.specs.declared.Counts.{Counts}
 use Rattle.sizes.specs.Bounds.{everyJob, readOffset, masterAt, siteAt, runAt, snapshotAt}
@@ -34,79 +30,24 @@ use Rattle.form.proofs.Known.{form-area, form-counts}
 use Rattle.form.proofs.Snapshots.{test-plan}
 use Rattle.status.proofs.Known.{run-known}
 use Rattle.sets.specs.Draws.{viewed}
+use Rattle.fetching.proofs.Taking.{taken-lacked}
 use Rattle.trial.specs.declared.Visit.{Visit}
 use Rattle.trial.specs.declared.Trial.{Trial}
-use Rattle.trial.specs.declared.Tried.{Tried}
 use Rattle.trial.specs.declared.jobs.PlannedJob.{PlannedJob}
 use Rattle.trial.specs.Jobs.{UsedRun, plannedJob}
-use Rattle.trial.specs.Trials.{visitOf, trialOf, triedOf, BranchAt}
+use Rattle.trial.specs.Trials.{visitOf, trialOf, BranchAt}
 use Rattle.trial.proofs.Known.{jobs-known, job-known}
 use Rattle.trial.proofs.Masks.{fetchable, taken-mask, pulled-mask}
-
--- ---- the two cases
-
-isFound : Tried → Bool
-isFound (Tried.Refused n) = false
-isFound (Tried.Found v t) = true
-
--- What it holds, or something else in the other case.
-number : Tried → ℕ
-number (Tried.Refused n) = n
-number (Tried.Found v t) = 0
-
-visit : Visit → Tried → Visit
-visit w (Tried.Refused n) = w
-visit w (Tried.Found v t) = v
-
-trial : Trial → Tried → Trial
-trial u (Tried.Refused n) = u
-trial u (Tried.Found v t) = t
-
-module _ (s : Store) (r j snapshot : ℕ) where
-  pub tried-no : (n : ℕ) → stepCause s r j ≡ n → n ≢ 0
-      → Tried.Refused n ≡ triedOf s r j snapshot
-  unfolding triedOf
-  tried-no n e h = rw (e, ne-eqb n 0 h)
-
-  pub tried-yes : (v : Visit) (t : Trial) → stepCause s r j ≡ 0 → v ≡ visitOf s r j snapshot
-      → t ≡ trialOf s r j → Tried.Found v t ≡ triedOf s r j snapshot
-  unfolding triedOf
-  tried-yes v t e f g = rw e (λ i. Tried.Found (f i) (g i))
-
-  pub refused-as : (n : ℕ) → Tried.Refused n ≡ triedOf s r j snapshot
-      → (n ≡ stepCause s r j) × (n ≢ 0)
-  unfolding triedOf isFound number
-  refused-as n e =
-      let c = stepCause s r j in
-      test (eqb c 0) (λ y.
-      let same : Tried.Refused n ≡ Tried.Found (visitOf s r j snapshot) (trialOf s r j) =
-      rw y at e in
-      clash {b = true} refl (sym (ap isFound same))) (λ y.
-      let equal : Tried.Refused n ≡ Tried.Refused c = rw y at e in
-      let same : n ≡ c = ap number equal in
-      (same, λ z. eqb-ne c 0 y (sym same ∙ z)))
-
-  pub found-as : (v : Visit) (t : Trial) → Tried.Found v t ≡ triedOf s r j snapshot
-      → (stepCause s r j ≡ 0) × (v ≡ visitOf s r j snapshot) × (t ≡ trialOf s r j)
-  unfolding triedOf isFound visit trial
-  found-as v t e =
-      let c = stepCause s r j in
-      test (eqb c 0) (λ y.
-      let same : Tried.Found v t ≡ Tried.Found (visitOf s r j snapshot) (trialOf s r j) =
-      rw y at e in
-      (eqb-eq c 0 y, ap (visit v) same, ap (trial t) same))
-      (λ y.
-      let same : Tried.Found v t ≡ Tried.Refused c = rw y at e in
-      clash {b = true} refl (ap isFound same))
 
 -- ---- the visit of a job of a run that isn't free
 
 -- m, c, p, x: what the code finds.
 pub visit-is : (l : List ℕ) (z : Counts) (r j snapshot read : ℕ) → FormWith l z
     → BranchAt l z r snapshot read → let a = storeOf l .run r in
-    (m c p : ℕ) (x : PlannedJob) → m ≡ masterAt z → c ≡ siteAt z (x .site)
+    (o m c p : ℕ) (x : PlannedJob) → o ≡ x .site → m ≡ masterAt z → c ≡ siteAt z o
     → p ≡ readsOf (a .jobs) (a .job) everyJob → x ≡ plannedJob (a .job j)
     → _≡_ {A = Visit} (record {
+      site = o;
       master = m;
       cache = c;
       snapshot = snapshot;
@@ -116,10 +57,12 @@ pub visit-is : (l : List ℕ) (z : Counts) (r j snapshot read : ℕ) → FormWit
     })
     (visitOf (storeOf l) r j snapshot)
 unfolding visitOf stepSite
-visit-is l z r j snapshot read H L m c p x d e f g =
+visit-is l z r j snapshot read H L o m c p x b d e f g =
+    let site = b ∙ ap (λ (x : PlannedJob). x .site) g in
     rw (form-counts l z H, L .mask) (λ i. record {
+      site = site i;
       master = d i;
-      cache = (e ∙ ap (λ (x : PlannedJob). siteAt z (x .site)) g) i;
+      cache = (e ∙ ap (siteAt z) site) i;
       snapshot = snapshot;
       plan = f i;
       reads = g i .reads;
@@ -127,6 +70,7 @@ visit-is l z r j snapshot read H L m c p x d e f g =
     })
 
 pub record VisitKnown (l : List ℕ) (z : Counts) (v : Visit) : Type 0 where
+  pub site : v .site < z .sites
   pub master : Area (length l) z (v .master)
   pub cache : Area (length l) z (v .cache)
   pub reads : v .reads < 2 ^ z .keys
@@ -140,6 +84,10 @@ module _ (l : List ℕ) (z : Counts) (r j snapshot : ℕ) (U : UsedRun l z r)
   site-low : stepSite s r j < z .sites
   unfolding stepSite
   site-low = job-known l z r U j h .site
+
+  pub site-at : v .site ≡ stepSite s r j
+  unfolding visitOf
+  site-at = ap (λ (v : Visit). v .site) seen
 
   pub master-at : v .master ≡ masterAt z
   unfolding visitOf
@@ -170,6 +118,7 @@ module _ (l : List ℕ) (z : Counts) (r j snapshot : ℕ) (U : UsedRun l z r)
   visit-known =
       let S = form-area l z (U .form) in
       record {
+        site = rw site-at site-low;
         master = rw master-at (master-area (length l) z (S .ranged) (S .fits));
         cache = rw cache-at (site-area (length l) z (S .ranged) (S .fits) _ site-low);
         reads = rw seen (job-known l z r U j h .reads);
@@ -189,16 +138,29 @@ module _ (l : List ℕ) (z : Counts) (r j snapshot : ℕ) (U : UsedRun l z r)
         readStart alg (z .keys) (readPlace z l snapshot) (readPlace z l (v .cache))
         (testBit (v .reads))
 
-    pub cause-last : (b : Bool) → jobCause (s .run r) j 0 ≡ 0
-        → b ≡ unfetchable alg (z .keys) (readPlace z l (v .master)) (testBit start)
+    -- t: T, as the code finds it at the site.
+    pub taken-read : (t : ℕ)
+        → t ≡ maskBelow (z .keys) (fetchSet alg (z .keys) (s .master) (s .site (v .site) .cache)
+        (testBit start))
+        → t ≡ maskBelow (z .keys) (fetchSet alg (z .keys) (readPlace z l (v .master))
+        (readPlace z l (v .cache)) (testBit start))
+    taken-read t f = rw (← old-master, ← old-cache, ← site-at) f
+
+    pub cause-last : (t : ℕ) (b : Bool) → jobCause (s .run r) j 0 ≡ 0
+        → t ≡ maskBelow (z .keys) (fetchSet alg (z .keys) (s .master) (s .site (v .site) .cache)
+        (testBit start))
+        → b ≡ unfetchable alg (z .keys) (s .master) (testBit t)
         → stepCause s r j ≡ refuse b 7 0
     unfolding stepStart
-    cause-last b free f =
+    cause-last t b free f g =
+        let asked : unfetchable alg (z .keys) (readPlace z l (v .master)) (testBit start) ≡ b =
+        rw (← old-master) (sym (taken-lacked z (s .master) (s .site (v .site) .cache)
+        (testBit start) t f) ∙ sym g) in
         let same : unfetchable (versions (s .counts .writers)) (s .counts .keys) (s .master)
         (stepStart s r j) ≡ b =
         rw (old-reads, old-cache, L .place, old-master, form-counts l z (U .form))
         (sym (fetchable alg (z .keys) (readPlace z l (v .master)) _ _ _ wanted start w e)
-        ∙ sym f) in
+        ∙ asked) in
         step-below s r j (rw (form-counts l z (U .form)) (U .run))
         ∙ rw free (ap (λ (t : Bool). refuse t 7 0) same)
 

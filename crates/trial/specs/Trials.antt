@@ -21,11 +21,13 @@ use Rattle.trial.specs.declared.Trial.{Trial}
 use Rattle.trial.specs.declared.Tried.{Tried}
 
 module _ (s : Store) (r j : ℕ) where
-  -- Master, cache and reads (R) of job j of run r, the plan's keys, and the snapshot at an index.
+  -- Site, master, cache and reads (R) of job j of run r, the plan's keys, and the snapshot at an
+  -- index.
   unfoldable pub visitOf : ℕ → Visit
   visitOf snapshot =
       let a = s .run r in
       record {
+        site = stepSite s r j;
         master = masterAt (s .counts);
         cache = siteAt (s .counts) (stepSite s r j);
         snapshot = snapshot;

@@ -4,12 +4,12 @@ pub mod causes;
 pub mod jobs;
 
 use causes::job_cause;
+use fetching::find_taken;
+use fetching::is_lacked;
 use jobs::job_of;
 use jobs::plan_keys;
 use sets::View;
 use sets::draw_set;
-use sets::fetch_set;
-use sets::missing::is_unfetchable;
 use sets::missing::lacking;
 use sizes::Counts;
 use sizes::run::RunOffset;
@@ -22,9 +22,10 @@ ghost use Rattle.form.specs.Parts.{FormWith};
 ghost use Rattle.trial.specs.Jobs.{UsedRun};
 ghost use Rattle.trial.specs.Trials.{visitOf, triedOf, BranchAt};
 
-// What a step looks at: where three places begin, the plan's keys, the job's reads (R), and what
-// the run has read.
+// What a step looks at: the job's site, where three places begin, the plan's keys, the job's reads
+// (R), and what the run has read.
 pub struct Visit {
+    pub site: usize,
     pub master: usize,
     pub cache: usize,
     pub snapshot: usize,
@@ -73,10 +74,10 @@ pub fn try_at(words: &[u32], z: Counts, r: usize, j: usize, snapshot: usize, rea
     let visit = visit_of(words, z, r, j, snapshot, read);
     let wanted = lacking(words, z, snapshot, visit.reads);
     let start = lacking(words, z, visit.cache, wanted);
-    if is_unfetchable(words, z, visit.master, start) {
+    let taken = find_taken(words, z, visit.site, start);
+    if is_lacked(words, z, taken) {
         return Tried::Refused(7);
     }
-    let taken = fetch_set(words, z, visit.master, visit.cache, start);
     let source = View {
         mask: taken,
         first: visit.master,
@@ -95,8 +96,10 @@ fn visit_of(words: &[u32], z: Counts, r: usize, j: usize, snapshot: usize, read:
     let job = job_of(words, z, r, j);
     let plan = plan_keys(words, z, r);
     let areas = z.areas();
-    let cache = z.site_at(wide(job.site));
+    let site = wide(job.site);
+    let cache = z.site_at(site);
     Visit {
+        site,
         master: areas.master,
         cache,
         snapshot,

@@ -4,7 +4,7 @@ use mathlib.Core.Path.{sym, _∙_}
 use borrow.Author.Needs.{needs}
 use Rattle.form.proofs.Known.{form-long}
 use Rattle.trial.specs.Trials.{Finds}
-use Rattle.trial.proofs.Trials.{refused-as, found-as}
+use Rattle.trial.proofs.Cases.{refused-as, found-as}
 use Rattle.explain.specs.Answers.{foundWords, explainedWords, Fits}
 use Rattle.explain.proofs.Found.{draws-found, words-found, words-refused}
 use Rattle.explain.proofs.explain.Statement.{statement}

@@ -12,12 +12,11 @@ use Rattle.model.specs.Step.{stepSnapshot}
 use Rattle.layout.specs.Reading.{storeOf}
 use Rattle.layout.specs.Stored.{putPlace}
 use Rattle.layout.specs.Buffer.{written}
-use Rattle.version.specs.Places.{putMark}
 use Rattle.form.proofs.Known.{form-area}
 use Rattle.status.proofs.Statuses.{marked-words}
 use Rattle.trial.proofs.Known.{run-index, job-low}
-use Rattle.trial.proofs.Finds.{found-run}
-use Rattle.step.proofs.Stores.{fetch-areas, mark-areas, merge-areas, copied, shelved, cache-kept, merged, step-left}
+use Rattle.trial.proofs.Finds.{found-run, found-site, found-site-at}
+use Rattle.step.proofs.Stores.{merge-areas, shelved, site-taken, merged, step-left}
 use Rattle.step.proofs.finish.Statement.{statement}
 use Rattle.step.proofs.finish.Tie as tie
 
@@ -39,50 +38,38 @@ with-item-requires c κs =
     let U = found-run _ _ _ _ _ _ (s .pre) in
     omega (arith, job-low _ _ _ (U .0) (s .args .job) (U .1))
 
-copy-keys-requires : tie.Need-copy-keys-requires
-copy-keys-requires c κs =
+take-keys-requires : tie.Need-take-keys-requires
+take-keys-requires c κs =
     let s = c .before .before .before .before .before in
-    let a = s .args in
-    fetch-areas (a .words .now) (a .z) (a .r) (a .job) (a .visit) (a .trial) (s .pre)
-
-mark-site-requires : tie.Need-mark-site-requires
-mark-site-requires c κs =
-    let n = c .before .before .before in
-    let s = n .before .before .before .before .before .before in
-    let a = s .args in
-    rw (n .copy-keys .kept .0)
-    (mark-areas (a .words .now) (a .z) (a .r) (a .job) (a .visit) (a .trial) (s .pre))
+    let a = s .args in (
+      s .pre .form,
+      rw (found-site-at _ _ _ _ _ _ (s .pre)) (found-site _ _ _ _ _ _ (s .pre)),
+    )
 
 -- The cache has taken T.
-fetched : (c : tie.After-mark-site) → let n = c .before .before .before .before in
-    let a = n .before .before .before .before .before .before .args in
-    c .mark-site .last .0
+fetched : (c : tie.After-take-keys)
+    → let a = c .before .before .before .before .before .before .args in
+    c .take-keys .last .0
     ≡ written (shelved (storeOf (a .words .now)) (a .r) (a .job)) (a .words .now)
 fetched c =
-    let n = c .before .before .before .before in
-    let s = n .before .before .before .before .before .before in
+    let s = c .before .before .before .before .before .before in
     let a = s .args in
-    c .mark-site .ensures
-    ∙ ap (λ (m : List ℕ). putMark (a .z) m (a .visit .master) (a .visit .cache))
-    (n .copy-keys .ensures
-    ∙ copied (a .words .now) (a .z) (a .r) (a .job) (a .visit) (a .trial) (s .pre))
-    ∙ cache-kept (a .words .now) (a .z) (a .r) (a .job) (a .visit) (a .trial) (s .pre)
+    site-taken (a .words .now) (a .z) (a .r) (a .job) (a .visit) (a .trial) (s .pre) _
+    (c .take-keys .ensures)
 
 merge-keys-requires : tie.Need-merge-keys-requires
 merge-keys-requires c κs =
-    let k = c .before .before .before in
-    let n = k .before .before .before .before in
+    let n = c .before .before .before in
     let s = n .before .before .before .before .before .before in
     let a = s .args in
-    rw (k .mark-site .kept .0 ∙ n .copy-keys .kept .0)
+    rw (n .take-keys .kept .0)
     (merge-areas (a .words .now) (a .z) (a .r) (a .job) (a .visit) (a .trial) (s .pre))
 
 mark-done-requires : tie.Need-mark-done-requires
 mark-done-requires c κs =
     let m = c .before .before .before .before in
-    let k = m .before .before .before .before in
-    let n = k .before .before .before .before in
-    rw (m .merge-keys .kept .0 ∙ k .mark-site .kept .0 ∙ n .copy-keys .kept .0)
+    let n = m .before .before .before .before in
+    rw (m .merge-keys .kept .0 ∙ n .take-keys .kept .0)
     (omega (arith, here (n .before .before .before .before)))
 
 returns : tie.Need-returns
@@ -90,7 +77,7 @@ returns c =
     let d = c .before .before in
     let m = d .before .before .before .before .before in
     let n = m .before .before .before .before in
-    let i = n .before .before .before .before .before .before in
+    let i = n .before .before in
     let k = i .before .before in
     let s = k .before .before in
     let a = s .args in
@@ -101,7 +88,7 @@ returns c =
     ≡ putPlace (a .z) (written (shelved x (a .r) (a .job)) l) (v .snapshot)
     (stepSnapshot x (a .r) (a .job)) =
     m .merge-keys .ensures .0
-    ∙ merged l (a .z) (a .r) (a .job) v (a .trial) (s .pre) (n .mark-site .last .0) (fetched n)
+    ∙ merged l (a .z) (a .r) (a .job) v (a .trial) (s .pre) (n .take-keys .last .0) (fetched n)
     ∙ ap (λ (m : List ℕ). putPlace (a .z) m (v .snapshot) (stepSnapshot x (a .r) (a .job)))
     (fetched n) in
     d .mark-done .ensures
@@ -120,8 +107,7 @@ finish-spec =
     (λ c. omega (arith, here c))
     (λ c. omega (arith, here (c .before)))
     with-item-requires
-    copy-keys-requires
-    mark-site-requires
+    take-keys-requires
     merge-keys-requires
     mark-done-requires
     (λ c. search needs)

@@ -3,7 +3,7 @@
 use mathlib.Core.Path.{sym, _∙_}
 use borrow.Author.Needs.{needs}
 use Rattle.form.proofs.Known.{form-long}
-use Rattle.trial.proofs.Trials.{refused-as, found-as}
+use Rattle.trial.proofs.Cases.{refused-as, found-as}
 use Rattle.step.specs.Answers.{steppedWords}
 use Rattle.step.proofs.Steps.{step-refused}
 use Rattle.step.proofs.step.Statement.{statement}

@@ -1,4 +1,4 @@
--- `try_at` tests the causes of the run, finds what is to be fetched, then T and C.
+-- `try_at` tests the causes of the run, finds what is to be fetched and T, tests it, and finds C.
 -- Assumes nothing.
 use mathlib.Core.Path.{_≡_, sym, ap, _∙_}
 use mathlib.Core.Bool.{Bool}
@@ -14,7 +14,8 @@ use Rattle.layout.specs.Reading.{storeOf}
 use Rattle.form.proofs.Known.{form-counts}
 use Rattle.trial.specs.Jobs.{UsedRun}
 use Rattle.trial.proofs.Known.{job-ready}
-use Rattle.trial.proofs.Trials.{VisitKnown, tried-no, tried-yes, visit-known, cause-last, trial-found}
+use Rattle.trial.proofs.Cases.{tried-no, tried-yes}
+use Rattle.trial.proofs.Trials.{VisitKnown, visit-known, taken-read, cause-last, trial-found}
 use Rattle.trial.proofs.try_at.Statement.{statement}
 use Rattle.trial.proofs.try_at.Tie as tie
 
@@ -74,15 +75,27 @@ start-low : (c : tie.After-lacking2)
     → c .lacking2 .result < 2 ^ c .before .before .before .before .before .before .args .z .keys
 start-low c = rw (c .lacking2 .ensures) (mask-lt _ _ _ (omega arith))
 
-is-unfetchable-requires : tie.Need-is-unfetchable-requires
-is-unfetchable-requires c κs = (known (c .before .before) .master, start-low c)
+find-taken-requires : tie.Need-find-taken-requires
+find-taken-requires c κs =
+    let v = c .before .before in
+    let e = v .before in ((ready e .0 .form, known v .site), start-low c)
+
+taken-low : (c : tie.After-find-taken)
+    → c .find-taken .result < 2 ^ c .before .before .before .before .before .before .before
+    .args .z .keys
+taken-low c = rw (c .find-taken .ensures) (mask-lt _ _ _ (omega arith))
+
+is-lacked-requires : tie.Need-is-lacked-requires
+is-lacked-requires c κs =
+    let e = c .before .before .before .before in (ready e .0 .form, taken-low c)
 
 -- What is left where the causes before it do not hold.
-tested : (c : tie.After-is-unfetchable)
-    → let a = c .before .before .before .before .before .before .before .args in
-    stepCause (storeOf (a .words .now)) (a .r) (a .j) ≡ refuse (c .is-unfetchable .result) 7 0
+tested : (c : tie.After-is-lacked)
+    → let a = c .before .before .before .before .before .before .before .before .args in
+    stepCause (storeOf (a .words .now)) (a .r) (a .j) ≡ refuse (c .is-lacked .result) 7 0
 tested c =
-    let n = c .before in
+    let t = c .before in
+    let n = t .before in
     let w = n .before in
     let v = w .before in
     let e = v .before in
@@ -91,22 +104,18 @@ tested c =
     cause-last (a .words .now) (a .z) (a .r) (a .j) (a .snapshot) (ready e .0) (ready e .1)
     (v .visit-of .result) (v .visit-of .ensures) (a .read) (s .pre .1) (w .lacking .result)
     (n .lacking2 .result) (w .lacking .ensures) (n .lacking2 .ensures)
-    (c .is-unfetchable .result) (free e) (c .is-unfetchable .ensures)
+    (t .find-taken .result) (c .is-lacked .result) (free e) (t .find-taken .ensures)
+    (c .is-lacked .ensures)
 
 returns-2 : tie.Need-returns-2
 unfolding refuse
 returns-2 c =
     let u = c .before in
-    let a = u .before .before .before .before .before .before .before .args in
+    let a = u .before .before .before .before .before .before .before .before .args in
     tried-no _ (a .r) (a .j) _ 7 (tested u ∙ ap (λ (b : Bool). refuse b 7 0) (c .if2 .taken))
     (λ e. absurd (omega arith))
 
--- ---- T and C
-
-fetch-set-requires : tie.Need-fetch-set-requires
-fetch-set-requires c κs =
-    let n = c .before .before in
-    let K = known (n .before .before) in ((K .master, K .cache), start-low n)
+-- ---- C
 
 draw-set-requires : tie.Need-draw-set-requires
 draw-set-requires c κs =
@@ -119,21 +128,25 @@ draw-set-requires c κs =
 returns-3 : tie.Need-returns-3
 unfolding refuse
 returns-3 c =
-    let t = c .before in
-    let i = t .before in
+    let i = c .before in
     let u = i .before in
-    let n = u .before in
+    let t = u .before in
+    let n = t .before in
     let w = n .before in
     let v = w .before in
     let e = v .before in
     let s = e .before .before .before in
     let a = s .args in
+    let found = taken-read (a .words .now) (a .z) (a .r) (a .j) (a .snapshot) (ready e .0)
+    (ready e .1) (v .visit-of .result) (v .visit-of .ensures) (a .read) (s .pre .1)
+    (w .lacking .result) (n .lacking2 .result) (w .lacking .ensures) (n .lacking2 .ensures)
+    (t .find-taken .result) (t .find-taken .ensures) in
     tried-yes _ (a .r) (a .j) _ _ _
     (tested u ∙ ap (λ (b : Bool). refuse b 7 0) (i .if2 .left)) (v .visit-of .ensures)
     (trial-found (a .words .now) (a .z) (a .r) (a .j) (a .snapshot) (ready e .0) (ready e .1)
     (v .visit-of .result) (v .visit-of .ensures) (a .read) (s .pre .1) (w .lacking .result)
     (n .lacking2 .result) (w .lacking .ensures) (n .lacking2 .ensures)
-    (t .fetch-set .result) (c .draw-set .result) (t .fetch-set .ensures) (c .draw-set .ensures))
+    (t .find-taken .result) (c .draw-set .result) found (c .draw-set .ensures))
 
 pub try-at-spec : {M : Type 1} → statement M
 try-at-spec =
@@ -144,8 +157,8 @@ try-at-spec =
     visit-of-requires
     lacking-requires
     lacking-requires-2
-    is-unfetchable-requires
+    find-taken-requires
+    is-lacked-requires
     returns-2
-    fetch-set-requires
     draw-set-requires
     returns-3)

@@ -7,7 +7,8 @@ use Rattle.layout.specs.Reading.{storeOf}
 use Rattle.form.proofs.Known.{form-area, form-counts}
 use Rattle.status.proofs.Known.{run-known}
 use Rattle.trial.specs.Trials.{triedOf}
-use Rattle.trial.proofs.Trials.{tried-no, branch-own}
+use Rattle.trial.proofs.Cases.{tried-no}
+use Rattle.trial.proofs.Trials.{branch-own}
 use Rattle.trial.proofs.try_job.Statement.{statement}
 use Rattle.trial.proofs.try_job.Tie as tie
 

@@ -1,8 +1,6 @@
 -- `visit_of` reads the job and the plan.
 -- Assumes nothing.
-use mathlib.Core.Path.{ap, _∙_}
 use borrow.Author.Needs.{needs}
-use Rattle.sizes.specs.Bounds.{siteAt}
 use Rattle.form.proofs.Known.{form-area, master-found}
 use Rattle.trial.proofs.Known.{job-known}
 use Rattle.trial.proofs.Trials.{visit-is}
@@ -21,10 +19,6 @@ site-at-requires c κs =
     let R = form-area (a .words .now) (a .z) (s .pre .0 .0 .form) in
     (R .ranged, rw (c .wide .ensures, j .job-of .ensures) (J .site))
 
-shared-slice-read-t13 : tie.Need-shared-slice-read-t13
-shared-slice-read-t13 c =
-    let j = c .before .before .before .before .before in j .before .before .pre .1 .low
-
 returns : tie.Need-returns
 returns c =
     let o = c .before in
@@ -35,10 +29,10 @@ returns c =
     let s = j .before .before in
     let a = s .args in
     visit-is (a .words .now) (a .z) (a .r) (a .j) (a .snapshot) (a .read) (s .pre .0 .0 .form)
-    (s .pre .1) (m .areas .result .master) (o .site-at .result) (p .plan-keys .result)
-    (j .job-of .result) (master-found (a .z) (m .areas .result) (m .areas .ensures))
-    (o .site-at .ensures ∙ ap (siteAt (a .z)) (w .wide .ensures)) (p .plan-keys .ensures)
-    (j .job-of .ensures)
+    (s .pre .1) (w .wide .result) (m .areas .result .master) (o .site-at .result)
+    (p .plan-keys .result) (j .job-of .result) (w .wide .ensures)
+    (master-found (a .z) (m .areas .result) (m .areas .ensures)) (o .site-at .ensures)
+    (p .plan-keys .ensures) (j .job-of .ensures)
 
 pub visit-of-spec : {M : Type 1} → statement M
 visit-of-spec =
@@ -50,5 +44,5 @@ visit-of-spec =
     (λ c κs. search needs)
     site-at-requires
     (λ c. search needs)
-    shared-slice-read-t13
+    (λ c. c .before .before .before .before .before .before .before .pre .1 .low)
     returns)
