@@ -39,9 +39,9 @@ extern "C" {
 #endif
 
 /* The version of the calls: rises when one is added or changes what it takes, does or answers. */
-#define SHEETDESK_VERSION 6
+#define SHEETDESK_VERSION 7
 /* The version of the desk's words: rises when a desk of the same counts has other words. */
-#define SHEETDESK_LAYOUT 3
+#define SHEETDESK_LAYOUT 4
 /* The same two of the library that is linked: compare them with these. */
 uint32_t sheetdesk_version(void);
 uint32_t sheetdesk_layout(void);
@@ -49,7 +49,7 @@ uint32_t sheetdesk_layout(void);
 /* The length of a slice that holds any answer. */
 #define SHEETDESK_ANSWER_WORDS 40
 /* The words of the largest desk (32 sheets, 16 writers, 8 offices, 8 runs). */
-#define SHEETDESK_MOST_WORDS 288066
+#define SHEETDESK_MOST_WORDS 288074
 
 /* The words of a desk of k sheets, w writers, n offices and p runs, to be lent before new; 0 if
  * new refuses the counts. A constant if they are. */
@@ -58,9 +58,10 @@ uint32_t sheetdesk_layout(void);
          ? SHEETDESK_WORDS_OF((size_t)(k), (size_t)(w), (size_t)(n), (size_t)(p)) \
          : 0)
 /* The same for counts in range: header, then master, shelves and cards of k versions each, a
- * mark for each shelf, a count and a past for each writer, and 28 words more for each run. */
+ * mark and an allowance for each shelf, a count and a past for each writer, and 28 words more for
+ * each run. */
 #define SHEETDESK_WORDS_OF(k, w, n, p) \
-    (10 + (k) * (2 + (k) * (w)) * (1 + (n) + (p)) + (n) + (w) * (1 + (k) * (w)) + 28 * (p))
+    (10 + (k) * (2 + (k) * (w)) * (1 + (n) + (p)) + 2 * (n) + (w) * (1 + (k) * (w)) + 28 * (p))
 
 /* The answer's first word. */
 enum sheetdesk_outcome {
@@ -83,7 +84,8 @@ enum sheetdesk_refusal {
     SHEETDESK_NOT_HELD = 8,      /* evict, look: the sheet isn't held there */
     SHEETDESK_ISSUES_SPENT = 9,  /* the last issue number is 4294967295 */
     SHEETDESK_WRITER_SPENT = 10, /* the writer's count is 4294967295 */
-    SHEETDESK_NOT_ADMITTED = 11  /* admit: in form, but no desk that the calls can have left */
+    SHEETDESK_NOT_ADMITTED = 11, /* admit: in form, but no desk that the calls can have left */
+    SHEETDESK_OVER_ALLOWANCE = 12 /* a shelf would hold more sheets than its allowance */
 };
 
 /* How one clock stands against another: all counts are equal; some are smaller and none larger;
@@ -166,6 +168,12 @@ uint32_t sheetdesk_stale(const uint32_t *desk, size_t desk_len, uint32_t office,
  * nothing. */
 uint32_t sheetdesk_admit(const uint32_t *desk, size_t desk_len, uint32_t *answer,
                          size_t answer_len);
+
+/* Sets how many sheets the office's shelf may hold, 0..k; k on a new desk. Refused with 12 if it
+ * holds more now. From then on a fetch, prepare or step after which a shelf would hold more is
+ * refused with 12, and nothing is changed; evict frees places. Ok: 0. Returns 2 words. */
+uint32_t sheetdesk_allow(uint32_t *desk, size_t desk_len, uint32_t office, uint32_t number,
+                         uint32_t *answer, size_t answer_len);
 
 /* How clock p stands against clock q. Returns an enum sheetdesk_standing; two empty clocks (both
  * lengths 0) are equal. */

@@ -1,7 +1,7 @@
 """The sheet desk for Python: the library's calls by ctypes alone, with the names of the Rust wrapper.
 
     desk = sheetdesk.Desk(sheetdesk.words(2, 2, 2, 1))
-    print(desk.new(2, 2, 2, 1))                # ok 98
+    print(desk.new(2, 2, 2, 1))                # ok 100
     print(desk.open(0, [sheetdesk.Job(0, 0, 0)]))
 
 A Desk owns its words; each call gives an Answer, which prints as the program prints it. sheetdesk.h says what each
@@ -16,10 +16,10 @@ import enum
 import os
 from typing import NamedTuple
 
-VERSION = 6
-LAYOUT = 3
+VERSION = 7
+LAYOUT = 4
 ANSWER_WORDS = 40
-MOST_WORDS = 288066
+MOST_WORDS = 288074
 
 
 class Refusal(enum.IntEnum):
@@ -36,6 +36,7 @@ class Refusal(enum.IntEnum):
     ISSUES_SPENT = 9
     WRITER_SPENT = 10
     NOT_ADMITTED = 11
+    OVER_ALLOWANCE = 12
 
 
 class Standing(enum.IntEnum):
@@ -116,7 +117,7 @@ def words(sheets, writers, offices, runs):
         if not 1 <= _word(count) <= most:
             return 0
     version, writer = 2 + sheets * writers, 1 + sheets * writers
-    return 10 + sheets * version * (1 + offices + runs) + offices + writers * writer + 28 * runs
+    return 10 + sheets * version * (1 + offices + runs) + 2 * offices + writers * writer + 28 * runs
 
 
 def _word(number):
@@ -149,7 +150,7 @@ def _library():
     places = [os.path.join(here, "..", "..", "lib", name), os.path.join(here, "..", "target", "shared", name)]
     path = os.environ.get("SHEETDESK_LIBRARY") or next(filter(os.path.exists, places), name)
     library = ctypes.CDLL(path)
-    calls = "new open fetch evict prepare step explain issue drop look stale admit compare covers merge version layout"
+    calls = "new open fetch evict prepare step explain issue drop look stale admit allow compare covers merge version layout"
     for call in calls.split():
         getattr(library, "sheetdesk_" + call).restype = ctypes.c_uint32
     if (library.sheetdesk_version(), library.sheetdesk_layout()) != (VERSION, LAYOUT):
@@ -227,6 +228,10 @@ class Desk:
     def admit(self):
         """Takes the words back that were saved to a file; the header says what it asks of them."""
         return self._call("admit")
+
+    def allow(self, office, number):
+        """Sets how many sheets the office's shelf may hold."""
+        return self._call("allow", office, number)
 
 
 def compare(p, q):

@@ -9,16 +9,16 @@
 use std::fmt::{self, Write};
 
 /// The version of the calls: `SHEETDESK_VERSION` of the header.
-pub const VERSION: u32 = 6;
+pub const VERSION: u32 = 7;
 
 /// The version of the desk's words: `SHEETDESK_LAYOUT` of the header. Save it with the words.
-pub const LAYOUT: u32 = 3;
+pub const LAYOUT: u32 = 4;
 
 /// Words of a slice that holds any answer.
 pub const ANSWER_WORDS: usize = 40;
 
 /// The words of the largest desk (32 sheets, 16 writers, 8 offices, 8 runs).
-pub const MOST_WORDS: usize = 288_066;
+pub const MOST_WORDS: usize = 288_074;
 
 /// The words to lend for a desk of so many sheets, writers, offices and runs; 0 if new refuses
 /// the counts.
@@ -28,7 +28,7 @@ pub const fn words(sheets: u32, writers: u32, offices: u32, runs: u32) -> usize 
         return 0;
     }
     let (version, writer) = (2 + k * w, 1 + k * w);
-    10 + k * version * (1 + n + p) + n + w * writer + 28 * p
+    10 + k * version * (1 + n + p) + 2 * n + w * writer + 28 * p
 }
 
 /// The exports as C has them: a slice is a pointer and a length in words.
@@ -57,6 +57,7 @@ pub mod exports {
         sheetdesk_explain(*const u32, run, job);
         sheetdesk_stale(*const u32, office);
         sheetdesk_admit(*const u32);
+        sheetdesk_allow(*mut u32, office, number);
     }
 
     extern "C" {
@@ -130,12 +131,14 @@ pub enum Refusal {
     WriterSpent,
     /// 11: admit: in form, but no desk that the calls can have left.
     NotAdmitted,
+    /// 12: a shelf would hold more sheets than its allowance.
+    OverAllowance,
     /// A number that this wrapper has no name for: the library is newer.
     Other(u32),
 }
 
 impl Refusal {
-    const NAMED: [Refusal; 11] = [
+    const NAMED: [Refusal; 12] = [
         Refusal::NotInForm,
         Refusal::BadCount,
         Refusal::OutOfRange,
@@ -147,6 +150,7 @@ impl Refusal {
         Refusal::IssuesSpent,
         Refusal::WriterSpent,
         Refusal::NotAdmitted,
+        Refusal::OverAllowance,
     ];
 
     /// The refusal of a number.
@@ -386,6 +390,8 @@ impl<'a> Desk<'a> {
         issue(run, writer, mask) = sheetdesk_issue;
         /// Frees the run (not the desk, which only borrows its words).
         drop(run) = sheetdesk_drop;
+        /// Sets how many sheets the office's shelf may hold.
+        allow(office, number) = sheetdesk_allow;
     }
 
     tells! {

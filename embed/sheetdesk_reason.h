@@ -51,6 +51,7 @@ static inline const char *sheetdesk_reason(const char *call, uint32_t number)
         {2, "", "a count is out of range (1 to 32 sheets, 16 writers, 8 offices, 8 runs)"},
         {3, "fetch,evict", "there is no such office or sheet"},
         {3, "stale", "there is no such office"},
+        {3, "allow", "there is no such office, or the allowance is over the number of sheets"},
         {3, "step,explain", "there is no such run or job"},
         {3, "issue", "there is no such run or writer, or the mask names a sheet that there isn't"},
         {3, "look", "there is no such place, number or sheet (the master's number is 0)"},
@@ -74,6 +75,9 @@ static inline const char *sheetdesk_reason(const char *call, uint32_t number)
         {9, "", "the last issue number is the largest"},
         {10, "", "the writer's count is the largest"},
         {11, "", "the desk is in form, but no calls can have left it"},
+        {12, "allow", "the shelf holds more sheets than that: evict some first"},
+        {12, "*", "a shelf would hold more than its allowance: evict there, or allow more"},
+        {12, "", "a shelf would hold more sheets than its allowance"},
     };
     size_t row;
 

@@ -133,6 +133,7 @@ SHEETDESK_RECORDED(drop, uint32_t, 1, run)
 SHEETDESK_RECORDED(look, const uint32_t, 3, place, number, sheet)
 SHEETDESK_RECORDED(stale, const uint32_t, 1, office)
 SHEETDESK_RECORDED_ALONE(admit, const uint32_t)
+SHEETDESK_RECORDED(allow, uint32_t, 2, office, number)
 
 static inline uint32_t sheetdesk_open_recorded(const struct sheetdesk_record *record,
                                                uint32_t *desk, size_t desk_len, uint32_t run,

@@ -5,6 +5,7 @@
 //! begins with new, or at an admission (`admitted`).
 
 mod admitted;
+mod allowances;
 pub mod checks;
 pub mod follow;
 pub mod ledger;
@@ -26,6 +27,8 @@ pub struct Book {
     pub ledger: Ledger,
     pub master: Vec<Saves>,
     pub shelves: Vec<Vec<Saves>>,
+    /// How many sheets each shelf may hold, by the calls that set it.
+    pub allowances: Vec<u32>,
     pub runs: Vec<Run>,
 }
 
@@ -58,6 +61,7 @@ impl Book {
             ledger: Ledger::default(),
             master: empty(k),
             shelves: vec![empty(k); n as usize],
+            allowances: vec![k as u32; n as usize],
             runs: (0..p).map(|_| Run::fresh(k)).collect(),
         }
     }
@@ -91,6 +95,10 @@ impl Book {
             Call::Explain(..) => Vec::new(),
             Call::Stale(office) => vec![self.stale(*office as usize)],
             Call::Admit => vec![0],
+            Call::Allow(office, number) => {
+                self.allowances[*office as usize] = *number;
+                vec![0]
+            }
         }
     }
 
@@ -130,11 +138,19 @@ impl Book {
         })
     }
 
-    fn fetch(&mut self, office: usize, asked: u32) -> u32 {
-        let set = self.fetch_set(&self.shelves[office], asked);
+    /// The shelf takes the master's copies of T from the sheets asked for. Answers T.
+    fn fetch_to(&self, shelf: &mut [Saves], asked: u32) -> u32 {
+        let set = self.fetch_set(shelf, asked);
         for k in (0..self.k).filter(|k| has(set, *k)) {
-            self.shelves[office][k] = self.master[k].clone();
+            shelf[k] = self.master[k].clone();
         }
+        set
+    }
+
+    fn fetch(&mut self, office: usize, asked: u32) -> u32 {
+        let mut shelf = std::mem::take(&mut self.shelves[office]);
+        let set = self.fetch_to(&mut shelf, asked);
+        self.shelves[office] = shelf;
         set
     }
 
@@ -156,11 +172,18 @@ impl Book {
             .fold(0, |mask, k| mask | 1 << k)
     }
 
-    fn prepare(&mut self, run: usize) -> Vec<u32> {
-        for job in self.runs[run].jobs.clone() {
-            let missing = self.lacking(&self.shelves[job.office], job.reads);
-            self.fetch(job.office, missing);
+    /// The shelves as the fetches of a prepare leave them.
+    fn prepared_shelves(&self, run: usize) -> Vec<Vec<Saves>> {
+        let mut shelves = self.shelves.clone();
+        for job in &self.runs[run].jobs {
+            let missing = self.lacking(&shelves[job.office], job.reads);
+            self.fetch_to(&mut shelves[job.office], missing);
         }
+        shelves
+    }
+
+    fn prepare(&mut self, run: usize) -> Vec<u32> {
+        self.shelves = self.prepared_shelves(run);
         let plan = self.runs[run].plan();
         let mut card = empty(self.k);
         for k in (0..self.k).filter(|k| has(plan, *k)) {
@@ -177,10 +200,8 @@ impl Book {
         let (run, job) = (&self.runs[run], &self.runs[run].jobs[job]);
         let off_card = self.lacking(&run.card, job.reads);
         let mut shelf = self.shelves[job.office].clone();
-        let fetched = self.fetch_set(&shelf, self.lacking(&shelf, off_card));
-        for k in (0..self.k).filter(|k| has(fetched, *k)) {
-            shelf[k] = self.master[k].clone();
-        }
+        let missing = self.lacking(&shelf, off_card);
+        let fetched = self.fetch_to(&mut shelf, missing);
         let set = self.least(off_card, |c, d| self.leads(run, &shelf, c, d));
         StepFound { off_card, fetched, set, shelf }
     }

@@ -5,6 +5,7 @@
 //! `Refused` with the table's number; a refused call leaves every word.
 
 mod admit;
+pub mod allowance;
 mod calls;
 pub mod explain;
 mod form;
@@ -15,6 +16,7 @@ pub mod stale;
 pub mod version;
 
 pub use admit::admit;
+pub use allowance::allow;
 // Not every program that is built from this file calls all of them.
 #[allow(unused_imports)]
 pub use calls::{drop_run, issue, look, new, open};
@@ -50,6 +52,7 @@ pub const NOT_HELD: u32 = 8;
 pub const ISSUES_SPENT: u32 = 9;
 pub const WRITER_SPENT: u32 = 10;
 pub const NOT_ADMITTED: u32 = 11;
+pub const OVER_ALLOWANCE: u32 = 12;
 
 // A run's states.
 pub const FREE: u32 = 0;

@@ -20,6 +20,8 @@ mod plots;
 mod random;
 #[path = "generate/rivals.rs"]
 mod rivals;
+#[path = "generate/small.rs"]
+mod small;
 #[path = "generate/teller.rs"]
 mod teller;
 mod text;
@@ -55,7 +57,8 @@ fn main() -> io::Result<()> {
 fn one_plot(teller: &mut Teller) {
     match teller.below(100) {
         number @ 0..=57 => plots::of_runs(teller, number),
-        58..=65 => everyday::fetch_and_evict(teller),
+        58..=62 => everyday::fetch_and_evict(teller),
+        63..=65 => small::small_shelf(teller),
         66..=77 => everyday::any_call(teller),
         78..=89 => odd::refused(teller),
         90..=94 => odd::unread(teller),

@@ -1,10 +1,12 @@
 //! Checks on lent buffers: the paper's numbers, the ten marked readings, the form, refusals
-//! 9 and 10, how clocks stand, paths behind a break, leading writers, stale marks, admission, other
-//! layouts, what stands behind a save, and random buffers. Panics at the first check that fails.
+//! 9 and 10, how clocks stand, paths behind a break, leading writers, stale marks, admission,
+//! allowances, other layouts, what stands behind a save, and random buffers. Panics at the first check that fails.
 #![allow(dead_code)]
 
 #[path = "selftest/admitted.rs"]
 mod admitted;
+#[path = "selftest/allowances.rs"]
+mod allowances;
 #[path = "selftest/behind.rs"]
 mod behind;
 mod book;
@@ -87,5 +89,10 @@ fn fixed_checks() {
     admitted::one_change_each();
     admitted::not_chained();
     admitted::behind_the_next_issue();
+    allowances::before_a_break();
+    allowances::held_sheets();
+    allowances::of_all_jobs();
+    allowances::of_any_shelf();
+    allowances::asked_by_form();
     layouts::none_agree();
 }

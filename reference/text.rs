@@ -6,7 +6,7 @@ use crate::desk::{self, Answer};
 pub const LENT: usize = 16_384;
 const LONGEST: usize = 400;
 
-/// One of the twelve calls with its numbers.
+/// One of the thirteen calls with its numbers.
 #[derive(Clone, PartialEq, Eq, Debug)]
 pub enum Call {
     New([u32; 4]),
@@ -21,6 +21,7 @@ pub enum Call {
     Explain(u32, u32),
     Stale(u32),
     Admit,
+    Allow(u32, u32),
 }
 
 impl Call {
@@ -39,6 +40,7 @@ impl Call {
             Call::Explain(run, job) => ("explain", vec![*run, *job]),
             Call::Stale(office) => ("stale", vec![*office]),
             Call::Admit => ("admit", Vec::new()),
+            Call::Allow(office, number) => ("allow", vec![*office, *number]),
         }
     }
 
@@ -92,6 +94,7 @@ pub fn read_line(line: &[u8]) -> Option<Call> {
         (b"explain", [run, job]) => Some(Call::Explain(*run, *job)),
         (b"stale", [office]) => Some(Call::Stale(*office)),
         (b"admit", []) => Some(Call::Admit),
+        (b"allow", [office, number]) => Some(Call::Allow(*office, *number)),
         _ => None,
     }
 }
@@ -126,6 +129,7 @@ pub fn run(words: &mut [u32], call: &Call) -> Answer {
         Call::Explain(run, job) => desk::explain(words, *run, *job),
         Call::Stale(office) => desk::stale(words, *office),
         Call::Admit => desk::admit(words),
+        Call::Allow(office, number) => desk::allow(words, *office, *number),
     }
 }
 

@@ -109,7 +109,7 @@ trial_speed() {
 
 # Each line of --echo is its number, the script's line, and the answer, with words behind what isn't ok.
 trial_echo() {
-  for script in case-a refused-1 refused-2 refused-3 refused-4 refused-5 refused-6 refused-7 refused-8 break-several explain-path explain-refused stale-refused admit; do
+  for script in case-a refused-1 refused-2 refused-3 refused-4 refused-5 refused-6 refused-7 refused-8 break-several explain-path explain-refused stale-refused admit allow-refused allow-counts-held; do
     want 0 "--echo $script" ./sheetdesk --echo "scripts/$script.txt"
     sed -E 's/((refused|broken) [0-9]+|unread|clear|path [0-9 ]+): .*/\1/' "$work/out" >"$work/plain"
     paste -d '|' "scripts/$script.txt" "scripts/$script.out" | sed 's/|/ -> /' | awk '{ print NR ": " $0 }' |
@@ -204,9 +204,17 @@ trial_explained() {
   grep -qF -f "$work/due" "$page" || bad "the page's explain answers $(cat "$work/due"), the page says otherwise"
 }
 
+# And of allowances.
+trial_allowances() {
+  { head -n 13 scripts/allow-counts-held.txt; sed -n '/^## ALLOWANCES/,/^## EXPLAINED STEPS/s/^    //p' "$page"; } >"$work/allowed"
+  want 0 "the page's allowances" ./sheetdesk "$work/allowed"
+  tail -n +14 "$work/out" | paste -sd ',' | sed 's/,/` and `/; s/^/`/; s/$/`/' >"$work/due"
+  grep -qF -f "$work/due" "$page" || bad "the page's allowances answer $(cat "$work/due"), the page says otherwise"
+}
+
 # And of leading writers: the two looks that the page tells are the script's.
 trial_leading() {
-  sed -n '/^## LEADING WRITERS/,/^## EXPLAINED STEPS/p' "$page" | grep -o '`ok [0-9 ]*`' | tr -d '`' >"$work/due"
+  sed -n '/^## LEADING WRITERS/,/^## ALLOWANCES/p' "$page" | grep -o '`ok [0-9 ]*`' | tr -d '`' >"$work/due"
   want 0 "the page's rivals" ./sheetdesk scripts/rivals-lead.txt
   [ "$(sed -n '10p; 15p' "$work/out")" = "$(cat "$work/due")" ] || bad "the page's looks at rivals: other answers"
 }
@@ -247,7 +255,7 @@ trial_readme() {
 }
 
 trials=("$@")
-[ $# -gt 0 ] || trials=(files options lost strict speed echo prompt terminal signal broken explained leading refusals line_ends examples readme)
+[ $# -gt 0 ] || trials=(files options lost strict speed echo prompt terminal signal broken explained allowances leading refusals line_ends examples readme)
 for trial in "${trials[@]}"; do
   (trial_"$trial") || exit 1
 done

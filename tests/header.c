@@ -70,6 +70,7 @@ static int layout_refused(const uint32_t offsets[HEADER - OFFSETS])
         && NOT_TAKEN(sheetdesk_drop, 0)
         && NOT_TAKEN(sheetdesk_look, 0, 0, 0)
         && NOT_TAKEN(sheetdesk_stale, 0)
+        && NOT_TAKEN(sheetdesk_allow, 0, 0)
         && refused(sheetdesk_admit(other, LENT, ANSWER), SHEETDESK_NOT_IN_FORM);
     return good && memcmp(before, other, sizeof other) == 0;
 }
@@ -80,7 +81,8 @@ static int other_layouts_refused(void)
     static const uint32_t others[][HEADER - OFFSETS] = {
         {10, 20, 30, 40, 78}, /* layout 1 */
         {10, 22, 34, 44, 84}, /* layout 2 */
-        {10, 22, 35, 47, 87}, /* long writers */
+        {10, 22, 35, 45, 85}, /* layout 3 */
+        {10, 22, 36, 48, 88}, /* long writers */
     };
     size_t each;
 
@@ -105,7 +107,7 @@ static int says(const char *call, uint32_t number, const char *text)
 }
 
 /* The largest number of a refusal. */
-enum { LAST = SHEETDESK_NOT_ADMITTED };
+enum { LAST = SHEETDESK_OVER_ALLOWANCE };
 
 /* Each refusal has words, for a call that isn't known too, and no other number has. */
 static int reasons_fit(void)

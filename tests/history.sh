@@ -185,7 +185,7 @@ END
   [ "$(tail -n 1 "$work/out")" = "step 0 1" ] || bad "--shrink: no list"
   want 0 "--page by standard input" bash -c './sheetdesk --page <scripts/case-a.txt'
   [ ! -s "$work/err" ] && [ "$(grep -c . "$FAKE/calls")" -eq 1 ] || bad "--page: something is built again"
-  sed -n '/^## WHEN A SET LOOKS WRONG/,/^## LINE ENDS/s/^    //p' docs/USER.md >"$work/page"
+  sed -n '/^## WHEN A SET LOOKS WRONG/,/^## [^W]/s/^    //p' docs/USER.md >"$work/page"
   want 0 "the user page's command" bash "$work/page"
   grep -q 'class="sentence">Sheet 1 of issue 2 needs sheet 0 of issue 2;' page.html || bad "the user page's command makes no page"
   want 2 "--replay of a script" ./sheetdesk --replay scripts/case-a.txt

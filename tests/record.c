@@ -63,6 +63,8 @@ static void make(const struct sheetdesk_record *record, const char *name, int co
         sheetdesk_stale_recorded(DESK, x[0], ANSWER);
     else if (strcmp(name, "admit") == 0 && count == 0)
         sheetdesk_admit_recorded(DESK, ANSWER);
+    else if (strcmp(name, "allow") == 0 && count == 2)
+        sheetdesk_allow_recorded(DESK, x[0], x[1], ANSWER);
 }
 
 int main(int argc, char **argv)

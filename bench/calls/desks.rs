@@ -100,5 +100,6 @@ pub fn cases(sizes: [u32; 4]) -> Vec<Case> {
         case(full.clone(), Call::Look(0, 0, k - 1)),
         case(full.clone(), Call::Stale(n - 1)),
         case(full.clone(), Call::Admit),
+        case(full.clone(), Call::Allow(n - 1, k)),
     ]
 }

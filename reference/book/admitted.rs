@@ -23,6 +23,7 @@ impl Book {
             ledger: Ledger::on(base),
             master: copies(desk, s, |k| s.master_at(k)),
             shelves: (0..s.n).map(|o| copies(desk, s, |k| s.shelf_at(o, k))).collect(),
+            allowances: (0..s.n).map(|office| desk[s.allowance_at(office)]).collect(),
             runs: (0..s.p).map(|run| admitted_run(desk, s, run)).collect(),
         }
     }

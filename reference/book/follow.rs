@@ -26,6 +26,7 @@ impl Book {
     ) -> Result<(), String> {
         seen.calls += 1;
         let refused = matches!(answer, Answer::Refused(_));
+        self.check_over(call, answer)?;
         if let (Call::Step(run, job), false) = (call, refused) {
             self.check_step(*run as usize, *job as usize, answer, seen)?;
         }
@@ -47,6 +48,7 @@ impl Book {
         self.check_none_ahead(words, s)?;
         self.check_named()?;
         self.check_marks(words, s)?;
+        self.check_within(words, s)?;
         self.check_lists()?;
         if admit(words) != Answer::Ok(vec![0]) {
             return Err("admit doesn't take the desk back".into());

@@ -17,6 +17,8 @@ pub fn new(desk: &mut [u32], k: u32, w: u32, n: u32, p: u32) -> Answer {
     desk[..s.total()].fill(0);
     desk[..4].copy_from_slice(&[k, w, n, p]);
     desk[OFFSETS..HEADER].copy_from_slice(&s.offsets());
+    // An allowance is "K on a new desk".
+    (0..s.n).for_each(|office| desk[s.allowance_at(office)] = k);
     Answer::Ok(vec![s.total() as u32])
 }
 

@@ -1,5 +1,6 @@
 //! "A desk is in form if": the test that every call but new starts with.
 
+use super::allowance::allowance_in_form;
 use super::layout::*;
 use super::stale::stale_mask;
 use super::version::{all_zero, held, row};
@@ -15,7 +16,9 @@ pub fn in_form(desk: &[u32]) -> Option<Sizes> {
     });
     let mark_stands = |office| desk[s.stale_at(office)] == stale_mask(desk, s, office);
     let marks_stand = (0..s.n).all(mark_stands);
-    if versions_stand && marks_stand && (0..s.p).all(|run| run_in_form(desk, s, run)) {
+    let allowances_stand = (0..s.n).all(|office| allowance_in_form(desk, s, office));
+    let shelves_stand = marks_stand && allowances_stand;
+    if versions_stand && shelves_stand && (0..s.p).all(|run| run_in_form(desk, s, run)) {
         Some(s)
     } else {
         None

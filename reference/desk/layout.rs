@@ -57,9 +57,9 @@ impl Sizes {
         WRITER_PAST + self.k * self.w
     }
 
-    /// A version of each sheet, then the stale mark.
+    /// A version of each sheet, then the stale mark and the allowance.
     pub fn shelf(&self) -> usize {
-        self.k * self.version() + 1
+        self.k * self.version() + 2
     }
 
     pub fn master(&self) -> usize {
@@ -104,6 +104,11 @@ impl Sizes {
     /// Where an office's stale mark is.
     pub fn stale_at(&self, office: usize) -> usize {
         self.shelf_at(office, self.k)
+    }
+
+    /// Where an office's allowance is: "one word after its stale mark".
+    pub fn allowance_at(&self, office: usize) -> usize {
+        self.stale_at(office) + 1
     }
 
     pub fn writer_at(&self, writer: usize) -> usize {

@@ -1,5 +1,6 @@
 //! Fetch, evict, prepare and step.
 
+use super::allowance::over_with;
 use super::form::{carried, in_form};
 use super::layout::*;
 use super::sets::*;
@@ -19,6 +20,9 @@ pub fn fetch(desk: &mut [u32], office: u32, sheet: u32) -> Answer {
         return Answer::Refused(NOT_ON_MASTER);
     }
     let set = fetch_set(desk, s, office as usize, 1 << sheet);
+    if over_with(desk, s, office as usize, set) {
+        return Answer::Refused(OVER_ALLOWANCE);
+    }
     take(desk, s, office as usize, set);
     Answer::Ok(vec![set])
 }
@@ -64,14 +68,24 @@ pub fn prepare(desk: &mut [u32], run: u32) -> Answer {
         Ok(s) => s,
     };
     let run = run as usize;
+    let shelves = desk[s.shelves()..s.writers()].to_vec();
+    fetch_for_jobs(desk, s, run);
+    if (0..s.n).any(|office| over_with(desk, s, office, 0)) {
+        desk[s.shelves()..s.writers()].copy_from_slice(&shelves);
+        return Answer::Refused(OVER_ALLOWANCE);
+    }
+    make_card(desk, s, run);
+    Answer::Ok(vec![carried(desk, s, run)])
+}
+
+/// "For each job in number order, its reads that its shelf lacks are fetched together."
+fn fetch_for_jobs(desk: &mut [u32], s: Sizes, run: usize) {
     for job in 0..desk[s.run_at(run) + JOBS] as usize {
         let (office, reads, _) = job_words(desk, s, run, job);
         let missing = lacking(desk, s, office, reads);
         let set = fetch_set(desk, s, office, missing);
         take(desk, s, office, set);
     }
-    make_card(desk, s, run);
-    Answer::Ok(vec![carried(desk, s, run)])
 }
 
 /// A fetch brings only sheets that the master holds, so a sheet that is on neither the shelf
@@ -176,6 +190,10 @@ pub fn step_refusal(desk: &[u32], run: u32, job: u32) -> Result<Sizes, u32> {
     let off_card = reads & !carried(desk, s, run);
     if lacking(desk, s, office, off_card) & !on_master(desk, s) != 0 {
         return Err(NOT_ON_MASTER);
+    }
+    // "Looked for only when the fetch fits": 12 comes before a break.
+    if over_with(desk, s, office, step_view(desk, s, run, job).fetched) {
+        return Err(OVER_ALLOWANCE);
     }
     Ok(s)
 }

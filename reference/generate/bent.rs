@@ -1,6 +1,7 @@
 //! Desks that no list of calls leads to and that admit may take: rows, numbers, counts and pasts of
 //! a desk that calls have made are bent.
 
+use crate::desk::allowance::held_count;
 use crate::desk::layout::{has, Sizes, COUNT, LAST_ISSUE, NUMBER, PAST};
 use crate::desk::reads::plan;
 use crate::desk::stale::stale_mask;
@@ -8,7 +9,7 @@ use crate::desk::version::{all_zero, row};
 use crate::random::Random;
 
 /// Bends a desk in form. In most cases it is mended, so that admit takes it; of these some are
-/// spoiled in one place. The marks follow.
+/// spoiled in one place. The marks follow, and some shelves have little room.
 pub fn bend(random: &mut Random, words: &mut [u32], s: Sizes) {
     if random.chance(15) {
         lift(random, words, s);
@@ -24,6 +25,10 @@ pub fn bend(random: &mut Random, words: &mut [u32], s: Sizes) {
     }
     for office in 0..s.n {
         words[s.stale_at(office)] = stale_mask(words, s, office);
+        if random.chance(20) {
+            let held = held_count(words, s, office);
+            words[s.allowance_at(office)] = held + random.below(s.k + 1 - held as usize) as u32;
+        }
     }
 }
 

@@ -5,7 +5,7 @@ use crate::desk::layout::{has, JOBS, JOB_LIST, LEADERS};
 use crate::desk::reads::step_view;
 use crate::desk::version::{covers, held, row};
 use crate::desk::{in_form, Answer};
-use crate::text::Call;
+use crate::text::{run, Call};
 
 #[derive(Default)]
 pub struct Counts {
@@ -25,13 +25,15 @@ pub struct Counts {
     stales: u64,
     stales_marked: u64,
     admits: u64,
+    allows: u64,
+    hidden_breaks: u64,
     breaks_marked: u64,
     clear: u64,
     paths: u64,
     long_paths: u64,
     tied_paths: u64,
     carried_paths: u64,
-    refused: [u64; 12],
+    refused: [u64; 13],
 }
 
 impl Counts {
@@ -54,6 +56,8 @@ impl Counts {
             ("stales".into(), self.stales),
             ("stales-marked".into(), self.stales_marked),
             ("admits".into(), self.admits),
+            ("allows".into(), self.allows),
+            ("hidden-breaks".into(), self.hidden_breaks),
             ("breaks-marked".into(), self.breaks_marked),
             ("clear".into(), self.clear),
             ("paths".into(), self.paths),
@@ -61,14 +65,18 @@ impl Counts {
             ("paths-tied".into(), self.tied_paths),
             ("paths-carried".into(), self.carried_paths),
         ];
-        names.extend((1..=8).map(|number| (format!("refused-{number}"), self.refused[number])));
+        let refused = (1..=8).chain([12]);
+        names.extend(refused.map(|number| (format!("refused-{number}"), self.refused[number])));
         names.iter().map(|(name, count)| format!("{name} {count}")).collect::<Vec<_>>().join(" ")
     }
 
     /// Takes in a call on a desk, and its answer.
     pub fn enter(&mut self, before: &[u32], after: &[u32], call: &Call, answer: &Answer) {
         match (call, answer) {
-            (_, Answer::Refused(number)) => self.refused[*number as usize] += 1,
+            (_, Answer::Refused(number)) => {
+                self.refused[*number as usize] += 1;
+                self.hidden_breaks += u64::from(*number == 12 && hides_break(before, call));
+            }
             (Call::Step(run, job), Answer::Broken(_)) => {
                 self.breaks += 1;
                 self.breaks_marked += u64::from(fetches_stale(before, *run, *job));
@@ -98,6 +106,7 @@ impl Counts {
                 self.stales_marked += u64::from(mask[0] != 0);
             }
             (Call::Admit, Answer::Ok(_)) => self.admits += 1,
+            (Call::Allow(..), Answer::Ok(_)) => self.allows += 1,
             (_, Answer::Clear) => self.clear += 1,
             (Call::Explain(run, job), Answer::Path(path)) => {
                 self.enter_path(before, [*run, *job], path);
@@ -128,6 +137,15 @@ fn rivals_met(before: &[u32], after: &[u32], writer: usize, mask: u32) -> u64 {
         has(mask, *k) && held(old) && !covers(own, row(old, s.w, *k))
     });
     met.count() as u64
+}
+
+/// Would the call break its run if no allowance were too small?
+fn hides_break(before: &[u32], call: &Call) -> bool {
+    let mut words = before.to_vec();
+    if let Some(s) = in_form(before) {
+        (0..s.n).for_each(|office| words[s.allowance_at(office)] = s.k as u32);
+    }
+    matches!(run(&mut words, call), Answer::Broken(_))
 }
 
 /// Would the step's fetch have taken a sheet again that is marked as stale?

@@ -6,13 +6,14 @@ use crate::teller::Teller;
 /// "Before any new, the buffer is all zero": every call but new is refused.
 pub fn before_new(t: &mut Teller) {
     for _ in 0..t.below(3) {
-        match t.below(7) {
+        match t.below(8) {
             0 => t.tell("fetch", &[0, 0]),
             1 => t.tell("open", &[0]),
             2 => t.tell("explain", &[0, 0]),
             3 => t.tell("look", &[9, 9, 9]),
             4 => t.tell("stale", &[0]),
             5 => t.tell("admit", &[]),
+            6 => t.tell("allow", &[0, 0]),
             _ => t.tell("new", &[32, 16, 8, 8]),
         };
     }
@@ -50,7 +51,7 @@ fn out_of_range(t: &mut Teller) {
     let far = if t.chance(30) { u32::MAX } else { 0 };
     let [k, w, n, p] = [s.k, s.w, s.n, s.p].map(|count| far.max(count as u32));
     let place = t.below(3) as u32;
-    match t.below(15) {
+    match t.below(17) {
         0 => t.tell("open", &[p]),
         1 => t.tell("fetch", &[n, 0]),
         2 => t.tell("fetch", &[0, k]),
@@ -65,6 +66,8 @@ fn out_of_range(t: &mut Teller) {
         11 => t.tell("drop", &[p]),
         12 => t.tell("look", &[3, 0, 0]),
         13 => t.tell("stale", &[n]),
+        14 => t.tell("allow", &[n, 0]),
+        15 => t.tell("allow", &[0, k.saturating_add(1)]),
         _ => t.tell("look", &[place, p.max(n), 0]),
     };
 }
@@ -168,7 +171,7 @@ pub fn unread(t: &mut Teller) {
 
 /// A line of the list; most of them only just miss a form.
 fn near_miss(t: &mut Teller) {
-    const LINES: [&[u8]; 35] = [
+    const LINES: [&[u8]; 38] = [
         b"",
         b" ",
         b"new",
@@ -204,6 +207,9 @@ fn near_miss(t: &mut Teller) {
         b"admit 0",
         b"admit ",
         b" admit",
+        b"allow",
+        b"allow 0",
+        b"allow 0 0 0",
     ];
     let line = LINES[t.below(LINES.len())];
     t.say(line);

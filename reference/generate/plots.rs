@@ -7,6 +7,7 @@ use crate::desk::{Answer, FREE};
 use crate::everyday;
 use crate::odd;
 use crate::rivals;
+use crate::small;
 use crate::teller::Teller;
 
 /// A plot of runs, by a number below 58.
@@ -27,7 +28,8 @@ pub fn without_new(t: &mut Teller) {
     match t.below(100) {
         22..=24 => break_a_run(t),
         number @ 0..=57 => of_runs(t, number),
-        58..=69 => everyday::fetch_and_evict(t),
+        58..=64 => everyday::fetch_and_evict(t),
+        65..=69 => small::small_shelf(t),
         70..=89 => everyday::any_call(t),
         _ => odd::refused(t),
     }
@@ -36,7 +38,7 @@ pub fn without_new(t: &mut Teller) {
 /// A new desk, mostly small, so that sheets and writers meet often.
 pub fn fresh_desk(t: &mut Teller) {
     let sizes = if t.chance(8) {
-        const WIDE: [[u32; 4]; 4] = [[21, 5, 2, 4], [24, 3, 2, 6], [32, 1, 8, 5], [32, 2, 2, 2]];
+        const WIDE: [[u32; 4]; 4] = [[10, 14, 2, 7], [22, 4, 1, 6], [32, 1, 8, 5], [32, 2, 2, 2]];
         WIDE[t.below(4)]
     } else {
         [2 + t.below(6), 1 + t.below(6), 1 + t.below(4), 2 + t.below(3)].map(|n| n as u32)
@@ -137,6 +139,11 @@ pub fn break_a_run(t: &mut Teller) {
     pair_elsewhere(t, run as usize, a, b);
     if t.chance(60) {
         t.tell("fetch", &[there, b as u32]);
+    } else if t.chance(40) {
+        // A step whose fetch doesn't fit is refused before it breaks.
+        small::tighten(t, there as usize);
+        t.tell("step", &[run, 1]);
+        small::loosen(t, there as usize);
     }
     for job in 1..jobs as u32 {
         if t.chance(40) {

@@ -8,7 +8,7 @@ use crate::marked::{fresh, put, put_marks};
 
 /// By text alone: in the program admit follows new.
 pub fn in_the_program() {
-    works(&["admit -> refused 1", "new 2 1 1 1 -> ok 66", "admit -> ok 0"]);
+    works(&["admit -> refused 1", "new 2 1 1 1", "admit -> ok 0"]);
 }
 
 /// The desk 2 1 1 1 that is taken; the card's need of sheet 0 lies outside the plan.
@@ -29,8 +29,8 @@ fn taken() -> (Vec<u32>, Sizes) {
 /// is answered all the same.
 pub fn one_change_each() {
     let (words, s) = taken();
-    let mut due = vec![2, 1, 1, 1, 2, 10, 18, 27, 30, 66, 1, 1, 1, 0, 2, 1, 1, 2];
-    due.extend([1, 1, 1, 0, 2, 1, 1, 2, 0, 2, 1, 2, 1, 1, 0, 0, 0, 2, 0]);
+    let mut due = vec![2, 1, 1, 1, 2, 10, 18, 28, 31, 67, 1, 1, 1, 0, 2, 1, 1, 2];
+    due.extend([1, 1, 1, 0, 2, 1, 1, 2, 0, 2, 2, 1, 2, 1, 1, 0, 0, 0, 2, 0]);
     due.extend([0; 21]);
     due.extend([0, 0, 0, 0, 2, 1, 1, 2]);
     assert_eq!(words, due);

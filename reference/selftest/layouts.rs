@@ -12,11 +12,12 @@ struct Layout {
     shelf: usize,
 }
 
-/// Document 01's, with leading writers, with stale marks.
-const LAYOUTS: [Layout; 3] = [
+/// Document 01's, with leading writers, with stale marks, with allowances.
+const LAYOUTS: [Layout; 4] = [
     Layout { version: 1, shelf: 0 },
     Layout { version: 2, shelf: 0 },
     Layout { version: 2, shelf: 1 },
+    Layout { version: 2, shelf: 2 },
 ];
 
 /// The layout's offsets and total.
@@ -36,14 +37,15 @@ pub fn none_agree() {
         let counts = counts.map(|count| count + 1);
         let [k, w, n, p] = counts.map(|count| count as u32);
         let all = LAYOUTS.map(|layout| offsets(layout, counts));
-        assert_eq!(all[2], Sizes::of(k, w, n, p).unwrap().offsets());
-        for (one, other) in [(0, 1), (0, 2), (1, 2)] {
-            assert_ne!(all[one][1..3], all[other][1..3]);
+        assert_eq!(all[all.len() - 1], Sizes::of(k, w, n, p).unwrap().offsets());
+        for (one, older) in all.iter().enumerate() {
+            assert!(all[one + 1..].iter().all(|newer| older[1..3] != newer[1..3]));
         }
     }
-    for (layout, due) in [(0, [10, 20, 30, 40, 78]), (1, [10, 22, 34, 44, 84])] {
+    let older = [[10, 20, 30, 40, 78], [10, 22, 34, 44, 84], [10, 22, 35, 45, 85]];
+    for (layout, due) in LAYOUTS.iter().zip(older) {
         let (mut words, _) = fresh(2, 2, 1, 1);
-        assert_eq!(offsets(LAYOUTS[layout], [2, 2, 1, 1]), due);
+        assert_eq!(offsets(*layout, [2, 2, 1, 1]), due);
         words[OFFSETS..HEADER].copy_from_slice(&due);
         all_refuse(&mut words, 1);
     }

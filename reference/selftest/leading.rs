@@ -9,7 +9,7 @@ use crate::marked::{fresh, put, put_marks};
 /// Two writers that haven't read each other both lead; one that has read both leads alone.
 pub fn visible() {
     works(&[
-        "new 1 3 2 1 -> ok 72",
+        "new 1 3 2 1",
         "save 0 0 1",
         "look 0 0 0 -> ok 1 1 1 0 0 0",
         "fetch 0 0",
@@ -27,7 +27,7 @@ pub fn visible() {
 pub fn over_offices() {
     for (second, look) in [("edit 0 0 1 1 1", "2 2 1 1 0"), ("save 0 1 1", "2 3 1 1 0")] {
         works(&[
-            "new 1 2 2 1 -> ok 62",
+            "new 1 2 2 1",
             "save 0 0 1",
             "fetch 0 0",
             second,
@@ -42,7 +42,7 @@ pub fn over_offices() {
 /// A save stands behind another by a chain through sheet 1.
 pub fn by_a_chain() {
     works(&[
-        "new 2 3 1 1 -> ok 108",
+        "new 2 3 1 1",
         "save 0 0 1",
         "edit 0 0 1 1 2",
         "edit 0 0 2 2 1",

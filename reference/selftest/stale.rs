@@ -9,7 +9,7 @@ use crate::marked::{fresh, put, put_marks};
 /// By issue, fetch, evict and prepare, which doesn't fetch again what is held.
 pub fn kept() {
     works(&[
-        "new 3 2 2 2 -> ok 202",
+        "new 3 2 2 2",
         "stale 0 -> ok 0",
         "stale 2 -> refused 3",
         "save 0 0 3",
@@ -35,7 +35,7 @@ pub fn kept() {
 /// The step's fetch would have cleared the mark.
 pub fn kept_by_a_break() {
     works(&[
-        "new 2 2 2 2 -> ok 138",
+        "new 2 2 2 2",
         "save 1 0 1",
         "fetch 1 0",
         "open 0 0 1 0 1 2 0",
@@ -53,7 +53,7 @@ pub fn kept_by_a_break() {
 /// A sheet comes again through T.
 pub fn kept_by_a_step() {
     works(&[
-        "new 2 2 1 2 -> ok 125",
+        "new 2 2 1 2",
         "save 1 0 1",
         "fetch 0 0",
         "edit 1 0 1 1 3",

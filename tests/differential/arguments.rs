@@ -31,7 +31,7 @@ pub fn any_call(random: &mut Random, words: &[u32]) -> Call {
     let run = random.near(s.p);
     let office = random.near(s.n);
     let sheet = random.near(s.k);
-    match random.below(27) {
+    match random.below(31) {
         0 => Call::New(new_counts(random, words.len())),
         1 | 2 => Call::Open(run, jobs(random, s)),
         3..=5 => Call::Fetch(office, sheet),
@@ -53,6 +53,7 @@ pub fn any_call(random: &mut Random, words: &[u32]) -> Call {
         }
         20 | 21 => Call::Stale(office),
         22 | 23 => Call::Admit,
+        24 | 25 => Call::Allow(office, random.near(s.k + 1)),
         _ => {
             let place = random.near(3);
             let number = match place {

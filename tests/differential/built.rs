@@ -1,6 +1,7 @@
 //! Desks that no list of calls leads to: built in form, or random words.
 
-use crate::damaged::{spoiled_mark, spoiled_mask, version_place};
+use crate::damaged::{spoiled_allowance, spoiled_mark, spoiled_mask, version_place};
+use crate::desk::allowance::held_count;
 use crate::desk::layout::{has, HEADER, LAST_ISSUE, OFFSETS};
 use crate::desk::layout::{COUNT, LEADERS, NUMBER, PAST, WRITER_PAST};
 use crate::desk::layout::{DONE, JOBS, JOB_LIST, READ, STATE};
@@ -9,7 +10,7 @@ use crate::desk::{Sizes, BROKEN, OPEN};
 use crate::random::Random;
 
 /// A desk in form: pasts, cards, leading writers and done jobs of any kind, needs that nobody
-/// meets too. Now and then leading writers or a shelf's mark aren't as form asks.
+/// meets too. Now and then leading writers, a shelf's mark or its allowance aren't as form asks.
 pub fn desk(random: &mut Random, [k, w, n, p]: [u32; 4], spare: usize) -> Option<Vec<u32>> {
     let s = Sizes::of(k, w, n, p)?;
     let mut words = vec![0; s.total()];
@@ -36,13 +37,23 @@ pub fn desk(random: &mut Random, [k, w, n, p]: [u32; 4], spare: usize) -> Option
     }
     for office in 0..s.n {
         words[s.stale_at(office)] = stale_mask(&words, s, office);
+        words[s.allowance_at(office)] = allowance(random, s, held_count(&words, s, office));
     }
     spoil(random, s, &mut words);
     words.extend((0..spare).map(|_| random.word()));
     Some(words)
 }
 
-/// Seldom: leading writers that there can't be, or a mark that isn't the shelf's.
+/// An allowance of a shelf that holds so many sheets: K, just as many, or some more.
+fn allowance(random: &mut Random, s: Sizes, held: u32) -> u32 {
+    match random.below(5) {
+        0 => held,
+        1 => held + random.below(s.k + 1 - held as usize) as u32,
+        _ => s.k as u32,
+    }
+}
+
+/// Seldom: leading writers that there can't be, or a mark or an allowance that isn't the shelf's.
 fn spoil(random: &mut Random, s: Sizes, words: &mut [u32]) {
     match random.below(40) {
         0 | 1 => {
@@ -52,6 +63,10 @@ fn spoil(random: &mut Random, s: Sizes, words: &mut [u32]) {
         2 => {
             let at = s.stale_at(random.below(s.n));
             words[at] = spoiled_mark(random, s, words[at]);
+        }
+        3 => {
+            let office = random.below(s.n);
+            words[s.allowance_at(office)] = spoiled_allowance(random, words, s, office);
         }
         _ => {}
     }

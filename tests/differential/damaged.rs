@@ -1,25 +1,27 @@
 //! Desks with some words changed.
 
 use crate::built::leaders;
+use crate::desk::allowance::held_count;
 use crate::desk::layout::{HEADER, LAST_ISSUE, LEADERS};
 use crate::desk::stale::stale_mask;
 use crate::desk::Sizes;
 use crate::pair::Pair;
 use crate::random::Random;
 
-/// Changes one to ten words, or a whole version, a version's mask, a shelf's mark, or the first
-/// words of a run. In half of the cases of words only counts, issue numbers and jobs; and in most
+/// Changes one to ten words, or a whole version, a version's mask, a shelf's mark or allowance, or
+/// the first words of a run. In half of the cases of words only counts, issue numbers and jobs; and in most
 /// cases the shelves' marks follow, so that the desk often stays in form.
 pub fn damage(random: &mut Random, pair: &mut Pair) {
     let [k, w, n, p] = [0, 1, 2, 3].map(|at| pair.words()[at]);
     let Some(s) = Sizes::of(k, w, n, p) else {
         return damage_words(random, pair);
     };
-    match random.below(11) {
+    match random.below(12) {
         0 | 1 => replace_version(random, pair, s),
         2 | 3 => damage_run(random, pair, s),
         4 => damage_mask(random, pair, s),
         5 => return damage_mark(random, pair, s),
+        6 => return damage_allowance(random, pair, s),
         _ => damage_words(random, pair),
     }
     if random.chance(85) {
@@ -42,6 +44,26 @@ fn damage_mark(random: &mut Random, pair: &mut Pair, s: Sizes) {
     let at = s.stale_at(random.below(s.n));
     let mark = spoiled_mark(random, s, pair.words()[at]);
     pair.set(at, mark);
+}
+
+/// A shelf's allowance becomes another one.
+fn damage_allowance(random: &mut Random, pair: &mut Pair, s: Sizes) {
+    let office = random.below(s.n);
+    let allowance = spoiled_allowance(random, pair.words(), s, office);
+    pair.set(s.allowance_at(office), allowance);
+}
+
+/// An allowance just as large as it may be or must be, one more or less than that, or any word.
+pub fn spoiled_allowance(random: &mut Random, words: &[u32], s: Sizes, office: usize) -> u32 {
+    let held = held_count(words, s, office);
+    match random.below(6) {
+        0 => s.k as u32 + 1,
+        1 => held.saturating_sub(1),
+        2 => held,
+        3 => s.k as u32,
+        4 => held + 1,
+        _ => random.word(),
+    }
 }
 
 /// A mark that isn't this one: a sheet more or less, or any word.

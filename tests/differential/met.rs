@@ -22,8 +22,9 @@ pub enum Source {
 const SOURCES: [&str; 8] =
     ["story", "reached", "damaged", "short", "bent", "admitted", "built", "noise"];
 /// The calls that are answered `ok`: explain never is.
-const CALLS: [&str; 11] = [
+const CALLS: [&str; 12] = [
     "new", "open", "fetch", "evict", "prepare", "step", "issue", "drop", "look", "stale", "admit",
+    "allow",
 ];
 
 #[derive(Default)]
@@ -46,8 +47,8 @@ pub struct Met {
     /// Calls answered ok, by source.
     by_source: [u64; 8],
     /// Answered ok, by call.
-    ok: [u64; 11],
-    refused: [u64; 12],
+    ok: [u64; 12],
+    refused: [u64; 13],
     breaks: u64,
     clear: u64,
     paths: u64,
@@ -153,7 +154,7 @@ impl Met {
                 few.push(format!("{name}: {count} of {least}"));
             }
         }
-        if self.largest < 288_066 {
+        if self.largest < 288_074 {
             few.push(format!("the largest desk: {} words", self.largest));
         }
         few

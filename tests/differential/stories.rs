@@ -11,7 +11,7 @@ use crate::pair::{Pair, ANSWER, MARK};
 use crate::random::Random;
 use crate::teller::Teller;
 use crate::text::{self, Call};
-use crate::{everyday, odd, plots};
+use crate::{everyday, odd, plots, small};
 
 /// Desks over so many words get shorter stories and fewer single calls.
 const LARGE: usize = 20_000;
@@ -88,7 +88,8 @@ fn tell(
 fn plot(teller: &mut Teller) {
     match teller.below(100) {
         number @ 0..=57 => plots::of_runs(teller, number),
-        58..=69 => everyday::fetch_and_evict(teller),
+        58..=64 => everyday::fetch_and_evict(teller),
+        65..=69 => small::small_shelf(teller),
         70..=85 => everyday::any_call(teller),
         _ => odd::refused(teller),
     }

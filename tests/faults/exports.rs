@@ -45,6 +45,7 @@ export!(sheetdesk_look, desk::look, place, number, sheet);
 export!(sheetdesk_explain, desk::explain, run, job);
 export!(sheetdesk_stale, desk::stale, office);
 export!(sheetdesk_admit, desk::admit);
+export!(sheetdesk_allow, desk::allow, office, number);
 
 #[no_mangle]
 pub unsafe extern "C" fn sheetdesk_open(

@@ -67,8 +67,8 @@ pub fn of_conditions(t: &mut Trials) {
 
 // The desk is lent word by word, as it is written down.
 pub fn of_words(t: &mut Trials) {
-    let mut words = vec![2, 1, 1, 1, 2, 10, 18, 27, 30, 66];
-    words.extend([1, 1, 1, 0, 2, 1, 1, 2, 1, 1, 1, 0, 2, 1, 1, 2, 0, 2, 1, 2, 1, 1, 0, 0, 0, 2, 0]);
+    let mut words = vec![2, 1, 1, 1, 2, 10, 18, 28, 31, 67];
+    words.extend([1, 1, 1, 0, 2, 1, 1, 2, 1, 1, 1, 0, 2, 1, 1, 2, 0, 2, 2, 1, 2, 1, 1, 0, 0, 0, 2, 0]);
     words.extend([0; 21]);
     words.extend([0, 0, 0, 0, 2, 1, 1, 2]);
     t.check("admit, the words as written down", saved().words[..words.len()] == words);

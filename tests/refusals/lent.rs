@@ -1,5 +1,5 @@
-//! Desks that no list of calls from new leaves: looks, leading writers, stale marks, the longest
-//! path.
+//! Desks that no list of calls from new leaves: looks, leading writers, stale marks, allowances, the
+//! longest path.
 
 use crate::calls_but_new;
 use crate::desk::layout::{COUNT, DONE, JOBS, JOB_LIST, LAST_ISSUE, LEADERS, NUMBER, PAST, READ, STATE, WRITER_PAST};
@@ -174,4 +174,41 @@ pub fn of_marks_in_form(t: &mut Trials) {
     }
     d.words[at] = 3;
     t.told("mark, stale", &mut d, Call::Stale(0), &[0, 3]);
+}
+
+// What a shelf may hold: from what it holds now up to all sheets. The other words stay.
+pub fn of_allowances(t: &mut Trials) {
+    let mut d = lent([[7, 2, 2, 0, 0, 0], [0; 6]]);
+    let at = d.sizes().allowance_at(0);
+    t.refused("allow 3, office", &mut d, Call::Allow(1, 2), 3);
+    t.refused("allow 3, over all sheets", &mut d, Call::Allow(0, 3), 3);
+    t.refused("allow 3, any numbers", &mut d, Call::Allow(u32::MAX, u32::MAX), 3);
+    t.refused("allow 12", &mut d, Call::Allow(0, 0), 12);
+    let before = d.words.clone();
+    t.ok("allow, what it holds", &mut d, Call::Allow(0, 1), &[0]);
+    t.check("allow, its word", d.words[at] == 1);
+    t.ok("fetch, a held sheet at the full allowance", &mut d, Call::Fetch(0, 0), &[1]);
+    t.ok("allow, all sheets", &mut d, Call::Allow(0, 2), &[0]);
+    let fetched = d.sizes().shelf_at(0, 0)..d.sizes().allowance_at(0);
+    t.check("allow, no other word", d.words[..fetched.start] == before[..fetched.start] && d.words[at..] == before[at..]);
+    t.ok("evict, the sheet", &mut d, Call::Evict(0, 0), &[1]);
+    t.ok("allow, none", &mut d, Call::Allow(0, 0), &[0]);
+    t.refused("fetch 12", &mut d, Call::Fetch(0, 0), 12);
+    t.refused("fetch 7 before 12", &mut d, Call::Fetch(0, 1), 7);
+}
+
+// An allowance over the number of sheets, or below what the shelf holds, is refused by every call.
+pub fn of_allowances_in_form(t: &mut Trials) {
+    let mut d = lent([[7, 2, 2, 0, 0, 0], [1, 1, 0, 0, 1, 0]]);
+    let at = d.sizes().allowance_at(0);
+    t.refused("allowance, drop 3", &mut d, Call::Drop(5), 3);
+    for allowance in [0, 1, 3, u32::MAX] {
+        d.words[at] = allowance;
+        for call in calls_but_new() {
+            t.refused(&format!("allowance 1, {}", call.name()), &mut d, call, 1);
+        }
+    }
+    let mut d = lent([[7, 2, 2, 0, 0, 0], [0; 6]]);
+    d.words[at] = 1;
+    t.refused("allowance, what is held, drop 3", &mut d, Call::Drop(5), 3);
 }

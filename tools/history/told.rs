@@ -60,9 +60,8 @@ impl Told {
             Call::Look(0, ..) => return Some(Lane::Master),
             Call::Look(1, office, _) => (Some(*office), None),
             Call::Look(2, run, _) => (None, Some(*run)),
-            Call::Fetch(office, _) | Call::Evict(office, _) | Call::Stale(office) => {
-                (Some(*office), None)
-            }
+            Call::Fetch(office, _) | Call::Evict(office, _) => (Some(*office), None),
+            Call::Stale(office) | Call::Allow(office, _) => (Some(*office), None),
             _ => (None, call.run()),
         };
         let office = office.map(|office| office as usize);
@@ -102,6 +101,10 @@ impl Told {
             }
             Call::Stale(office) => row.words = words::stale(*office, numbers[0]),
             Call::Admit => row.words = String::from("The desk is admitted."),
+            Call::Allow(office, number) => {
+                let sheets = words::counted(*number as usize, "sheet");
+                row.words = format!("The shelf of office {office} may hold {sheets}.");
+            }
             Call::Explain(..) => {}
         }
         self.book.feed(call, true);

@@ -1,8 +1,8 @@
 // Fetch and evict: a site's cache takes keys from the master, or leaves them.
 use answers::Answered;
 use fetching::find_taken;
-use fetching::is_lacked;
 use fetching::take_keys;
+use fetching::taking_cause;
 use form::header::counts;
 use masks::with_item;
 use sets::evict_keys;
@@ -41,8 +41,9 @@ pub fn fetch(words: &mut [u32], site: u32, key: u32) -> Answered
     }
     let wanted = with_item(0, key);
     let taken = find_taken(words, z, o, wanted);
-    if is_lacked(words, z, taken) {
-        return Answered::Refused(7);
+    let cause = taking_cause(words, z, o, taken);
+    if cause != 0 {
+        return Answered::Refused(cause);
     }
     take_keys(words, z, o, taken);
     Answered::Done(taken)

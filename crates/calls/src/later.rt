@@ -5,7 +5,7 @@ use crate::laying::narrow;
 use crate::laying::turn_down;
 use explain::put::put_explained;
 ghost use mathlib.Core.Path.{_≡_};
-ghost use Rattle.model.specs.Calls.{explain, stale, admit, ask};
+ghost use Rattle.model.specs.Calls.{explain, stale, admit, allow, ask};
 ghost use Rattle.layout.specs.Buffer.{inForm};
 ghost use Rattle.layout.specs.Calls.{on};
 ghost use Rattle.calls.specs.Performs.{Exported};
@@ -44,5 +44,17 @@ pub fn admit(store: &[u32], ready: bool, out: &mut [u32]) -> u32
         return turn_down(out);
     }
     let r = admit::admit(store);
+    lay(out, r)
+}
+
+pub fn allow(store: &mut [u32], ready: bool, site: u32, number: u32, out: &mut [u32]) -> u32
+    requires { ⌜ ready ≡ inForm (now store) ⌝ }
+    ensures { λ n. ⌜ Exported (on (allow site number))
+        (now (store .entry)) (now (store .exit)) (now (out .entry)) (now (out .exit)) n ⌝ }
+{
+    if !can_make(ready, out) {
+        return turn_down(out);
+    }
+    let r = allow::allow(store, site, number);
     lay(out, r)
 }

@@ -15,6 +15,7 @@ use first::open;
 use first::prepare;
 use first::step;
 use later::admit;
+use later::allow;
 use later::explain;
 use later::stale;
 use words::wide;
@@ -54,6 +55,7 @@ fn make(store: &mut [u32], ready: bool, command: Command, numbers: &[u32], out: 
         Command::Explain(r, j) => explain(store, ready, r, j, out),
         Command::Stale(o) => stale(store, ready, o, out),
         Command::Admit => admit(store, ready, out),
+        Command::Allow(o, n) => allow(store, ready, o, n, out),
     }
 }
 

@@ -1,3 +1,4 @@
 pub mod Explaining
 pub mod Uses
 pub mod Refusing
+pub mod Allowing

@@ -15,11 +15,12 @@ use Rattle.model.specs.Runs.{openCause, openDone, openRule, dropCause, dropDone
 use Rattle.model.specs.Prepare.{prepareCause, prepareDone, prepareRule}
 use Rattle.model.specs.Step.{jobCause, stepCause, stepMoved, stepBroken, stepDone, stepRule}
 use Rattle.model.specs.Issue.{raiseCause, issueCause, issueDone, issueRule}
+use Rattle.model.specs.Calls.Allow.{allowCause, allowDone, allowRule}
 use Rattle.model.specs.Calls.Look.{lookCause, lookReply}
 use Rattle.model.specs.Calls.Explain.{explainReply}
 use Rattle.model.specs.Calls.Stale.{staleCause, staleReply}
 use Rattle.model.specs.Calls.Admit.{admitCause, admitReply}
-use Rattle.model.specs.Calls.{Query, look, explain, stale, admit, StoreCall, openRun, fetch, evict, prepare, step, issue, dropRun, ask, replyOf, ruleOf}
+use Rattle.model.specs.Calls.{Query, look, explain, stale, admit, StoreCall, openRun, fetch, evict, prepare, step, issue, dropRun, allow, ask, replyOf, ruleOf}
 use Rattle.layout.specs.Reading.{storeOf}
 use Rattle.layout.specs.Buffer.{inForm}
 use Rattle.layout.specs.Calls.{Call, new, on, newCause, newOn, onStore, callOn}
@@ -84,10 +85,11 @@ unfolding stepBroken stepDone
 step-taken s r j true = taken _ refl
 step-taken s r j false = taken _ refl
 
-step-listed : (s : Store) (r j : ℕ) → In (0 ∷ 3 ∷ 4 ∷ 6 ∷ 7 ∷ []) (stepCause s r j)
+step-listed : (s : Store) (r j : ℕ) → In (0 ∷ 3 ∷ 4 ∷ 6 ∷ 7 ∷ 12 ∷ []) (stepCause s r j)
 unfolding stepCause jobCause
 step-listed s r j =
-    row _ _ _ refl (row _ _ _ refl (row _ _ _ refl (row _ _ _ refl (row _ _ _ refl none))))
+    row _ _ _ refl (row _ _ _ refl (row _ _ _ refl (row _ _ _ refl (row _ _ _ refl
+    (row _ _ _ refl none)))))
 
 abbrev issuing : List ℕ
 issuing = 0 ∷ 3 ∷ 4 ∷ 6 ∷ 9 ∷ 10 ∷ []
@@ -115,25 +117,28 @@ rule-listed : (c : StoreCall) (s : Store) (n : ℕ) → ruleOf c s ≡ refused n
     → In (storeRefusals c) n
 unfolding ruleOf storeRefusals openRule openCause openDone runCause fetchRule fetchCause fetchDone
     evictRule evictCause evictDone prepareRule prepareCause prepareDone stepRule issueRule
-    issueDone dropRule dropCause dropDone replied
+    issueDone dropRule dropCause dropDone allowRule allowCause allowDone replied
 rule-listed (openRun r l) s n e =
     by-cause _ n _ _ (taken _ refl)
     (row _ _ _ refl (row _ _ _ refl (row _ _ _ refl none))) e
 rule-listed (fetch o k) s n e =
     by-cause _ n _ _ (taken _ refl)
-    (row _ _ _ refl (row _ _ _ refl (row _ _ _ refl none))) e
+    (row _ _ _ refl (row _ _ _ refl (row _ _ _ refl (row _ _ _ refl none)))) e
 rule-listed (evict o k) s n e =
     by-cause _ n _ _ (taken _ refl)
     (row _ _ _ refl (row _ _ _ refl (row _ _ _ refl none))) e
 rule-listed (prepare r) s n e =
     by-cause _ n _ _ (taken _ refl)
-    (row _ _ _ refl (row _ _ _ refl (row _ _ _ refl (row _ _ _ refl none)))) e
+    (row _ _ _ refl (row _ _ _ refl (row _ _ _ refl (row _ _ _ refl (row _ _ _ refl none))))) e
 rule-listed (step r j) s n e =
     by-cause _ n _ _ (step-taken s r j (anyBelow (s .counts .keys) (stepMoved s r j)))
     (step-listed s r j) e
 rule-listed (issue r w S) s n e = by-cause _ n _ _ (taken _ refl) (issue-listed s r w S) e
 rule-listed (dropRun r) s n e =
     by-cause _ n _ _ (taken _ refl) (row _ _ _ refl (row _ _ _ refl none)) e
+rule-listed (allow o k) s n e =
+    by-cause _ n _ _ (taken _ refl)
+    (row _ _ _ refl (row _ _ _ refl (row _ _ _ refl none))) e
 rule-listed (ask q) s n e = by-cause _ n _ _ (taken _ refl) (asked q s) e
 
 -- ---- on any buffer
@@ -164,6 +169,7 @@ eleven-alone (on (prepare r)) l e = clash (refused-as-listed (on (prepare r)) l 
 eleven-alone (on (step r j)) l e = clash (refused-as-listed (on (step r j)) l 11 e) refl
 eleven-alone (on (issue r w S)) l e = clash (refused-as-listed (on (issue r w S)) l 11 e) refl
 eleven-alone (on (dropRun r)) l e = clash (refused-as-listed (on (dropRun r)) l 11 e) refl
+eleven-alone (on (allow o n)) l e = clash (refused-as-listed (on (allow o n)) l 11 e) refl
 eleven-alone (on (ask (look p i k))) l e =
     clash (refused-as-listed (on (ask (look p i k))) l 11 e) refl
 eleven-alone (on (ask (explain r j))) l e =

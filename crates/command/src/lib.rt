@@ -16,4 +16,5 @@ pub enum Command {
     Explain(u32, u32),
     Stale(u32),
     Admit,
+    Allow(u32, u32),
 }

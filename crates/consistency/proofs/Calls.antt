@@ -1,7 +1,7 @@
 -- Every call has its laws: the one list of calls of the theorem, and a file for each.
 -- Assumes nothing.
 use Rattle.model.specs.Store.{Store}
-use Rattle.model.specs.Calls.{StoreCall, openRun, fetch, evict, prepare, step, issue, dropRun, ask, ruleOf}
+use Rattle.model.specs.Calls.{StoreCall, openRun, fetch, evict, prepare, step, issue, dropRun, allow, ask, ruleOf}
 use Rattle.layout.proofs.Follow.{Fine}
 use Rattle.consistency.proofs.Laws.{Laws}
 use Rattle.consistency.proofs.Calls.Caches.{fetch-laws, evict-laws}
@@ -9,11 +9,13 @@ use Rattle.consistency.proofs.Calls.Runs.{open-laws, drop-laws, ask-law
 use Rattle.consistency.proofs.Calls.Prepare.{prepare-laws}
 use Rattle.consistency.proofs.Calls.Step.{step-laws}
 use Rattle.consistency.proofs.Calls.Issue.{issue-laws}
+use Rattle.consistency.proofs.Calls.Allow.{allow-laws}
 pub mod Caches
 pub mod Runs
 pub mod Prepare
 pub mod Step
 pub mod Issue
+pub mod Allow
 
 pub laws : (c : StoreCall) (s : Store) → Fine s → Laws c s (ruleOf c s)
 unfolding ruleOf
@@ -24,4 +26,5 @@ laws (prepare r) = prepare-laws r
 laws (step r j) = step-laws r j
 laws (issue r w S) = issue-laws r w S
 laws (dropRun r) = drop-laws r
+laws (allow o n) = allow-laws o n
 laws (ask q) = ask-laws q

@@ -22,6 +22,7 @@ use Rattle.model.specs.Version.{Version, zeroPast, held, dependency, supersedes
 use Rattle.model.specs.Sets.{draws, drawSet, fetchSet, fetched, unfetchable, pullSet, pulled}
 use Rattle.model.specs.Store.{Store, fresh, planned, doneReads, siteWith, withMaster, withLast, withMarks, withSites, withCache, withCaches, withWriter, withRun, withState, withJobDone}
 use Rattle.model.specs.Form.{zeroRows, zeroVersion, leadersFormed, versionFormed, placeFormed, validJob, zeroJob, freeFormed, jobsFormed, masksFormed, snapshotFormed, runFormed, siteFormed, wellFormed}
+use Rattle.model.specs.Allowance.{heldCount, over}
 use Rattle.model.specs.Marks.{isStale, staleMask}
 use Rattle.model.specs.Outcome.{answer, refuse, unless, allowed, runCause}
 use Rattle.model.specs.Runs.{listedJob, listedCount, listedJobs, listValid, openCause, openedRun, openDone, openRule, dropCause, dropDone, dropRule}
@@ -138,7 +139,8 @@ unfolding anyBelow allBelow only foldBelow countBelow largest when putAt upto bl
     withBit withIf maskBelow closure rounds round exceeds standing dominates present join
     between ranged pastSize versionSize placeSize siteSize writerSize runSize masterAt sitesAt
     writersAt runsAt tailSize tailAt totalOf lacking held dependency supersedes leadsOn
-    mergedLeaders larger merge draws drawSet fetchSet fetched unfetchable pullSet pulled fresh
+    mergedLeaders larger merge draws drawSet fetchSet fetched unfetchable heldCount over
+    pullSet pulled fresh
     planned doneReads withMaster withLast siteWith withMarks withCaches withSites withCache
     withWriter withRun withState isStale staleMask siteFormed withJobDone zeroRows zeroVersion
     leadersFormed versionFormed placeFormed validJob zeroJob freeFormed jobsFormed masksFormed

@@ -1,6 +1,7 @@
--- The stale marks of a store that follows its book (CR 4).
--- marks-true: each is the mask. marks-copies: it names the copies that are behind the master's.
--- copies-equal: two copies of a key include the same exactly if their own rows are equal.
+-- The stale marks of a store that follows its book (CR 4), and the allowances (CR 7).
+-- marks-true: each is the mask. within: no shelf holds too much. marks-copies: it names the copies
+-- that are behind the master's. copies-equal: two copies of a key include the same exactly if
+-- their own rows are equal.
 -- Assumes nothing.
 use mathlib.Core.Path.{_≡_, sym, ap, _∙_}
 use mathlib.Core.Bool.{So}
@@ -16,6 +17,7 @@ use Rattle.clock.specs.Clock.{standing, differing}
 use Rattle.clock.proofs.Standings.{standing-equal, differing-not}
 use Rattle.model.specs.Version.{Version, held}
 use Rattle.model.specs.Marks.{isStale, staleMask}
+use Rattle.model.specs.Allowance.{heldCount}
 use Rattle.model.specs.Store.{Store}
 use Rattle.model.proofs.Formed.{well-out}
 use Rattle.model.proofs.Marked.{mark-stale}
@@ -37,6 +39,11 @@ use Rattle.consistency.proofs.Following.{master-related, cache-related}
 pub marks-true : (s : Store) → Fine s → (o : ℕ) → o < s .counts .sites
     → s .site o .stale ≡ staleMask (s .counts) (s .master) (s .site o .cache)
 marks-true s fine = well-out s (fine .formed) .mark
+
+-- Nor does a shelf hold more than it may (CR 7).
+pub within : (s : Store) → Fine s → (o : ℕ) → o < s .counts .sites
+    → heldCount (s .counts .keys) (s .site o .cache) ≤ s .site o .allowance
+within s fine o h = well-out s (fine .formed) .room o h .1
 
 -- ---- two versions of key k and the copies that they stand for
 

@@ -1,7 +1,9 @@
--- What a reader takes out of the claim on stale marks (CR 4); nothing here knows how it is proved.
--- mark-is: every mark is the mask. marked-..: what a set bit says. behind-marked: a copy that is
--- behind is marked. in-master, row-in-master: what a shelf has, the master has. look-marked: a bit
--- is set exactly if the look there doesn't end in 0. empty-fails, same-fails: what is not behind.
+-- What a reader takes out of the claim on stale marks (CR 4) and allowances (CR 7); nothing here
+-- knows how it is proved.
+-- mark-is: every mark is the mask. fits: no shelf holds more than it may. marked-..: what a set
+-- bit says. behind-marked: a copy that is behind is marked. in-master, row-in-master: what a shelf
+-- has, the master has. look-marked: a bit is set exactly if the look there does not end in 0.
+-- empty-fails, same-fails: what is not behind.
 -- Assumes nothing.
 use mathlib.Core.Path.{_≡_, refl}
 use mathlib.Core.Bool.{false, So}
@@ -11,6 +13,7 @@ use native.Mathlib.Omega.{arith}
 use Rattle.words.proofs.Bools.{clash, and-right}
 use Rattle.masks.specs.Mask.{testBit}
 use Rattle.clock.specs.Clock.{standingNumber}
+use Rattle.model.specs.Allowance.{heldCount}
 use Rattle.model.specs.Marks.{staleMask}
 use Rattle.model.specs.Form.{wellFormed}
 use Rattle.model.specs.Calls.Look.{lookPlace, lookStanding, lookCause}
@@ -41,6 +44,10 @@ module _ (t : Trace) (H : HoldsAt t) (o : ℕ) (ho : o < storeOf (t .buffer) .co
 
   pub mark-is : s .site o .stale ≡ staleMask (s .counts) (s .master) (s .site o .cache)
   mark-is = H .holds .marks-true o ho
+
+  -- CR 7: "No shelf ever holds more" than its own allowance.
+  pub fits : heldCount (s .counts .keys) (s .site o .cache) ≤ s .site o .allowance
+  fits = H .holds .within o ho
 
   abbrev W : ℕ
   W = s .counts .writers

@@ -16,6 +16,7 @@ use Rattle.sizes.specs.declared.Counts.{Counts}
 use Rattle.model.specs.Algebra.{Place, needsMet, causalCut, overlappingCut}
 use Rattle.model.specs.Version.{Version, held, merge, unheld, versions}
 use Rattle.model.specs.Marks.{staleMask}
+use Rattle.model.specs.Allowance.{heldCount}
 use Rattle.model.specs.Store.{Store, planned}
 use Rattle.model.specs.Outcome.{Outcome, refused, broken, done, told}
 use Rattle.model.specs.Calls.Admit.{admissible}
@@ -187,6 +188,9 @@ pub record Holds (s : Store) (b : Book) (finished : ℕ → List ReadSet) : Type
   pub marks-copies : (o k : ℕ) → o < s .counts .sites → k < s .counts .keys
       → So (testBit (s .site o .stale) k)
       ↔ IsBehind (s .counts .writers) k (b .cache o k) (b .master k)
+  -- CR 7: "No shelf ever holds more".
+  pub within : (o : ℕ) → o < s .counts .sites
+      → heldCount (s .counts .keys) (s .site o .cache) ≤ s .site o .allowance
 
 -- At a point: the buffer is in form too, so that a store that spoils itself and then refuses all
 -- won't do. (d) is about the step as a call on that buffer.

@@ -1,25 +1,33 @@
--- The words of a fresh store: the header, and zeros up to the total.
--- zero-blocks: rows of zeros are zeros. fresh-words: the words. fresh-stored: a buffer that was
--- filled with zeros up to the total, and then got the header, has the fresh store in it.
+-- The words of a fresh store: the header, zeros up to the total, and the allowances.
+-- zero-blocks: rows of zeros are zeros. bare-words: the words before the allowances. bare-stored:
+-- a buffer that was filled with zeros up to the total, and then got the header. fresh-stored: with
+-- the allowances it has the fresh store in it.
 -- Assumes nothing.
-use mathlib.Core.Path.{_≡_, refl, sym, ap, ap₂, _∙_}
+use mathlib.Core.Path.{_≡_, refl, sym, ap, ap₂, _∙_, fun-ext}
+use mathlib.Core.Bool.{cond, false}
+use mathlib.Core.Logic.{⊎-elim}
 use mathlib.Core.List.{List, [], _∷_, _++_, append-assoc}
 use Prim.Native.Nat.{ℕ, zero, suc, _+_, _-_, _*_, _≤_}
 use native.Mathlib.Nat.{mul-one}
 use native.Mathlib.Omega.{arith}
-use lib.ListN.{length, drop, replicate, length-replicate, replicate-append-replicate}
+use lib.Dec.{eqb, ltb}
+use lib.ListN.{length, set, drop, replicate, length-replicate, replicate-append-replicate}
 use lib.Seq.{sets, sets-eq}
 use Rattle.words.specs.Words.{put}
-use Rattle.words.specs.Lists.{blocks}
+use Rattle.words.specs.Lists.{putAt, blocks}
+use Rattle.words.specs.Numbers.{foldBelow}
+use Rattle.words.proofs.Bools.{test, eqb-eq, eqb-ne, lt-ltb, ge-ltb}
+use Rattle.words.proofs.Tests.{below-or-not}
 use Rattle.sizes.specs.declared.Counts.{Counts}
 use Rattle.sizes.specs.declared.Sizes.{Sizes}
-use Rattle.sizes.specs.Bounds.{headerSize, pastOffset, siteRest, writerPastOffset, snapshotOffset, pastSize, versionSize, placeSize, siteSize, writerSize, runSize, tailSize, masterAt, sitesAt, writersAt, runsAt, tailAt, totalOf}
+use Rattle.sizes.specs.Bounds.{headerSize, pastOffset, siteRest, writerPastOffset, snapshotOffset, pastSize, versionSize, placeSize, siteSize, writerSize, runSize, tailSize, masterAt, sitesAt, writersAt, runsAt, tailAt, totalOf, siteAt, allowanceAt}
 use Rattle.model.specs.Version.{zeroPast, unheld}
-use Rattle.model.specs.Store.{emptyPlace, noWriter, noSite, freeRun, noTail, fresh}
+use Rattle.model.specs.Store.{Site, Store, emptyPlace, noWriter, noSite, freeRun, noTail, siteAllowed, fresh, withSites}
 use Rattle.layout.specs.Words.{clockWords, pastWords, versionWords, placeWords, siteWords, sitesWords, writerWords, writersWords, jobWords, jobsWords, runWords, runsWords, tailWords, headerWords, storeWords}
 use Rattle.layout.specs.Buffer.{written}
 use Rattle.layout.proofs.Merges.{table, put-table}
-use Rattle.create.specs.Room.{Room}
+use Rattle.layout.proofs.Updates.{put-allowance}
+use Rattle.create.specs.Room.{Room, allowancesPut}
 use Rattle.create.proofs.Sized.{total-is}
 
 -- n zeros.
@@ -107,10 +115,14 @@ next h x y m n p q =
     ∙ append-assoc h (zeros m) (zeros n)
     ∙ ap (λ (t : List ℕ). h ++ t) (replicate-append-replicate m n 0)
 
-pub fresh-words : (z : Counts) (n : ℕ) → totalOf z ≡ headerSize + n
-    → storeWords (fresh z) ≡ headerWords z 0 ++ zeros n
-unfolding fresh storeWords totalOf tailAt runsAt writersAt sitesAt masterAt
-fresh-words z n e =
+-- A fresh store without allowances.
+bare : Counts → Store
+bare z = withSites (fresh z) (λ o. noSite)
+
+bare-words : (z : Counts) (n : ℕ) → totalOf z ≡ headerSize + n
+    → storeWords (bare z) ≡ headerWords z 0 ++ zeros n
+unfolding bare fresh withSites storeWords totalOf tailAt runsAt writersAt sitesAt masterAt
+bare-words z n e =
     let h = headerWords z 0 in
     let a = placeSize z in
     let b = z .sites * siteSize z in
@@ -141,10 +153,10 @@ headed : (z : Counts) (n : ℕ) (rest : List ℕ)
 unfolding headerWords
 headed z n rest = refl
 
-pub fresh-stored : (l m n : List ℕ) (z : Counts) (at : Sizes) → Room (length l) z at
-    → m ≡ put l 0 (at .total) (λ _. 0) → n ≡ sets m 0 (headerWords z 0) → n ≡ written (fresh z) l
-unfolding written fresh
-fresh-stored l m n z at R p q =
+bare-stored : (l m n : List ℕ) (z : Counts) (at : Sizes) → Room (length l) z at
+    → m ≡ put l 0 (at .total) (λ _. 0) → n ≡ sets m 0 (headerWords z 0) → n ≡ written (bare z) l
+unfolding written bare fresh withSites
+bare-stored l m n z at R p q =
     let t = totalOf z in
     let same = total-is z at (R .sizes) in
     let k = t - headerSize in
@@ -156,4 +168,56 @@ fresh-stored l m n z at R p q =
     p ∙ ap (λ (j : ℕ). put l 0 j (λ _. 0)) same
     ∙ filled l t (omega (arith, R .fits)) ∙ ap (λ (x : List ℕ). x ++ rest) split in
     q ∙ ap (λ (x : List ℕ). sets x 0 (headerWords z 0)) whole
-    ∙ headed z k rest ∙ ap (λ (x : List ℕ). x ++ rest) (sym (fresh-words z k e))
+    ∙ headed z k rest ∙ ap (λ (x : List ℕ). x ++ rest) (sym (bare-words z k e))
+
+-- ---- the allowances
+
+-- The sites of a store, the first n of them with an allowance.
+abbrev allowed : Store → ℕ → ℕ → ℕ → Site
+allowed s k n o = cond (ltb o n) (siteAllowed (s .site o) k) (s .site o)
+
+one-more : (s : Store) (k n : ℕ) → putAt (allowed s k n) n (siteAllowed (allowed s k n n) k)
+    ≡ allowed s k (suc n)
+unfolding putAt
+one-more s k n =
+    fun-ext (λ o. test (eqb o n)
+    (λ y. let e : o ≡ n = eqb-eq o n y in
+    rw (y, e, ge-ltb n n (omega arith), lt-ltb n (suc n) (omega arith)))
+    (λ y. rw y (same o y)))
+  where
+    same : (o : ℕ) → eqb o n ≡ false → allowed s k n o ≡ allowed s k (suc n) o
+    same o y =
+        let ne = eqb-ne o n y in
+        ⊎-elim (λ h. rw (lt-ltb o n h, lt-ltb o (suc n) (omega arith)))
+        (λ h. rw (ge-ltb o n h, ge-ltb o (suc n) (omega (arith, ne)))) (below-or-not o n)
+
+allowances : (s : Store) (l : List ℕ) (n : ℕ) → n ≤ s .counts .sites
+    → allowancesPut (s .counts) n (written s l)
+    ≡ written (withSites s (allowed s (s .counts .keys) n)) l
+unfolding foldBelow withSites
+allowances s l zero h =
+    ap (λ (f : ℕ → Site). written (withSites s f) l)
+    (fun-ext (λ o. rw (ge-ltb o 0 (omega arith))))
+allowances s l (suc n) h =
+    let z = s .counts in
+    let t = withSites s (allowed s (z .keys) n) in
+    ap (λ (m : List ℕ). set m (allowanceAt z (siteAt z n)) (z .keys))
+    (allowances s l n (omega arith))
+    ∙ put-allowance t l n (z .keys) (omega arith)
+    ∙ ap (λ (f : ℕ → Site). written (withSites s f) l) (one-more s (z .keys) n)
+
+-- All of them: a fresh store.
+all-allowed : (z : Counts) → withSites (bare z) (allowed (bare z) (z .keys) (z .sites)) ≡ fresh z
+unfolding bare fresh withSites
+all-allowed z =
+    ap (λ (f : ℕ → Site). withSites (bare z) f) (fun-ext (λ o. test (ltb o (z .sites))
+    (λ y. rw y) (λ y. rw y)))
+
+pub fresh-stored : (l m n k : List ℕ) (z : Counts) (at : Sizes) → Room (length l) z at
+    → m ≡ put l 0 (at .total) (λ _. 0) → n ≡ sets m 0 (headerWords z 0)
+    → k ≡ allowancesPut z (z .sites) n → k ≡ written (fresh z) l
+unfolding bare fresh withSites
+fresh-stored l m n k z at R p q e =
+    e ∙ ap (allowancesPut z (z .sites)) (bare-stored l m n z at R p q)
+    ∙ allowances (bare z) l (z .sites) (omega arith)
+    ∙ ap (λ (s : Store). written s l) (all-allowed z)

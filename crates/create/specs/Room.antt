@@ -1,10 +1,14 @@
--- What new needs before it stores a word.
+-- What new needs before it stores a word, and the loop over the sites.
+-- Room: the areas fit. allowancesPut: the allowances of the first n sites stored.
 -- Assumes nothing.
 use mathlib.Core.Path.{_≡_}
+use mathlib.Core.List.{List}
 use Prim.Native.Nat.{ℕ, _≤_}
+use lib.ListN.{set}
+use Rattle.words.specs.Numbers.{foldBelow}
 use Rattle.sizes.specs.declared.Counts.{Counts}
 use Rattle.sizes.specs.declared.Sizes.{Sizes}
-use Rattle.sizes.specs.Bounds.{maxTotal, headerSize, Ranged, sizesOf}
+use Rattle.sizes.specs.Bounds.{maxTotal, headerSize, Ranged, sizesOf, siteAt, allowanceAt}
 
 -- Counts in range and their sizes: the areas follow each other, and a buffer of len words has room
 -- for them.
@@ -18,3 +22,7 @@ pub record Room (len : ℕ) (z : Counts) (at : Sizes) : Type 0 where
   pub total-in : at .runs ≤ at .total
   pub top : at .total ≤ maxTotal
   pub fits : at .total ≤ len
+
+-- The words with the allowance K stored for each of the first n sites.
+abbrev pub allowancesPut : Counts → ℕ → List ℕ → List ℕ
+allowancesPut z n l = foldBelow n (λ o l. set l (allowanceAt z (siteAt z o)) (z .keys)) l

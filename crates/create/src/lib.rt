@@ -15,7 +15,7 @@ ghost use Rattle.layout.specs.Words.{headerWords};
 ghost use Rattle.layout.specs.Buffer.{written};
 ghost use Rattle.layout.specs.Calls.{new, newCause, callOn, leaves};
 ghost use Rattle.answers.specs.Answers.{answeredWords};
-ghost use Rattle.create.specs.Room.{Room};
+ghost use Rattle.create.specs.Room.{Room, allowancesPut};
 
 // Writes a fresh store, or refuses and leaves every word. Answers the total.
 pub fn new(words: &mut [u32], keys: u32, writers: u32, sites: u32, runs: u32) -> Answered
@@ -48,7 +48,7 @@ fn cause(words: &[u32], z: Counts) -> u32
     0
 }
 
-// Zeros up to the total, then the header. Answers the total.
+// Zeros up to the total, then the header and the allowances. Answers the total.
 fn store_fresh(words: &mut [u32], z: Counts) -> u32
     requires { ⌜ newCause (now words) z ≡ 0 ⌝ }
     ensures answers { λ r. ⌜ r ≡ totalOf z ⌝ }
@@ -57,7 +57,24 @@ fn store_fresh(words: &mut [u32], z: Counts) -> u32
     let at = sizes_of(z);
     words::zero(words, 0, at.total);
     store_header(words, z, at);
+    store_allowances(words, z);
     narrow(at.total)
+}
+
+// The allowance of each site: all keys.
+fn store_allowances(words: &mut [u32], z: Counts)
+    requires { ⌜ Ranged z × (totalOf z ≤ length (now words)) ⌝ }
+    ensures { λ _. ⌜ now (words .exit) ≡ allowancesPut z (z .sites) (now (words .entry)) ⌝ }
+{
+    let keys = narrow(z.keys);
+    let n = z.sites;
+    let mut o = 0;
+    while o < n {
+        let site = z.site_at(o);
+        let at = z.allowance_at(site);
+        words[at] = keys;
+        o += 1;
+    }
 }
 
 // The header.

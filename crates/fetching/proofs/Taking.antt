@@ -1,35 +1,45 @@
 -- The mask of T, as the parts of a fetch hand it on.
 -- taken-cache: the cache that takes it. taken-lacked: whether the master lacks a key of it.
--- cache-again, site-again: a site with its own cache. taken-..: what is stored.
+-- taken-count: how many keys are held then. taken-cause: the causes.
+-- cache-again, site-again: a site with its own cache. over-read, taken-..: what is read, stored.
 -- Assumes nothing.
 use mathlib.Core.Path.{_≡_, refl, sym, ap, _∙_, fun-ext}
-use mathlib.Core.Bool.{Bool, true, false, cond, not, _&&_}
+use mathlib.Core.Bool.{Bool, true, false, cond, not, _&&_, _||_}
 use mathlib.Core.Logic.{⊎-elim}
 use mathlib.Core.List.{List}
 use Prim.Native.Nat.{ℕ, _<_}
+use lib.Dec.{ltb}
+use lib.ListN.{getD}
 use Rattle.words.specs.Tests.{Items}
+use Rattle.words.specs.Numbers.{countBelow}
+use Rattle.words.proofs.Bools.{test}
+use Rattle.words.proofs.Numbers.{count-same}
 use Rattle.words.proofs.Tests.{below-or-not, any-same}
 use Rattle.words.proofs.Lists.{putAt-itself}
 use Rattle.masks.specs.Mask.{testBit, maskBelow}
 use Rattle.masks.proofs.Bits.{test-none}
 use Rattle.masks.proofs.Sets.{item-of}
 use Rattle.sizes.specs.declared.Counts.{Counts}
-use Rattle.sizes.specs.Bounds.{masterAt, siteAt}
+use Rattle.sizes.specs.Bounds.{masterAt, siteAt, allowanceAt}
 use Rattle.model.specs.Algebra.{Place, lacking}
 use Rattle.model.specs.Version.{Version, held, versions}
 use Rattle.model.specs.Sets.{fetchSet, fetched, unfetchable}
 use Rattle.model.specs.Store.{Store, siteMarked, siteWith, withSites, withCache}
+use Rattle.model.specs.Allowance.{heldCount, over}
+use Rattle.model.specs.Outcome.{refuse}
 use Rattle.model.proofs.Draws.{unfetchable-set}
+use Rattle.model.proofs.Allowances.{held-fetched}
 use Rattle.model.proofs.Formed.{well-out}
-use Rattle.layout.specs.Reading.{readPlace, storeOf}
+use Rattle.layout.specs.Reading.{readPlace, readSite, storeOf}
 use Rattle.layout.specs.Stored.{putPlace}
 use Rattle.layout.specs.Buffer.{written}
 use Rattle.layout.proofs.Parts.{FitPlace, place-laws}
 use Rattle.layout.proofs.Fit.{fit-choice, marks-beyond}
 use Rattle.layout.proofs.Follow.{Fine, form-fine}
-use Rattle.layout.proofs.Readings.{master-in, cache-in}
+use Rattle.layout.proofs.Readings.{master-in, site-in, cache-in}
 use Rattle.version.specs.Places.{putMark, choice}
 use Rattle.form.specs.Parts.{FormWith}
+use Rattle.fetching.specs.Takes.{takesOver, takesCause}
 use Rattle.form.proofs.Known.{form-again, cache-stored}
 
 -- ---- the mask of T
@@ -64,6 +74,31 @@ module _ (z : Counts) (master cache : Place Version) (start : Items) (m : ℕ)
       (λ k i. ap (λ (b : Bool). b && not (held (master k))) (item-of (z .keys) m T e k i))
       ∙ sym (unfetchable-set (versions (z .writers)) (z .keys) master cache start)
 
+  -- How many keys are held after a fetch of which the master lacks none.
+  pub taken-count : unfetchable (versions (z .writers)) (z .keys) master start ≡ false
+      → heldCount (z .keys) (fetched (versions (z .writers)) (z .keys) master cache start)
+      ≡ countBelow (z .keys) (λ k. testBit m k || held (cache k))
+  taken-count u =
+      held-fetched (z .writers) (z .keys) master cache start u
+      ∙ count-same (z .keys) (λ k. T k || held (cache k)) (λ k. testBit m k || held (cache k))
+      (λ k i. ap (λ (b : Bool). b || held (cache k)) (sym (item-of (z .keys) m T e k i)))
+
+-- The rows by the mask are those of the fetch.
+pub taken-cause : (z : Counts) (s : Store) (o : ℕ) (start : Items) (m : ℕ)
+    → let alg = versions (z .writers) in
+    let cache = s .site o .cache in
+    m ≡ maskBelow (z .keys) (fetchSet alg (z .keys) (s .master) cache start)
+    → takesCause z s o m
+    ≡ refuse (unfetchable alg (z .keys) (s .master) start) 7
+    (refuse (over z (s .site o) (fetched alg (z .keys) (s .master) cache start)) 12
+    0)
+unfolding takesCause takesOver over refuse
+taken-cause z s o start m e =
+    let lacks = unfetchable (versions (z .writers)) (z .keys) (s .master) start in
+    rw (taken-lacked z (s .master) (s .site o .cache) start m e)
+    (test lacks (λ y. rw y)
+    (λ n. rw (n, taken-count z (s .master) (s .site o .cache) start m e n)))
+
 -- ---- a site with its own cache
 
 -- A site of a fine store is as it is with its mark set again.
@@ -79,9 +114,16 @@ cache-again : (s : Store) → Fine s → (o : ℕ) → withCache s o (s .site o 
 unfolding withCache withSites
 cache-again s F o = rw (site-again s F o) (ap (withSites s) (putAt-itself (s .site) o))
 
--- ---- what is stored
+-- ---- what is read and stored
 
 module _ (l : List ℕ) (z : Counts) (H : FormWith l z) (o : ℕ) (h : o < z .sites) where
+  -- at, w: where the cache is, and the word of the allowance.
+  pub over-read : (at w n m : ℕ) → at ≡ siteAt z o → w ≡ allowanceAt z at
+      → n ≡ countBelow (z .keys) (λ k. testBit m k || held (readPlace z l at k))
+      → ltb (getD l w 0) n ≡ takesOver z (storeOf l .site o) m
+  unfolding takesOver readSite
+  over-read at w n m p q e = rw (site-in l z (H .counts) o h, q, e, p)
+
   -- The cache of site o with the keys of a mask.
   abbrev pub takes : ℕ → Place Version
   takes m = choice (testBit m) (storeOf l .master) (storeOf l .site o .cache)

@@ -3,6 +3,7 @@ use sets::fetch_set;
 use sets::missing::is_unfetchable;
 use sizes::Counts;
 use version::copy_keys;
+use version::count_with;
 use version::mark::mark_site;
 ghost use mathlib.Core.Path.{_≡_};
 ghost use Prim.Native.Nat.{_<_, _^_};
@@ -14,6 +15,7 @@ ghost use Rattle.layout.specs.Reading.{storeOf};
 ghost use Rattle.layout.specs.Buffer.{written};
 ghost use Rattle.version.specs.Places.{choice};
 ghost use Rattle.form.specs.Parts.{FormWith};
+ghost use Rattle.fetching.specs.Takes.{takesOver, takesCause};
 
 // T: the keys that the cache of site o takes from the master.
 pub fn find_taken(words: &[u32], z: Counts, o: usize, start: u32) -> u32
@@ -37,6 +39,32 @@ pub fn is_lacked(words: &[u32], z: Counts, taken: u32) -> bool
 {
     let areas = z.areas();
     is_unfetchable(words, z, areas.master, taken)
+}
+
+// Whether site o would hold more than it may with T.
+pub fn is_over(words: &[u32], z: Counts, o: usize, taken: u32) -> bool
+    requires { ⌜ FormWith (now words) z × (o < z .sites) ⌝ }
+    ensures { λ b. ⌜ b ≡ takesOver z (storeOf (now (words .entry)) .site o) taken ⌝ }
+{
+    let cache = z.site_at(o);
+    let at = z.allowance_at(cache);
+    let count = count_with(words, z, cache, taken);
+    words[at] < count
+}
+
+// The first cause for which a fetch at site o that takes T is refused, or 0.
+pub fn taking_cause(words: &[u32], z: Counts, o: usize, taken: u32) -> u32
+    requires { ⌜ FormWith (now words) z × (o < z .sites) ⌝ }
+    requires { ⌜ taken < 2 ^ z .keys ⌝ }
+    ensures { λ n. ⌜ n ≡ takesCause z (storeOf (now (words .entry))) o taken ⌝ }
+{
+    if is_lacked(words, z, taken) {
+        return 7;
+    }
+    if is_over(words, z, o, taken) {
+        return 12;
+    }
+    0
 }
 
 // The cache of site o takes the master's version of each key in T, and its mark is set. Where T

@@ -23,10 +23,11 @@ use Rattle.model.specs.Version.{Version, held, dependency, supersedes, leadsOn,
 use Rattle.model.specs.Sets.{draws, drawSet, fetchSet, fetched, unfetchable, evictSet, evicted, pullSet, pulled}
 use Rattle.model.specs.Store.{Store, fresh, planned, withMaster, withLast, withSites, withCache, siteWith, withMarks, withCaches, withWriter, withRun, withState, withSnapshot, withJobDone}
 use Rattle.model.specs.Form.{validJob}
+use Rattle.model.specs.Allowance.{heldCount, over}
 use Rattle.model.specs.Outcome.{refuse, unless, replied, allowed, runCause}
 use Rattle.model.specs.Caches.{fetchCause, fetchDone, fetchRule, evictCause, evictDone, evictRule}
 use Rattle.model.specs.Runs.{listedJob, listedCount, listedJobs, listValid, openCause, openedRun, openDone, openRule, dropCause, dropDone, dropRule}
-use Rattle.model.specs.Prepare.{jobStart, fetchReads, preparedCaches, unpreparable, usesSite, sitesMerged, siteCaches, prepareCause, prepareCaches, prepareSnapshot, prepareDone, prepareRule}
+use Rattle.model.specs.Prepare.{jobStart, fetchReads, preparedCaches, unpreparable, usesSite, sitesMerged, siteCaches, anyOver, prepareCause, prepareCaches, prepareSnapshot, prepareDone, prepareRule}
 use Rattle.model.specs.Step.{readStart, stepSite, stepReads, stepStart, stepFetch, stepCache, stepPlan, stepPull, stepSnapshot, stepMoved, jobLimit, notReady, jobCause, stepCause, stepBroken, stepDone, stepRule}
 use Rattle.model.specs.Issue.{raiseCause, issueCause, takenIn, rowsSet, newPast, newVersion, issuedMaster, issuedWriter, savedStore, issuedStore, issuedNumber, issueDone, issueRule}
 use Rattle.model.specs.Calls.Look.{lookPlace, lookLimit, lookCause, rowNumbers, lookStanding, lookNumbers, lookReply}
@@ -184,12 +185,14 @@ unfolding anyBelow allBelow only foldBelow countBelow largest when putAt upto bl
     withBit withIf maskBelow closure rounds round exceeds standing dominates present join
     between pastSize versionSize placeSize siteSize writerSize runSize masterAt sitesAt
     writersAt runsAt tailSize tailAt totalOf lacking held dependency supersedes leadsOn
-    mergedLeaders larger merge draws drawSet fetchSet fetched unfetchable evictSet evicted
+    mergedLeaders larger merge draws drawSet fetchSet fetched unfetchable heldCount over
+    evictSet evicted
     pullSet pulled fresh planned withMaster withLast withSites withCache siteWith withMarks
     withCaches withWriter withRun withState withSnapshot withJobDone validJob refuse unless
     allowed runCause fetchCause fetchDone fetchRule evictCause evictDone evictRule listedJob
     listedCount listedJobs listValid openCause openedRun openDone openRule dropCause dropDone
     dropRule jobStart fetchReads preparedCaches unpreparable usesSite sitesMerged siteCaches
+    anyOver
     prepareCause prepareCaches prepareSnapshot prepareDone prepareRule readStart stepSite
     stepReads stepStart stepFetch stepCache stepPlan stepPull stepSnapshot stepMoved jobLimit
     notReady jobCause stepCause stepBroken stepDone stepRule raiseCause issueCause takenIn

@@ -10,12 +10,14 @@ use Prim.Native.Nat.{ℕ, _+_, _-_}
 use lib.ListN.{length, getD, take, replicate}
 use lib.Seq.{sets}
 use Rattle.words.specs.Tests.{anyBelow, allBelow}
+use Rattle.words.specs.Numbers.{when, countBelow}
 use Rattle.words.specs.Lists.{putAt, upto, blocks}
 use Rattle.clock.specs.Clock.{exceeds, standing, present}
-use Rattle.sizes.specs.Bounds.{countsOf, between, ranged, pastSize, versionSize, placeSize, siteSize, writerSize, runSize, masterAt, sitesAt, writersAt, runsAt, tailSize, tailAt, totalOf, siteAt, staleAt}
+use Rattle.sizes.specs.Bounds.{countsOf, between, ranged, pastSize, versionSize, placeSize, siteSize, writerSize, runSize, masterAt, sitesAt, writersAt, runsAt, tailSize, tailAt, totalOf, siteAt, staleAt, allowanceAt}
 use Rattle.model.specs.Version.{held}
-use Rattle.model.specs.Store.{noSite, fresh, siteMarked, withSites, withSite}
+use Rattle.model.specs.Store.{fresh, siteMarked, withSites, withSite}
 use Rattle.model.specs.Form.{zeroRows, zeroVersion, leadersFormed, versionFormed, placeFormed, zeroJob, freeFormed, runFormed, siteFormed, wellFormed}
+use Rattle.model.specs.Allowance.{heldCount, over}
 use Rattle.model.specs.Marks.{isStale, staleMask}
 use Rattle.masks.specs.Mask.{withIf, maskBelow}
 use Rattle.model.specs.Outcome.{answer, refuse, unless, allowed, runCause}
@@ -37,8 +39,8 @@ put i x = sets right i (x ∷ [])
 -- The words of a store with marks 2 and 1.
 abbrev marks : List ℕ
 marks =
-    storeWords (withSite (withSite (fresh (countsOf 2 2 2 1)) 0 (siteMarked noSite 2)) 1
-    (siteMarked noSite 1))
+    let s = fresh (countsOf 2 2 2 1) in
+    storeWords (withSite (withSite s 0 (siteMarked (s .site 0) 2)) 1 (siteMarked (s .site 1) 1))
 
 -- One more, one less in a word.
 abbrev raised : ℕ → List ℕ
@@ -95,6 +97,11 @@ pub record Buffers : Type 0 where
       map (λ o. getD marks (staleAt z (siteAt z o)) 0) (0 ∷ 1 ∷ []) ≡ 2 ∷ 1 ∷ []
   -- The mark of the shelf is asked: nothing is held there.
   pub no-mark : let z = countsOf 1 1 1 1 in inForm (raised (staleAt z (siteAt z 0))) ≡ false
+  -- On a new desk the allowance is K: above it, or below what is held, isn't in form.
+  pub allowances : let z = countsOf 2 2 2 1 in
+      map (λ o. getD marks (allowanceAt z (siteAt z o)) 0) (0 ∷ 1 ∷ []) ≡ 2 ∷ 2 ∷ []
+  pub allowed : let at = allowanceAt (countsOf 1 1 1 1) (siteAt (countsOf 1 1 1 1) 0) in
+      map inForm (put at 0 ∷ put at 1 ∷ put at 2 ∷ []) ≡ true ∷ true ∷ false ∷ []
   pub held-mask : map inForm (sets right 10 (1 ∷ 0 ∷ 1 ∷ []) ∷ sets right 10 (1 ∷ 2 ∷ 1 ∷ []) ∷ [])
       ≡ replicate 2 false
   pub calls : Asked
@@ -105,7 +112,8 @@ unfolding putAt withSites anyBelow allBelow upto blocks present between ranged p
     siteSize writerSize runSize masterAt sitesAt writersAt runsAt tailSize tailAt totalOf held
     fresh zeroRows zeroVersion leadersFormed versionFormed placeFormed zeroJob freeFormed
     runFormed siteFormed
-    wellFormed isStale staleMask maskBelow withIf exceeds standing clockWords
+    wellFormed when countBelow heldCount over
+    isStale staleMask maskBelow withIf exceeds standing clockWords
     pastWords versionWords placeWords siteWords sitesWords writerWords writersWords jobWords
     jobsWords runWords runsWords tailWords headerWords storeWords readClock readPast readVersion
     readPlace readSite readWriter readJob readJobs readRun readTail countsIn storeOf headerRight
@@ -125,6 +133,8 @@ buffers = record {
   held-row = refl;
   mark-words = refl;
   no-mark = refl;
+  allowances = refl;
+  allowed = refl;
   held-mask = refl;
   calls = record {
     range = refl;

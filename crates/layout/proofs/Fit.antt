@@ -7,7 +7,7 @@ use mathlib.Core.Logic.{_⊎_, inl, inr, ⊎-elim}
 use Prim.Native.Nat.{ℕ, _≤_, _<_}
 use native.Mathlib.Omega.{arith}
 use Rattle.words.specs.Lists.{putAt}
-use Rattle.words.proofs.Bools.{test}
+use Rattle.words.proofs.Bools.{test, ge-ltb}
 use Rattle.words.proofs.Tests.{below-or-not}
 use Rattle.words.proofs.Lists.{putAt-other, putAt-cases}
 use Rattle.masks.proofs.Sets.{mask-no}
@@ -16,7 +16,7 @@ use Rattle.sizes.specs.declared.Counts.{Counts}
 use Rattle.model.specs.Algebra.{Place}
 use Rattle.model.specs.Version.{Version, unheld, held, larger, merge}
 use Rattle.model.specs.Marks.{isStale, staleMask}
-use Rattle.model.specs.Store.{Writer, Run, Site, Store, emptyPlace, noSite, freeRun, fresh, siteMarked, siteWith, withLast, withMarks, withMaster, withSites, withCache, withCaches, withWriter, withRun}
+use Rattle.model.specs.Store.{Writer, Run, Site, Store, emptyPlace, noSite, freeRun, fresh, siteAllowed, siteMarked, siteWith, withLast, withMarks, withMaster, withSites, withSite, withCache, withCaches, withWriter, withRun}
 use Rattle.model.proofs.Merges.{held-unheld, merge-cases, merge-unheld-left}
 use Rattle.layout.proofs.Codec.{FitMany}
 use Rattle.layout.proofs.Parts.{FitPast, FitVersion, FitPlace, FitSite, FitSites, FitWriter, FitRun}
@@ -41,14 +41,14 @@ fit-free z = record {
   snapshot = fit-empty z;
 }
 
-fit-no-site : (z : Counts) → FitSite z noSite
-fit-no-site z = record { cache = fit-empty z }
-
 pub fresh-fits : (z : Counts) → FitStore (fresh z)
 unfolding fresh
 fresh-fits z = record {
   master = fit-empty z;
-  site = record { each = λ o h. fit-no-site z; rest = λ o h. refl };
+  site = record {
+    each = λ o h. record { cache = fit-empty z };
+    rest = λ o h. rw (ge-ltb o (z .sites) h);
+  };
   writer = record {
     each = λ w h. record { past = fit-unheld z .past };
     rest = λ w h. refl;
@@ -182,6 +182,13 @@ module _ (s : Store) (F : FitStore s) where
       let x = siteWith s (s .site o) p in
       fit-sites (putAt (s .site) o x) (fit-put (s .site) o x (F .site) h
       (fit-site-with s (s .site o) p (F .site .each o h) G))
+
+  pub fit-allowed : (o n : ℕ) → o < s .counts .sites
+      → FitStore (withSite s o (siteAllowed (s .site o) n))
+  fit-allowed o n h =
+      let x = siteAllowed (s .site o) n in
+      fit-sites (putAt (s .site) o x)
+      (fit-put (s .site) o x (F .site) h (record { cache = F .site .each o h .cache }))
 
   pub fit-caches : (p : ℕ → Place Version)
       → FitMany (s .counts .sites) emptyPlace (FitPlace (s .counts)) p

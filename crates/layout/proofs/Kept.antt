@@ -4,7 +4,7 @@
 -- Assumes nothing.
 use mathlib.Core.Path.{_≡_, refl}
 use mathlib.Core.List.{List}
-use Prim.Native.Nat.{ℕ, _<_}
+use Prim.Native.Nat.{ℕ, _≤_, _<_}
 use native.Mathlib.Omega.{arith}
 use Rattle.words.specs.Tests.{Items, only}
 use Rattle.words.proofs.Bools.{leb-gt}
@@ -14,14 +14,17 @@ use Rattle.model.specs.Algebra.{Place}
 use Rattle.model.specs.Version.{Version, versions}
 use Rattle.model.specs.Sets.{fetchSet, fetched, evictSet, evicted}
 use Rattle.model.specs.Store.{Store, emptyPlace, freeRun, fresh, withSites, withCache, withRun}
+use Rattle.model.specs.Allowance.{heldCount}
 use Rattle.model.specs.Outcome.{Outcome, refused, broken, done, unless, Reply, replied, runCause}
 use Rattle.model.specs.Caches.{fetchCause, fetchDone, fetchRule, evictCause, evictDone, evictRule}
 use Rattle.model.specs.Runs.{dropCause, dropDone, dropRule}
+use Rattle.model.proofs.Allowances.{over-no, held-evicted}
 use Rattle.model.proofs.Outcomes.{no-cause, unless-cases, nextStore, replied-cases}
 use Rattle.layout.proofs.Parts.{FitPlace}
 use Rattle.layout.proofs.Whole.{FitStore}
 use Rattle.layout.proofs.Fit.{fit-empty, fit-free, fit-choice, fit-cache, fit-run, fresh-fits}
-use Rattle.model.proofs.Formed.{PlaceFormed, formed-empty, formed-choice, Formed, well-out, well-in, fresh-formed, formed-cache, formed-run}
+use Rattle.model.proofs.Formed.{PlaceFormed, formed-empty, formed-choice, Formed, well-out, well-in, fresh-formed}
+use Rattle.model.proofs.FormedNext.{formed-cache, formed-run}
 use Rattle.model.proofs.Plans.{free-formed}
 use Rattle.layout.proofs.Follow.{Fine}
 
@@ -91,13 +94,28 @@ fetched-formed z master cache start F G =
     let T = fetchSet (versions (z .writers)) (z .keys) master cache start in
     formed-choice z T master cache F G
 
+evicted-fits : (z : Counts) (cache : Place Version) (start : Items) → FitPlace z cache
+    → FitPlace z (evicted (versions (z .writers)) (z .keys) cache start)
+unfolding evicted
+evicted-fits z cache start F =
+    fit-choice z (evictSet (versions (z .writers)) (z .keys) cache start) emptyPlace cache
+    (fit-empty z) F
+
+evicted-formed : (z : Counts) (cache : Place Version) (start : Items) → PlaceFormed z cache
+    → PlaceFormed z (evicted (versions (z .writers)) (z .keys) cache start)
+unfolding evicted
+evicted-formed z cache start F =
+    formed-choice z (evictSet (versions (z .writers)) (z .keys) cache start) emptyPlace cache
+    (formed-empty z) F
+
 -- A store with another cache.
 cache-kept : (s : Store) (o : ℕ) (p : Place Version) (a : List ℕ) → Fine s → o < s .counts .sites
-    → FitPlace (s .counts) p → PlaceFormed (s .counts) p → Kept s (done a (withCache s o p))
+    → FitPlace (s .counts) p → PlaceFormed (s .counts) p
+    → heldCount (s .counts .keys) p ≤ s .site o .allowance → Kept s (done a (withCache s o p))
 unfolding withCache withSites
-cache-kept s o p a F h G H =
+cache-kept s o p a F h G H r =
     kept-done s (withCache s o p) a F (fit-cache s (F .fits) o p h G)
-    (formed-cache s (well-out s (F .formed)) o p H) refl
+    (formed-cache s (well-out s (F .formed)) o p H r) refl
 
 pub fetch-kept : (o k : ℕ) (s : Store) → Fine s → Kept s (fetchRule o k s)
 unfolding fetchRule fetchDone fetchCause
@@ -106,21 +124,26 @@ fetch-kept o k s F =
     let z = s .counts in
     let G = well-out s (F .formed) in
     let p = fetched (versions (z .writers)) (z .keys) (s .master) (s .site o .cache) (only k) in
-    let h : o < z .sites = leb-gt _ _ (no-cause _ 3 _ (omega arith) e .0) in
+    let a = no-cause _ 3 _ (omega arith) e in
+    let b = no-cause _ 3 _ (omega arith) (a .1) in
+    let c = no-cause _ 7 _ (omega arith) (b .1) in
+    let d = no-cause _ 12 0 (omega arith) (c .1) in
+    let h : o < z .sites = leb-gt _ _ (a .0) in
     cache-kept s o p _ F h
     (fetched-fits z (s .master) (s .site o .cache) (only k) (F .fits .master)
     (F .fits .site .each o h .cache))
-    (fetched-formed z (s .master) (s .site o .cache) (only k) (G .master) (G .cache o h)))
+    (fetched-formed z (s .master) (s .site o .cache) (only k) (G .master) (G .cache o h))
+    (over-no z (s .site o) p (d .0)))
 
 pub evict-kept : (o k : ℕ) (s : Store) → Fine s → Kept s (evictRule o k s)
-unfolding evictRule evictDone evictCause evicted
+unfolding evictRule evictDone evictCause
 evict-kept o k s F =
     kept-unless s (evictCause s o k) (evictDone s o k) F (λ e.
     let z = s .counts in
     let G = well-out s (F .formed) in
     let cache = s .site o .cache in
-    let gone = evictSet (versions (z .writers)) (z .keys) cache (only k) in
+    let left = evicted (versions (z .writers)) (z .keys) cache (only k) in
     let h : o < z .sites = leb-gt _ _ (no-cause _ 3 _ (omega arith) e .0) in
-    cache-kept s o _ _ F h
-    (fit-choice z gone emptyPlace cache (fit-empty z) (F .fits .site .each o h .cache))
-    (formed-choice z gone emptyPlace cache (formed-empty z) (G .cache o h)))
+    let less = held-evicted (z .writers) (z .keys) cache (only k) in
+    cache-kept s o left _ F h (evicted-fits z cache (only k) (F .fits .site .each o h .cache))
+    (evicted-formed z cache (only k) (G .cache o h)) (omega (arith, G .room o h .1)))

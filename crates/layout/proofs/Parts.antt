@@ -6,7 +6,7 @@ use mathlib.Core.List.{List, [], _∷_, _++_}
 use Prim.Native.Nat.{ℕ, suc, _+_, _*_}
 use native.Mathlib.Nat.{mul-one}
 use native.Mathlib.Omega.{arith}
-use lib.ListN.{getD, drop, length-append}
+use lib.ListN.{getD, length-append}
 use Rattle.words.specs.Lists.{window, upto}
 use Rattle.words.proofs.Lists.{append-same, window-add, window-cons}
 use Rattle.clock.specs.Clock.{Clock}
@@ -14,10 +14,10 @@ use Rattle.sizes.specs.declared.Counts.{Counts}
 use Rattle.sizes.specs.Bounds.{jobsOffset, doneOffset, readOffset, planOffset, planSize, snapshotOffset, pastSize, versionSize, placeSize, siteSize, writerSize, runSize}
 use Rattle.model.specs.Algebra.{Place}
 use Rattle.model.specs.Version.{Version, unheld}
-use Rattle.model.specs.Store.{Writer, Job, Run, Site, noWriter, noJob, noSite, freeRun}
+use Rattle.model.specs.Store.{Writer, Run, Site, noWriter, noSite, freeRun}
 use Rattle.model.proofs.Merges.{version-path}
-use Rattle.layout.specs.Words.{clockWords, pastWords, versionWords, placeWords, siteWords, sitesWords, writerWords, writersWords, jobWords, jobsWords, runWords, runsWords}
-use Rattle.layout.specs.Reading.{readWord, readClock, readPast, readVersion, readPlace, readSite, readWriter, readJob, readJobs, readRun}
+use Rattle.layout.specs.Words.{clockWords, pastWords, versionWords, placeWords, siteWords, sitesWords, writerWords, writersWords, runWords, runsWords}
+use Rattle.layout.specs.Reading.{readWord, readClock, readPast, readVersion, readPlace, readSite, readWriter, readRun}
 use Rattle.layout.proofs.Codec.{Laws, FitMany, many}
 use Rattle.layout.proofs.Jobs.{cons-same, FitJobs, jobs-laws}
 
@@ -102,6 +102,11 @@ place-laws z = many (z .keys) (version-laws z) unheld
 pub record FitSite (z : Counts) (x : Site) : Type 0 where
   pub cache : FitPlace z (x .cache)
 
+-- The words behind a cache.
+two-words : (l : List ℕ) (at : ℕ) → getD l at 0 ∷ getD l (at + 1) 0 ∷ [] ≡ window l at 2
+two-words l at =
+    ap (λ (t : List ℕ). getD l at 0 ∷ t) (word-laws .round l (at + 1)) ∙ window-cons l at 1
+
 pub site-laws : (z : Counts) → Laws (siteSize z) (siteWords z) (readSite z) (FitSite z)
 unfolding siteSize siteWords readSite
 site-laws z =
@@ -109,14 +114,15 @@ site-laws z =
     record {
       long = λ x. rw (length-append, L .long (x .cache)) (omega arith);
       round = λ l at.
-          ap₂ _++_ (L .round l at) (word-laws .round l (at + placeSize z))
-          ∙ sym (window-add l at (placeSize z) 1);
+          ap₂ _++_ (L .round l at) (two-words l (at + placeSize z))
+          ∙ sym (window-add l at (placeSize z) 2);
       fits = λ l at. record { cache = L .fits l at };
       same = λ a b F G e.
           let d = append-same _ _ _ _ (L .long (a .cache) ∙ sym (L .long (b .cache))) e in
           let p = L .same (a .cache) (b .cache) (F .cache) (G .cache) (d .0) in
-          let q = cons-same _ _ _ _ (d .1) .0 in
-          λ i. record { cache = p i; stale = q i };
+          let q = cons-same _ _ _ _ (d .1) in
+          let r = cons-same _ _ _ _ (q .1) in
+          λ i. record { cache = p i; stale = q .0 i; allowance = r .0 i };
     }
 
 abbrev pub FitSites : Counts → (ℕ → Site) → Type 0

@@ -5,7 +5,7 @@ use mathlib.Core.List.{List, _∷_, map}
 use Prim.Native.Nat.{ℕ, _≤_}
 use lib.ListN.{length, drop, replicate}
 use Rattle.words.specs.Tests.{anyBelow, allBelow, only}
-use Rattle.words.specs.Numbers.{foldBelow}
+use Rattle.words.specs.Numbers.{when, countBelow, foldBelow}
 use Rattle.words.specs.Lists.{putAt, upto, blocks}
 use Rattle.words.proofs.Bools.{le-leb}
 use Rattle.masks.specs.Mask.{testBit, withBit, withIf, maskBelow}
@@ -17,11 +17,12 @@ use Rattle.model.specs.Version.{held, dependency, supersedes, leadsOn, mergedLe
 use Rattle.model.specs.Sets.{draws, drawSet, fetchSet, fetched, unfetchable, evictSet, evicted, pullSet, pulled}
 use Rattle.model.specs.Store.{fresh, siteWith, withMarks, planned, doneReads, withMaster, withLast, withSites, withCache, withCaches, withWriter, withRun, withState, withSnapshot, withJobDone}
 use Rattle.model.specs.Form.{zeroRows, zeroVersion, leadersFormed, versionFormed, placeFormed, validJob, zeroJob, freeFormed, jobsFormed, masksFormed, snapshotFormed, runFormed, siteFormed, wellFormed}
+use Rattle.model.specs.Allowance.{heldCount, over}
 use Rattle.model.specs.Marks.{isStale, staleMask}
 use Rattle.model.specs.Outcome.{answer, refuse, unless, replied, allowed, runCause}
 use Rattle.model.specs.Caches.{fetchCause, fetchDone, fetchRule, evictCause, evictDone, evictRule}
 use Rattle.model.specs.Runs.{listedJob, listedCount, listedJobs, listValid, openCause, openedRun, openDone, openRule, dropCause, dropDone, dropRule}
-use Rattle.model.specs.Prepare.{jobStart, fetchReads, preparedCaches, unpreparable, usesSite, sitesMerged, siteCaches, prepareCause, prepareCaches, prepareSnapshot, prepareDone, prepareRule}
+use Rattle.model.specs.Prepare.{jobStart, fetchReads, preparedCaches, unpreparable, usesSite, sitesMerged, siteCaches, anyOver, prepareCause, prepareCaches, prepareSnapshot, prepareDone, prepareRule}
 use Rattle.model.specs.Step.{readStart, stepSite, stepReads, stepStart, stepFetch, stepCache, stepPlan, stepPull, stepSnapshot, stepMoved, jobLimit, notReady, jobCause, stepCause, stepBroken, stepDone, stepRule}
 use Rattle.model.specs.Issue.{raiseCause, issueCause, takenIn, rowsSet, newPast, newVersion, issuedMaster, issuedWriter, savedStore, issuedStore, issuedNumber, issueDone, issueRule}
 use Rattle.model.specs.Calls.Look.{lookPlace, lookLimit, lookCause, rowNumbers, lookStanding, lookNumbers, lookReply}
@@ -99,11 +100,13 @@ unfolding anyBelow allBelow only foldBelow putAt upto blocks testBit withBit wit
     withLast withSites withCache withCaches withWriter withRun withState withSnapshot
     withJobDone zeroRows zeroVersion leadersFormed versionFormed placeFormed validJob zeroJob
     freeFormed jobsFormed
-    masksFormed snapshotFormed runFormed siteFormed wellFormed isStale staleMask siteWith
+    masksFormed snapshotFormed runFormed siteFormed wellFormed when countBelow
+    heldCount over isStale staleMask siteWith
     withMarks answer refuse unless allowed runCause
     fetchCause fetchDone fetchRule evictCause evictDone evictRule listedJob listedCount
     listedJobs listValid openCause openedRun openDone openRule dropCause dropDone dropRule
-    jobStart fetchReads preparedCaches unpreparable usesSite sitesMerged siteCaches prepareCause
+    jobStart fetchReads preparedCaches unpreparable usesSite sitesMerged siteCaches anyOver
+    prepareCause
     prepareCaches prepareSnapshot prepareDone prepareRule readStart stepSite stepReads stepStart
     stepFetch stepCache stepPlan stepPull stepSnapshot stepMoved jobLimit notReady jobCause
     stepCause stepBroken stepDone stepRule raiseCause issueCause takenIn rowsSet newPast

@@ -15,11 +15,11 @@ use lib.Seq.{sets}
 use Rattle.words.specs.Lists.{putAt}
 use Rattle.words.proofs.Stores.{sets-left, sets-behind, sets-all}
 use Rattle.words.proofs.Lists.{putAt-same}
-use Rattle.sizes.specs.Bounds.{doneOffset, snapshotOffset, placeSize, siteSize, writerSize, runSize, masterAt, sitesAt, writersAt, runsAt, siteAt, staleAt, writerAt, runAt, snapshotAt}
+use Rattle.sizes.specs.Bounds.{doneOffset, snapshotOffset, placeSize, siteSize, writerSize, runSize, masterAt, sitesAt, writersAt, runsAt, siteAt, staleAt, allowanceAt, writerAt, runAt, snapshotAt}
 use Rattle.model.specs.Algebra.{Place}
 use Rattle.model.specs.Version.{Version}
 use Rattle.model.specs.Marks.{staleMask}
-use Rattle.model.specs.Store.{Writer, Run, Site, Store, withLast, withMaster, withSites, withSite, siteCached, siteMarked, siteWith, withCache, withWriter, withRun, withState, withSnapshot, withJobDone}
+use Rattle.model.specs.Store.{Writer, Run, Site, Store, withLast, withMaster, withSites, withSite, siteCached, siteMarked, siteAllowed, siteWith, withCache, withWriter, withRun, withState, withSnapshot, withJobDone}
 use Rattle.layout.specs.Words.{headerWords, placeWords, siteWords, sitesWords, writerWords, writersWords, jobsWords, runWords, runsWords, storeWords}
 use Rattle.layout.specs.Buffer.{written}
 use Rattle.layout.specs.Reading.{storeOf}
@@ -94,8 +94,9 @@ put-cache s l o p h =
     let e : siteAt z o ≡ siteAt z o + 0 = omega arith in
     let same : length new ≡ length (placeWords z c) = L .long p ∙ sym (L .long c) in
     rw e (put-site-part s l o 0 new (siteCached x p) h (omega (arith, L .long p))
-    (sets-left new (placeWords z c) (x .stale ∷ []) 0 (omega arith)
-    ∙ ap (λ (t : List ℕ). t ++ (x .stale ∷ [])) (sets-all (placeWords z c) new same)))
+    (sets-left new (placeWords z c) (x .stale ∷ x .allowance ∷ []) 0 (omega arith)
+    ∙ ap (λ (t : List ℕ). t ++ (x .stale ∷ x .allowance ∷ []))
+    (sets-all (placeWords z c) new same)))
 
 pub put-mark : (s : Store) (l : List ℕ) (o m : ℕ) → o < s .counts .sites
     → set (written s l) (staleAt (s .counts) (siteAt (s .counts) o)) m
@@ -106,9 +107,25 @@ put-mark s l o m h =
     let x = s .site o in
     let c = placeWords z (x .cache) in
     let long = place-laws z .long (x .cache) in
+    let rest = x .stale ∷ x .allowance ∷ [] in
     put-site-part s l o (placeSize z) (m ∷ []) (siteMarked x m) h (omega arith)
-    (ap (λ (i : ℕ). sets (c ++ (x .stale ∷ [])) i (m ∷ [])) (sym long ∙ sym (add-zero (length c)))
-    ∙ sets-behind c (x .stale ∷ []) (m ∷ []) 0 (omega arith))
+    (ap (λ (i : ℕ). sets (c ++ rest) i (m ∷ [])) (sym long ∙ sym (add-zero (length c)))
+    ∙ sets-behind c rest (m ∷ []) 0 (omega arith))
+
+pub put-allowance : (s : Store) (l : List ℕ) (o n : ℕ) → o < s .counts .sites
+    → set (written s l) (allowanceAt (s .counts) (siteAt (s .counts) o)) n
+    ≡ written (withSite s o (siteAllowed (s .site o) n)) l
+unfolding siteWords siteSize
+put-allowance s l o n h =
+    let z = s .counts in
+    let x = s .site o in
+    let c = placeWords z (x .cache) in
+    let long = place-laws z .long (x .cache) in
+    let rest = x .stale ∷ x .allowance ∷ [] in
+    let at : siteAt z o + placeSize z + 1 ≡ siteAt z o + (placeSize z + 1) = omega arith in
+    rw at (put-site-part s l o (placeSize z + 1) (n ∷ []) (siteAllowed x n) h (omega arith)
+    (ap (λ (i : ℕ). sets (c ++ rest) (i + 1) (n ∷ [])) (sym long)
+    ∙ sets-behind c rest (n ∷ []) 1 (omega arith)))
 
 -- Both: another cache, with a true mark.
 pub put-site : (s : Store) (l : List ℕ) (o : ℕ) (p : Place Version) → o < s .counts .sites

@@ -6,7 +6,7 @@ use Prim.Native.Nat.{ℕ, _+_, _*_}
 use lib.ListN.{getD}
 use Rattle.words.specs.Lists.{upto}
 use Rattle.clock.specs.Clock.{Clock}
-use Rattle.sizes.specs.Bounds.{leadersOffset, pastOffset, writerPastOffset, keysOffset, writersOffset, sitesOffset, runsOffset, lastOffset, maxJobs, jobSize, readsOffset, upstreamOffset, jobsOffset, doneOffset, readOffset, planOffset, snapshotOffset, versionSize, siteSize, writerSize, runSize, masterAt, sitesAt, writersAt, runsAt, tailAt, staleAt}
+use Rattle.sizes.specs.Bounds.{leadersOffset, pastOffset, writerPastOffset, keysOffset, writersOffset, sitesOffset, runsOffset, lastOffset, maxJobs, jobSize, readsOffset, upstreamOffset, jobsOffset, doneOffset, readOffset, planOffset, snapshotOffset, versionSize, siteSize, writerSize, runSize, masterAt, sitesAt, writersAt, runsAt, tailAt, staleAt, allowanceAt}
 use Rattle.sizes.specs.declared.Counts.{Counts}
 use Rattle.model.specs.Algebra.{Place}
 use Rattle.model.specs.Version.{Version, unheld}
@@ -32,7 +32,11 @@ unfoldable pub readPlace : Counts → List ℕ → ℕ → Place Version
 readPlace z l at = upto (z .keys) unheld (λ k. readVersion z l (at + k * versionSize z))
 
 unfoldable pub readSite : Counts → List ℕ → ℕ → Site
-readSite z l at = record { cache = readPlace z l at; stale = readWord l (staleAt z at) }
+readSite z l at = record {
+  cache = readPlace z l at;
+  stale = readWord l (staleAt z at);
+  allowance = readWord l (allowanceAt z at);
+}
 
 unfoldable pub readWriter : Counts → List ℕ → ℕ → Writer
 readWriter z l at =

@@ -25,9 +25,10 @@ versionWords z v = v .issue ∷ v .leaders ∷ pastWords z (v .past)
 unfoldable pub placeWords : Counts → Place Version → List ℕ
 placeWords z p = blocks (z .keys) (λ k. versionWords z (p k))
 
--- CR 4: "Each shelf gets one stored word after its versions"
+-- CR 4: "Each shelf gets one stored word after its versions"; CR 7: "one word after its stale
+-- mark"
 unfoldable pub siteWords : Counts → Site → List ℕ
-siteWords z x = placeWords z (x .cache) ++ (x .stale ∷ [])
+siteWords z x = placeWords z (x .cache) ++ (x .stale ∷ x .allowance ∷ [])
 
 unfoldable pub sitesWords : Counts → (ℕ → Site) → List ℕ
 sitesWords z f = blocks (z .sites) (λ o. siteWords z (f o))

@@ -31,7 +31,7 @@ struct Row {
 }
 
 // How many commands there are.
-const COMMANDS: usize = 12;
+const COMMANDS: usize = 13;
 
 // The commands: a command's number is its row's. Document 01's nine, then the later ones.
 const ROWS: [Row; COMMANDS] = [
@@ -94,6 +94,11 @@ const ROWS: [Row; COMMANDS] = [
         word: *b"admit   ",
         least: 0,
         most: 0,
+    },
+    Row {
+        word: *b"allow   ",
+        least: 2,
+        most: 2,
     },
 ];
 
@@ -162,6 +167,7 @@ fn later_command(number: usize, numbers: &[u32], n: usize) -> Command
         9 => Command::Explain(a, b),
         10 => Command::Stale(a),
         11 => Command::Admit,
+        12 => Command::Allow(a, b),
         _ => Command::Unread,
     }
 }

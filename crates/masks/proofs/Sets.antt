@@ -1,4 +1,4 @@
--- Laws of the mask of a set and of the union of masks.
+-- Laws of the mask of a set, of how many items it has, and of the union of masks.
 -- Assumes nothing.
 use mathlib.Core.Path.{_≡_, refl, sym, ap, _∙_}
 use mathlib.Core.Bool.{Bool, true, false, not, So}
@@ -11,6 +11,7 @@ use lib.Dec.{eqb}
 use lib.Pow.{pow-pos}
 use lib.Bits.{bitOr, or-lt}
 use Rattle.words.specs.Tests.{Items, anyBelow}
+use Rattle.words.specs.Numbers.{when, countBelow}
 use Rattle.words.proofs.Bools.{test, clash, same-test, not-intro, not-elim, eqb-eq, eq-eqb}
 use Rattle.words.proofs.Tests.{below-cases, below-or-not, any-some, any-none, any-no, any-same}
 use Rattle.masks.specs.Mask.{testBit, withIf, maskBelow, unionBelow}
@@ -104,6 +105,12 @@ pub set-none : (n : ℕ) (p : Items) → eqb (maskBelow n p) 0 ≡ not (anyBelow
 set-none n p =
     mask-none n (maskBelow n p) (mask-lt n p n (omega arith))
     ∙ ap not (any-same n (testBit (maskBelow n p)) p (test-mask n p))
+
+-- ---- how many
+
+pub count-more : (p : Items) (n : ℕ) → countBelow (n + 1) p ≡ countBelow n p + when (p n) 1
+unfolding countBelow
+count-more p n = rw add-one
 
 -- ---- unions
 

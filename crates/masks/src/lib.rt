@@ -1,7 +1,7 @@
 // Masks of items below 32: bit k stands for item k.
 ghost use mathlib.Core.Path.{_≡_};
-ghost use Prim.Native.Nat.{_<_};
-ghost use Rattle.words.specs.Numbers.{when};
+ghost use Prim.Native.Nat.{_≤_, _<_};
+ghost use Rattle.words.specs.Numbers.{when, countBelow};
 ghost use Rattle.masks.specs.Mask.{testBit, withBit, withIf, without};
 
 // Whether item k is in the mask.
@@ -40,4 +40,18 @@ pub fn without(a: u32, b: u32) -> u32
     ensures { λ r. ⌜ r ≡ without a b ⌝ }
 {
     a ^ (a & b)
+}
+
+// How many items below n are in the mask.
+pub fn count_items(mask: u32, n: usize) -> u32
+    requires { ⌜ n ≤ 32 ⌝ }
+    ensures { λ r. ⌜ r ≡ countBelow n (testBit mask) ⌝ }
+{
+    let mut count: u32 = 0;
+    let mut k: usize = 0;
+    while k < n {
+        count += mask_if(has(mask, k as u32), 1);
+        k += 1;
+    }
+    count
 }

@@ -10,6 +10,7 @@ use mathlib.Core.List.{List, [], _∷_, _++_}
 use Prim.Native.Nat.{ℕ}
 use lib.ListN.{getD, replicate}
 use Rattle.words.specs.Tests.{anyBelow, allBelow}
+use Rattle.words.specs.Numbers.{when, countBelow}
 use Rattle.words.specs.Lists.{putAt}
 use Rattle.masks.specs.Mask.{testBit, withBit, withIf, maskBelow}
 use Rattle.clock.specs.Clock.{exceeds, standing, present}
@@ -17,6 +18,7 @@ use Rattle.sizes.specs.Bounds.{countsOf, between}
 use Rattle.model.specs.Algebra.{Place}
 use Rattle.model.specs.Version.{Version, unheld, held}
 use Rattle.model.specs.Store.{Job, Run, noJob, noJobs, emptyPlace, freeRun, fresh, planned, doneReads, siteWith, withMaster, withSites, withCache, withRun}
+use Rattle.model.specs.Allowance.{heldCount, over}
 use Rattle.model.specs.Form.{zeroRows, zeroVersion, leadersFormed, versionFormed, placeFormed, validJob, zeroJob, freeFormed, jobsFormed, masksFormed, snapshotFormed, runFormed, siteFormed, wellFormed}
 use Rattle.model.specs.Marks.{isStale, staleMask}
 use Rattle.model.proofs.Readings.{led, version, place}
@@ -188,7 +190,7 @@ unfolding anyBelow allBelow putAt testBit withBit withIf maskBelow present betwe
     planned doneReads withMaster withSites withCache withRun zeroRows zeroVersion
     leadersFormed versionFormed placeFormed
     validJob zeroJob freeFormed jobsFormed masksFormed snapshotFormed runFormed siteFormed
-    wellFormed isStale staleMask siteWith exceeds standing
+    wellFormed isStale staleMask siteWith exceeds standing when countBelow heldCount over
 clauses = record {
   of-version = record {
     nothing = refl;

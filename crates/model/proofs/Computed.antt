@@ -6,7 +6,7 @@ use mathlib.Core.Bool.{true}
 use mathlib.Core.List.{[], _∷_}
 use lib.ListN.{replicate}
 use Rattle.words.specs.Tests.{anyBelow, allBelow, only}
-use Rattle.words.specs.Numbers.{foldBelow}
+use Rattle.words.specs.Numbers.{when, countBelow, foldBelow}
 use Rattle.words.specs.Lists.{putAt, upto, blocks}
 use Rattle.masks.specs.Mask.{testBit, withBit, withIf, maskBelow}
 use Rattle.reach.specs.Closure.{closure, rounds, round}
@@ -19,12 +19,14 @@ use Rattle.model.specs.Sets.{draws, drawSet, fetchSet, fetched, unfetcha
 use Rattle.model.specs.Store.{fresh, planned, doneReads, siteWith, withMarks, withMaster, withLast, withSites, withCache, withCaches, withWriter, withRun, withState, withSnapshot, withJobDone}
 use Rattle.model.specs.Form.{zeroRows, zeroVersion, leadersFormed, versionFormed, placeFormed, validJob, zeroJob, freeFormed, jobsFormed, masksFormed, snapshotFormed, runFormed, siteFormed, wellFormed}
 use Rattle.model.specs.Marks.{isStale, staleMask}
+use Rattle.model.specs.Allowance.{heldCount, over}
+use Rattle.model.specs.Calls.Allow.{allowCause, allowDone, allowRule}
 use Rattle.model.specs.Calls.Stale.{staleCause, staleReply}
 use Rattle.model.specs.Calls.Admit.{everyPlace, everyVersion, everyPast, causalCuts, overlappingCuts, masterCovers, countsWithin, numberWithin, admissible, admitCause, admitReply}
 use Rattle.model.specs.Outcome.{answer, refuse, unless, replied, allowed, runCause}
 use Rattle.model.specs.Caches.{fetchCause, fetchDone, fetchRule, evictCause, evictDone, evictRule}
 use Rattle.model.specs.Runs.{listedJob, listedCount, listedJobs, listValid, openCause, openedRun, openDone, openRule, dropCause, dropDone, dropRule}
-use Rattle.model.specs.Prepare.{jobStart, fetchReads, preparedCaches, unpreparable, usesSite, sitesMerged, siteCaches, prepareCause, prepareCaches, prepareSnapshot, prepareDone, prepareRule}
+use Rattle.model.specs.Prepare.{jobStart, fetchReads, preparedCaches, unpreparable, usesSite, sitesMerged, siteCaches, anyOver, prepareCause, prepareCaches, prepareSnapshot, prepareDone, prepareRule}
 use Rattle.model.specs.Step.{readStart, stepSite, stepReads, stepStart, stepFetch, stepCache, stepPlan, stepPull, stepSnapshot, stepMoved, jobLimit, notReady, jobCause, stepCause, stepBroken, stepDone, stepRule}
 use Rattle.model.specs.Issue.{raiseCause, issueCause, takenIn, rowsSet, newPast, newVersion, issuedMaster, issuedWriter, savedStore, issuedStore, issuedNumber, issueDone, issueRule}
 use Rattle.model.specs.Calls.Look.{lookPlace, lookLimit, lookCause, rowNumbers, lookStanding, lookNumbers, lookReply}
@@ -38,11 +40,13 @@ use Rattle.model.proofs.Computed.Stale as stales
 use Rattle.model.proofs.Computed.Explain as explained
 use Rattle.model.proofs.Computed.Orders as ordered
 use Rattle.model.proofs.Computed.Admit as admits
+use Rattle.model.proofs.Computed.Allow as allows
 pub mod Look
 pub mod Explain
 pub mod Stale
 pub mod Orders
 pub mod Admit
+pub mod Allow
 
 -- The ten marked readings pass, and each script is answered as it should be, answer by answer.
 pub record Computed : Type 0 where
@@ -125,12 +129,22 @@ pub record Computed : Type 0 where
   pub listed-twice : answers admits.broken-calls (admits.listed 2) ≡ admits.broken-answers
   pub past-kept : answers (admits.past-calls 1) admits.written ≡ admits.past-answers
   pub own-past : answers (admits.past-calls 0) admits.written ≡ admits.own-answers
+  pub hidden : answers allows.hidden-script (fresh (countsOf 2 1 2 2)) ≡ allows.hidden-answers
+  pub counted : answers allows.held-script (fresh (countsOf 3 1 1 2)) ≡ allows.held-answers
+  pub by-office : answers allows.jobs-script (fresh (countsOf 4 2 2 2)) ≡ allows.jobs-answers
+  pub any-office : answers allows.any-script (fresh (countsOf 2 1 2 1)) ≡ allows.any-answers
+  pub lacked-first : answers allows.first-script (fresh (countsOf 2 1 1 1))
+      ≡ allows.first-answers
+  pub any-lacks : answers allows.sites-script (fresh (countsOf 2 1 2 1)) ≡ allows.sites-answers
+  pub kept : answers allows.kept-script (fresh (countsOf 2 1 1 2)) ≡ allows.kept-answers
+  pub bounds : allows.bounded ≡ replicate 4 true
 
 pub computed : Computed
 unfolding needsMet causalCut overlappingCut concurrent doneReads zeroRows zeroVersion
     leadersFormed versionFormed placeFormed zeroJob freeFormed jobsFormed masksFormed
     snapshotFormed runFormed siteFormed
     wellFormed isStale staleMask siteWith withMarks staleCause staleReply
+    when countBelow heldCount over anyOver allowCause allowDone allowRule
     anyBelow allBelow only foldBelow putAt upto blocks testBit withBit withIf maskBelow closure
     rounds round exceeds standing dominates present join between lacking held dependency
     supersedes leadsOn mergedLeaders larger merge draws drawSet fetchSet fetched unfetchable
@@ -207,4 +221,12 @@ computed = record {
   listed-twice = refl;
   past-kept = refl;
   own-past = refl;
+  hidden = refl;
+  counted = refl;
+  by-office = refl;
+  any-office = refl;
+  lacked-first = refl;
+  any-lacks = refl;
+  kept = refl;
+  bounds = refl;
 }

@@ -5,21 +5,22 @@
 use mathlib.Core.Path.{_≡_, refl, sym}
 use mathlib.Core.Bool.{Bool, false, cond, not, So, _&&_}
 use Prim.Native.Nat.{ℕ, _≤_, _<_, _^_}
+use native.Mathlib.Omega.{arith}
 use lib.Dec.{eqb, leb, ltb}
 use Rattle.words.specs.Tests.{allBelow}
-use Rattle.words.specs.Lists.{putAt}
 use Rattle.words.proofs.Bools.{test, and-intro, and-left, and-right, not-intro, not-elim, leb-le, le-leb, ltb-lt, lt-ltb, eqb-eq, eq-eqb}
 use Rattle.words.proofs.Tests.{all-intro, all-at, any-no}
-use Rattle.words.proofs.Lists.{putAt-cases}
 use Rattle.masks.proofs.Sets.{mask-no}
 use Rattle.clock.specs.Clock.{present, join}
 use Rattle.clock.proofs.Order.{present-mono, absent, join-left}
 use Rattle.sizes.specs.declared.Counts.{Counts}
 use Rattle.model.specs.Algebra.{Place}
 use Rattle.model.specs.Version.{Version, unheld, zeroPast, held, larger, merge}
-use Rattle.model.specs.Store.{Writer, Run, Site, Store, emptyPlace, freeRun, fresh, siteWith, withLast, withMarks, withMaster, withSites, withCache, withCaches, withWriter, withRun}
+use Rattle.model.specs.Store.{Run, Site, Store, emptyPlace, freeRun, fresh}
 use Rattle.model.specs.Form.{zeroRows, zeroVersion, leadersFormed, versionFormed, placeFormed, runFormed, siteFormed, wellFormed}
 use Rattle.model.specs.Marks.{isStale, staleMask}
+use Rattle.model.specs.Allowance.{heldCount, over}
+use Rattle.model.proofs.Allowances.{over-no, no-over, held-empty}
 use Rattle.model.proofs.Merges.{larger-held, leaders-lt, leaders-some, merge-cases}
 
 -- ---- versions
@@ -125,14 +126,45 @@ formed-choice z b p q F G k h = test (b k) (λ t. rw t (F k h)) (λ t. rw t (G k
 abbrev pub Marked : Store → Site → Type 0
 Marked s x = x .stale ≡ staleMask (s .counts) (s .master) (x .cache)
 
+-- An allowance of at most K, and a cache within it.
+abbrev pub Roomy : Counts → Site → Type 0
+Roomy z x = (x .allowance ≤ z .keys) × (heldCount (z .keys) (x .cache) ≤ x .allowance)
+
 pub record Formed (s : Store) : Type 0 where
   pub master : PlaceFormed (s .counts) (s .master)
   pub cache : (o : ℕ) → o < s .counts .sites → PlaceFormed (s .counts) (s .site o .cache)
   pub mark : (o : ℕ) → o < s .counts .sites → Marked s (s .site o)
+  pub room : (o : ℕ) → o < s .counts .sites → Roomy (s .counts) (s .site o)
   pub run : (r : ℕ) → r < s .counts .runs → So (runFormed (s .counts) (s .run r))
 
+-- What is asked of a site, and what it says.
+site-out : (s : Store) (x : Site) → So (siteFormed (s .counts) (s .master) x)
+    → PlaceFormed (s .counts) (x .cache) × Marked s x × Roomy (s .counts) x
+unfolding siteFormed
+site-out s x p =
+    let z = s .counts in
+    let a = placeFormed z (x .cache) in
+    let b = eqb (x .stale) (staleMask z (s .master) (x .cache)) in
+    let c = leb (x .allowance) (z .keys) in
+    let d = not (over z x (x .cache)) in
+    let q = and-right a (b && (c && d)) p in
+    let r = and-right b (c && d) q in (
+      place-out z (x .cache) (and-left a (b && (c && d)) p),
+      eqb-eq _ _ (and-left b (c && d) q),
+      (leb-le _ _ (and-left c d r), over-no z x (x .cache) (not-elim (and-right c d r))),
+    )
+
+site-in : (s : Store) (x : Site) → PlaceFormed (s .counts) (x .cache) → Marked s x
+    → Roomy (s .counts) x → So (siteFormed (s .counts) (s .master) x)
+unfolding siteFormed
+site-in s x F m r =
+    let z = s .counts in
+    and-intro (place-in z (x .cache) F)
+    (and-intro (eq-eqb _ _ m)
+    (and-intro (le-leb _ _ (r .0)) (not-intro (no-over z x (x .cache) (r .1)))))
+
 pub well-out : (s : Store) → So (wellFormed s) → Formed s
-unfolding wellFormed siteFormed
+unfolding wellFormed
 well-out s p =
     let z = s .counts in
     let m = placeFormed z (s .master) in
@@ -140,26 +172,22 @@ well-out s p =
     let r = allBelow (z .runs) (λ r. runFormed z (s .run r)) in
     let q = and-right m (o && r) p in
     let site = all-at (z .sites) (λ o. siteFormed z (s .master) (s .site o)) (and-left o r q) in
-    let mask : ℕ → ℕ = λ i. staleMask z (s .master) (s .site i .cache) in
     record {
       master = place-out z (s .master) (and-left m (o && r) p);
-      cache = λ i h. place-out z (s .site i .cache)
-          (and-left (placeFormed z (s .site i .cache)) (eqb (s .site i .stale) (mask i))
-          (site i h));
-      mark = λ i h. eqb-eq _ _
-          (and-right (placeFormed z (s .site i .cache)) (eqb (s .site i .stale) (mask i))
-          (site i h));
+      cache = λ i h. site-out s (s .site i) (site i h) .0;
+      mark = λ i h. site-out s (s .site i) (site i h) .1;
+      room = λ i h. site-out s (s .site i) (site i h) .2;
       run = all-at (z .runs) (λ r. runFormed z (s .run r)) (and-right o r q);
     }
 
 pub well-in : (s : Store) → Formed s → So (wellFormed s)
-unfolding wellFormed siteFormed
+unfolding wellFormed
 well-in s F =
     let z = s .counts in
     and-intro (place-in z (s .master) (F .master))
     (and-intro
     (all-intro (z .sites) (λ o. siteFormed z (s .master) (s .site o))
-    (λ o h. and-intro (place-in z (s .site o .cache) (F .cache o h)) (eq-eqb _ _ (F .mark o h))))
+    (λ o h. site-in s (s .site o) (F .cache o h) (F .mark o h) (F .room o h)))
     (all-intro (z .runs) (λ r. runFormed z (s .run r)) (F .run)))
 
 -- A fresh store, if a free run is in form.
@@ -169,64 +197,7 @@ fresh-formed z free = record {
   master = formed-empty z;
   cache = λ o h. formed-empty z;
   mark = λ o h. sym (mask-no (z .keys) _ (λ k l. refl));
+  room = λ o h. rw (lt-ltb o (z .sites) h)
+      (omega arith, omega (arith, held-empty (z .keys)));
   run = λ r h. free;
 }
-
-module _ (s : Store) (F : Formed s) where
-  pub formed-last : (n : ℕ) → Formed (withLast s n)
-  unfolding withLast
-  formed-last n =
-      record { master = F .master; cache = F .cache; mark = F .mark; run = F .run }
-
-  -- Another master: the marks follow it.
-  pub formed-master : (p : Place Version) → PlaceFormed (s .counts) p
-      → Formed (withMarks (withMaster s p))
-  unfolding withMaster withMarks withCaches withSites siteWith
-  formed-master p G =
-      record { master = G; cache = F .cache; mark = λ o h. refl; run = F .run }
-
-  pub formed-sites : (f : ℕ → Site)
-      → ((o : ℕ) → o < s .counts .sites → PlaceFormed (s .counts) (f o .cache) × Marked s (f o))
-      → Formed (withSites s f)
-  unfolding withSites
-  formed-sites f G = record {
-    master = F .master;
-    cache = λ o h. G o h .0;
-    mark = λ o h. G o h .1;
-    run = F .run;
-  }
-
-  pub formed-cache : (o : ℕ) (p : Place Version) → PlaceFormed (s .counts) p
-      → Formed (withCache s o p)
-  unfolding withCache siteWith
-  formed-cache o p G =
-      let z = s .counts in
-      let x = siteWith s (s .site o) p in
-      formed-sites (putAt (s .site) o x) (λ i h.
-      putAt-cases (λ (x : Site). PlaceFormed z (x .cache) × Marked s x) (s .site) o x i
-      (λ _. (G, refl)) (λ _. (F .cache i h, F .mark i h)))
-
-  pub formed-caches : (p : ℕ → Place Version)
-      → ((o : ℕ) → o < s .counts .sites → PlaceFormed (s .counts) (p o))
-      → Formed (withCaches s p)
-  unfolding withCaches siteWith
-  formed-caches p G =
-      formed-sites (λ o. siteWith s (s .site o) (p o)) (λ o h. (G o h, refl))
-
-  pub formed-writer : (w : ℕ) (x : Writer) → Formed (withWriter s w x)
-  unfolding withWriter
-  formed-writer w x =
-      record { master = F .master; cache = F .cache; mark = F .mark; run = F .run }
-
-  pub formed-run : (r : ℕ) (x : Run) → So (runFormed (s .counts) x) → Formed (withRun s r x)
-  unfolding withRun
-  formed-run r x G =
-      let z = s .counts in
-      record {
-        master = F .master;
-        cache = F .cache;
-        mark = F .mark;
-        run = λ i h.
-            putAt-cases (λ (x : Run). So (runFormed z x)) (s .run) r x i (λ _. G)
-            (λ _. F .run i h);
-      }

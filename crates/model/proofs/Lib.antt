@@ -8,12 +8,14 @@ pub mod Merges
 pub mod Needs
 pub mod Cuts
 pub mod Draws
+pub mod Allowances
 pub mod Twice
 pub mod AtOnce
 pub mod Pulls
 pub mod Steps
 pub mod DoneReads
 pub mod Formed
+pub mod FormedNext
 pub mod Plans
 pub mod Marked
 pub mod Admits

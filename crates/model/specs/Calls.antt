@@ -6,6 +6,7 @@ pub mod Look
 pub mod Explain
 pub mod Stale
 pub mod Admit
+pub mod Allow
 use mathlib.Core.List.{List}
 use Prim.Native.Nat.{ℕ}
 use Rattle.model.specs.Store.{Store}
@@ -19,6 +20,7 @@ use Rattle.model.specs.Calls.Look.{lookReply}
 use Rattle.model.specs.Calls.Explain.{explainReply}
 use Rattle.model.specs.Calls.Stale.{staleReply}
 use Rattle.model.specs.Calls.Admit.{admitReply}
+use Rattle.model.specs.Calls.Allow.{allowRule}
 
 -- A call that only answers.
 pub data Query : Type 0 where
@@ -42,6 +44,7 @@ pub data StoreCall : Type 0 where
   step : ℕ → ℕ → StoreCall  -- run, job
   issue : ℕ → ℕ → ℕ → StoreCall  -- run, writer, mask S
   dropRun : ℕ → StoreCall  -- run
+  allow : ℕ → ℕ → StoreCall  -- office, number
   ask : Query → StoreCall
 
 unfoldable pub ruleOf : StoreCall → Store → Outcome
@@ -52,4 +55,5 @@ ruleOf (prepare r) = prepareRule r
 ruleOf (step r j) = stepRule r j
 ruleOf (issue r w S) = issueRule r w S
 ruleOf (dropRun r) = dropRule r
+ruleOf (allow o n) = allowRule o n
 ruleOf (ask q) = λ s. replied (replyOf q s)

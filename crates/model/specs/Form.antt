@@ -14,6 +14,7 @@ use Rattle.model.specs.Algebra.{Place, implies}
 use Rattle.model.specs.Version.{Version, held}
 use Rattle.model.specs.Marks.{staleMask}
 use Rattle.model.specs.Store.{Job, Run, Site, Store, planned, doneReads}
+use Rattle.model.specs.Allowance.{over}
 
 -- Only zero counts.
 unfoldable pub zeroRows : Counts → Version → Bool
@@ -80,10 +81,13 @@ runFormed z r =
     cond (eqb (r .state) 0) (freeFormed z r)
     (leb (r .state) 2 && (jobsFormed z r && (masksFormed z r && snapshotFormed z r)))
 
--- CR 4: "Form asks it": the mark is true.
+-- CR 4: "Form asks it": the mark is true. CR 7: "one above K .. a stored one isn't in form", "No
+-- shelf ever holds more (form asks it)".
 unfoldable pub siteFormed : Counts → Place Version → Site → Bool
 siteFormed z master x =
-    placeFormed z (x .cache) && eqb (x .stale) (staleMask z master (x .cache))
+    placeFormed z (x .cache)
+    && (eqb (x .stale) (staleMask z master (x .cache))
+    && (leb (x .allowance) (z .keys) && not (over z x (x .cache))))
 
 unfoldable pub wellFormed : Store → Bool
 wellFormed s =

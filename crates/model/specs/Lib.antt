@@ -3,6 +3,7 @@ pub mod Version
 pub mod Sets
 pub mod Marks
 pub mod Store
+pub mod Allowance
 pub mod Form
 pub mod Outcome
 pub mod Caches

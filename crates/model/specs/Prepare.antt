@@ -13,6 +13,7 @@ use Rattle.model.specs.Algebra.{Algebra, Place, lacking}
 use Rattle.model.specs.Version.{Version, held, versions}
 use Rattle.model.specs.Sets.{fetched, unfetchable}
 use Rattle.model.specs.Store.{Job, Store, planned, withCaches, withRun, withSnapshot}
+use Rattle.model.specs.Allowance.{over}
 use Rattle.model.specs.Outcome.{Outcome, done, refuse, unless, prepareRow, runCause}
 
 module _ {A : Type 0} (alg : Algebra A) (K : ℕ) (master : Place A) (job : ℕ → Job) where
@@ -47,6 +48,17 @@ sitesMerged alg N sites plan cache k =
 unfoldable pub siteCaches : Store → ℕ → Place Version
 siteCaches s o = s .site o .cache
 
+-- The caches after the fetches of run r's jobs.
+unfoldable pub prepareCaches : Store → ℕ → ℕ → Place Version
+prepareCaches s r =
+    let z = s .counts in
+    let a = s .run r in
+    preparedCaches (versions (z .writers)) (z .keys) (s .master) (a .job) (a .jobs) (siteCaches s)
+
+-- CR 7: caches that "would leave any shelf above its allowance".
+unfoldable pub anyOver : Store → (ℕ → Place Version) → Bool
+anyOver s cache = anyBelow (s .counts .sites) (λ o. over (s .counts) (s .site o) (cache o))
+
 unfoldable pub prepareCause : Store → ℕ → ℕ
 prepareCause s r =
     let z = s .counts in
@@ -55,14 +67,8 @@ prepareCause s r =
     runCause s prepareRow r
     (refuse (not (eqb (a .done) 0)) 6
     (refuse (unpreparable alg (z .keys) (s .master) (a .job) (a .jobs) (siteCaches s)) 7
-    0))
-
--- The caches after the fetches of run r's jobs.
-unfoldable pub prepareCaches : Store → ℕ → ℕ → Place Version
-prepareCaches s r =
-    let z = s .counts in
-    let a = s .run r in
-    preparedCaches (versions (z .writers)) (z .keys) (s .master) (a .job) (a .jobs) (siteCaches s)
+    (refuse (anyOver s (prepareCaches s r)) 12
+    0)))
 
 unfoldable pub prepareSnapshot : Store → ℕ → Place Version
 prepareSnapshot s r =

@@ -15,6 +15,7 @@ use Rattle.model.specs.Algebra.{Algebra, Place, lacking}
 use Rattle.model.specs.Version.{Version, versions}
 use Rattle.model.specs.Sets.{fetchSet, fetched, unfetchable, pullSet, pulled}
 use Rattle.model.specs.Store.{Branch, Run, Store, planned, withCache, withRun, withState, withJobDone}
+use Rattle.model.specs.Allowance.{over}
 use Rattle.model.specs.Outcome.{Outcome, broken, done, refuse, unless, allowed, stepRow, freeState, brokenState}
 
 -- "reads R that the card lacks and the shelf lacks are fetched together"
@@ -85,13 +86,15 @@ module _ (s : Store) (r j : ℕ) where
   unfoldable pub stepMoved : Items
   stepMoved k = stepPull k && testBit (stepBranch .read) k
 
+  -- CR 7: "Over the allowance is 12, .. before a break", of the cache as the fetch would leave it.
   unfoldable pub stepCause : ℕ
   stepCause =
       let alg = versions (s .counts .writers) in
       refuse (leb (s .counts .runs) r) 3
       (jobCause (s .run r) j
       (refuse (unfetchable alg (s .counts .keys) (s .master) stepStart) 7
-      0))
+      (refuse (over (s .counts) (s .site stepSite) stepCache) 12
+      0)))
 
   -- "its state becomes 2, nothing else changes (the shelf too is as before the fetch)"
   unfoldable pub stepBroken : Outcome

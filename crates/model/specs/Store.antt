@@ -1,9 +1,11 @@
 -- The store ("desk"): what a buffer of words stands for.
--- Writer, Job, Branch (read mask and card), Run, Site (an office: its shelf and stale mark), Tail
--- (behind the runs), Store; planned ("plan's sheets"), doneReads; with..: one part changed.
+-- Writer, Job, Branch (read mask and card), Run, Site (an office: its shelf, stale mark and
+-- allowance), Tail (behind the runs), Store; planned ("plan's sheets"), doneReads; with..: one
+-- part changed.
 -- Assumes nothing.
-use mathlib.Core.Bool.{_&&_}
+use mathlib.Core.Bool.{cond, _&&_}
 use Prim.Native.Nat.{ℕ}
+use lib.Dec.{ltb}
 use Rattle.words.specs.Tests.{Items, anyBelow}
 use Rattle.words.specs.Lists.{putAt}
 use Rattle.masks.specs.Mask.{testBit}
@@ -37,10 +39,12 @@ pub record Run : Type 0 where
   pub job : ℕ → Job
   pub branch : Branch
 
--- An office: its shelf, and the mask of the sheets on it that are behind (CR 4).
+-- An office: its shelf, the mask of the sheets on it that are behind (CR 4), and how many it may
+-- hold (CR 7).
 pub record Site : Type 0 where
   pub cache : Place Version
   pub stale : ℕ
+  pub allowance : ℕ
 
 -- What stands behind the runs: nothing.
 pub record Tail : Type 0 where
@@ -70,7 +74,7 @@ abbrev pub noJobs : ℕ → Job
 noJobs j = noJob
 
 abbrev pub noSite : Site
-noSite = record { cache = emptyPlace; stale = 0 }
+noSite = record { cache = emptyPlace; stale = 0; allowance = 0 }
 
 abbrev pub noBranch : Branch
 noBranch = record { read = 0; snapshot = emptyPlace }
@@ -81,9 +85,20 @@ freeRun = record { state = 0; jobs = 0; done = 0; job = noJobs; branch = noBranc
 abbrev pub noTail : Tail
 noTail = record {}
 
--- A site of a fresh store: a word that isn't zero there would be put here.
+-- A site with another cache, one with another mark, and one with another allowance: its other
+-- words stay.
+abbrev pub siteCached : Site → Place Version → Site
+siteCached x p = record { cache = p; stale = x .stale; allowance = x .allowance }
+
+abbrev pub siteMarked : Site → ℕ → Site
+siteMarked x m = record { cache = x .cache; stale = m; allowance = x .allowance }
+
+abbrev pub siteAllowed : Site → ℕ → Site
+siteAllowed x n = record { cache = x .cache; stale = x .stale; allowance = n }
+
+-- A site of a fresh store. CR 7: "K on a new desk".
 abbrev pub freshSite : Counts → ℕ → Site
-freshSite z o = noSite
+freshSite z o = siteAllowed noSite (cond (ltb o (z .sites)) (z .keys) 0)
 
 -- "a fresh desk: nothing held, every run free, all counts zero"
 unfoldable pub fresh : Counts → Store
@@ -144,13 +159,6 @@ withSites s f = record {
 
 abbrev pub withSite : Store → ℕ → Site → Store
 withSite s o x = withSites s (putAt (s .site) o x)
-
--- A site with another cache, and one with another mark: its other words stay.
-abbrev pub siteCached : Site → Place Version → Site
-siteCached x p = record { cache = p; stale = x .stale }
-
-abbrev pub siteMarked : Site → ℕ → Site
-siteMarked x m = record { cache = x .cache; stale = m }
 
 -- The site x of a store with another cache: its mark is true.
 unfoldable pub siteWith : Store → Site → Place Version → Site

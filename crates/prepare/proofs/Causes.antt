@@ -3,7 +3,7 @@
 -- the run isn't free.
 -- Assumes nothing.
 use mathlib.Core.Path.{_≡_, refl, sym, ap, _∙_}
-use mathlib.Core.Bool.{Bool, true, false, cond, not}
+use mathlib.Core.Bool.{Bool, true, false, cond, not, So}
 use mathlib.Core.Logic.{_≢_}
 use mathlib.Core.List.{List}
 use Prim.Native.Nat.{ℕ}
@@ -14,7 +14,7 @@ use Rattle.sizes.specs.declared.Counts.{Counts}
 use Rattle.model.specs.Version.{versions}
 use Rattle.model.specs.Store.{Store}
 use Rattle.model.specs.Outcome.{refuse, allowed, prepareRow, runCause}
-use Rattle.model.specs.Prepare.{unpreparable, siteCaches, prepareCause}
+use Rattle.model.specs.Prepare.{unpreparable, siteCaches, anyOver, prepareCaches, prepareCause}
 use Rattle.model.proofs.Outcomes.{no-cause, no-lack, allowed-used, run-rest}
 use Rattle.layout.specs.Reading.{storeOf}
 use Rattle.form.specs.Parts.{FormWith}
@@ -62,25 +62,35 @@ prepare-cause : (s : Store) (r : ℕ) → let z = s .counts in
     let a = s .run r in
     prepareCause s r
     ≡ earlyCause s r (refuse (unpreparable (versions (z .writers)) (z .keys) (s .master) (a .job)
-    (a .jobs) (siteCaches s)) 7 0)
+    (a .jobs) (siteCaches s)) 7 (refuse (anyOver s (prepareCaches s r)) 12 0))
 unfolding prepareCause earlyCause
 prepare-cause s r = refl
 
 pub cause-early : (s : Store) (r n : ℕ) → n ≡ earlyCause s r 0 → n ≢ 0 → n ≡ prepareCause s r
 cause-early s r n e h = rw (prepare-cause s r, early-rest s r _, ← e, ne-eqb n 0 h)
 
--- b: what it finds of the keys to be fetched.
-pub cause-lacks : (l : List ℕ) (z : Counts) (r : ℕ) (b : Bool) → FormWith l z
-    → let s = storeOf l in
-    earlyCause s r 0 ≡ 0
-    → b ≡ unpreparable (versions (z .writers)) (z .keys) (s .master) (s .run r .job)
-    (s .run r .jobs) (siteCaches s)
-    → refuse b 7 0 ≡ prepareCause s r
-cause-lacks l z r b H e f =
-    let s = storeOf l in
-    let g = f ∙ ap (λ (y : Counts). unpreparable (versions (y .writers)) (y .keys) (s .master)
-    (s .run r .job) (s .run r .jobs) (siteCaches s)) (sym (form-counts l z H)) in
-    rw (prepare-cause s r, early-rest s r _, e, ← g)
+-- b, c: what it finds of the keys to be fetched, and of the sites that take them.
+module _ (l : List ℕ) (z : Counts) (r : ℕ) (b : Bool) (H : FormWith l z)
+    (e : earlyCause (storeOf l) r 0 ≡ 0)
+    (f : b ≡ unpreparable (versions (z .writers)) (z .keys) (storeOf l .master)
+    (storeOf l .run r .job) (storeOf l .run r .jobs) (siteCaches (storeOf l))) where
+  rest : prepareCause (storeOf l) r
+      ≡ refuse b 7 (refuse (anyOver (storeOf l) (prepareCaches (storeOf l) r)) 12 0)
+  rest =
+      let s = storeOf l in
+      let g = f ∙ ap (λ (y : Counts). unpreparable (versions (y .writers)) (y .keys) (s .master)
+      (s .run r .job) (s .run r .jobs) (siteCaches s)) (sym (form-counts l z H)) in
+      rw (prepare-cause s r, early-rest s r _, e, ← g)
+
+  pub cause-lacks : So b → 7 ≡ prepareCause (storeOf l) r
+  unfolding refuse
+  cause-lacks y = rw (rest, y)
+
+  pub cause-over : b ≡ false → (c : Bool)
+      → c ≡ anyOver (storeOf l) (prepareCaches (storeOf l) r)
+      → refuse c 12 0 ≡ prepareCause (storeOf l) r
+  unfolding refuse
+  cause-over n c g = rw (rest, n, ← g)
 
 pub used-run : (l : List ℕ) (z : Counts) (r : ℕ) → FormWith l z
     → runCause (storeOf l) prepareRow r 0 ≡ 0 → UsedRun l z r

@@ -2,9 +2,10 @@
 -- reads-..: what the jobs at a site read. start-..: what its cache lacks of that.
 -- prepared-cache: the cache after the fetches of a prepare.
 -- sets-..: a mask for each site, as the code has it. sets-lacked: whether the master lacks a key.
+-- sets-over: whether a site would hold too much.
 -- Assumes nothing.
 use mathlib.Core.Path.{_≡_, refl, sym, ap, _∙_, fun-ext}
-use mathlib.Core.Bool.{not, _&&_}
+use mathlib.Core.Bool.{false, not, _&&_}
 use mathlib.Core.Logic.{⊎-elim}
 use mathlib.Core.List.{List}
 use Prim.Native.Nat.{ℕ, _+_, _<_, _^_}
@@ -18,7 +19,7 @@ use Rattle.words.specs.Numbers.{when}
 use Rattle.words.specs.Words.{put}
 use Rattle.words.proofs.Bools.{ne-eqb}
 use Rattle.words.proofs.Numbers.{when-le}
-use Rattle.words.proofs.Tests.{below-or-not, any-no, any-same}
+use Rattle.words.proofs.Tests.{below-or-not, any-none, any-no, any-same}
 use Rattle.words.proofs.Words.{length-put, put-in}
 use Rattle.masks.specs.Mask.{testBit, unionBelow, maskBelow}
 use Rattle.masks.proofs.Bits.{test-high, test-when}
@@ -29,13 +30,15 @@ use Rattle.model.specs.Algebra.{Algebra, Place, lacking}
 use Rattle.model.specs.Version.{Version, versions}
 use Rattle.model.specs.Sets.{fetched, unfetchable}
 use Rattle.model.specs.Store.{Store}
-use Rattle.model.specs.Prepare.{unpreparable, siteCaches, prepareCaches}
+use Rattle.model.specs.Prepare.{unpreparable, siteCaches, anyOver, prepareCaches}
+use Rattle.model.specs.Allowance.{over}
 use Rattle.model.proofs.Draws.{fetched-none}
 use Rattle.model.proofs.AtOnce.{siteReads, prepared-at-once, unpreparable-sites}
 use Rattle.layout.specs.Reading.{readPlace, storeOf}
 use Rattle.layout.proofs.Readings.{cache-in}
-use Rattle.form.proofs.Known.{form-area}
-use Rattle.fetching.proofs.Taking.{taken-lacked}
+use Rattle.form.proofs.Known.{form-area, form-counts}
+use Rattle.fetching.specs.Takes.{takesOver}
+use Rattle.fetching.proofs.Taking.{taken-lacked, taken-count}
 use Rattle.trial.specs.Jobs.{UsedRun}
 use Rattle.trial.proofs.Known.{job-known}
 use Rattle.prepare.specs.Turns.{noSets, readsAt, takenAt, setOf, SetsOf}
@@ -164,6 +167,34 @@ module _ (l : List ℕ) (z : Counts) (r : ℕ) (U : UsedRun l z r) where
           low = λ o h. rw (set-at o h)
               (mask-lt (z .keys) (takenAt z s r o) (z .keys) (omega arith));
         }
+
+    -- Where the master lacks none, a site would hold too much with its mask exactly if it would
+    -- after all fetches.
+    pub sets-over :
+        unpreparable (versions (z .writers)) (z .keys) (s .master) (s .run r .job) (s .run r .jobs)
+        (siteCaches s) ≡ false
+        → anyBelow (z .sites) (λ o. takesOver z (s .site o) (setOf t o))
+        ≡ anyOver s (prepareCaches s r)
+    unfolding takesOver over anyOver takenAt siteCaches
+    sets-over u =
+        let alg = versions (z .writers) in
+        let a = s .run r in
+        let same = form-counts l z (U .form) in
+        let by-site = unpreparable-sites alg (z .keys) (s .master) (a .job) (siteCaches s)
+        (z .sites) (a .jobs) (λ j i. job-known l z r U j i .site) in
+        let none = any-none (z .sites) _ (sym by-site ∙ u) in
+        any-same (z .sites) (λ o. takesOver z (s .site o) (setOf t o))
+        (λ o. over z (s .site o) (prepareCaches s r o))
+        (λ o h.
+        let fetchable : unfetchable alg (z .keys) (s .master) (start o) ≡ false =
+        rw (reads-bits s r o) (none o h) in
+        rw (
+          prepared-cache s z r o same,
+          taken-count z (s .master) (s .site o .cache) (start o) (setOf t o) (set-at o h)
+              fetchable,
+        ))
+        ∙ ap (λ (y : Counts). anyBelow (y .sites) (λ o. over y (s .site o) (prepareCaches s r o)))
+        (sym same)
 
     -- The master lacks a key for a job exactly if it lacks one of these.
     pub sets-lacked :

@@ -2,24 +2,29 @@
 -- sites-start: none of them. sites-form: the buffer is in form there. sites-turn: one more.
 -- prepared, sets-taken: all of them, as the rule has it. prepared-..: the buffer after that.
 -- Assumes nothing.
-use mathlib.Core.Path.{_≡_, refl, sym, ap, _∙_, fun-ext}
-use mathlib.Core.Bool.{Bool, cond, false}
+use mathlib.Core.Path.{_≡_, refl, sym, ap, subst, _∙_, fun-ext}
+use mathlib.Core.Bool.{Bool, cond, false, _||_}
 use mathlib.Core.Logic.{⊎-elim}
 use mathlib.Core.List.{List}
-use Prim.Native.Nat.{ℕ, _+_, _≤_}
+use Prim.Native.Nat.{ℕ, _+_, _≤_, _<_}
 use native.Mathlib.Omega.{arith}
 use lib.Dec.{eqb, ltb}
+use Rattle.words.specs.Tests.{Items}
+use Rattle.words.specs.Numbers.{countBelow}
 use Rattle.words.specs.Lists.{putAt}
 use Rattle.words.specs.Words.{put}
-use Rattle.words.proofs.Bools.{test, eqb-eq, eqb-ne, lt-ltb, ge-ltb}
+use Rattle.words.proofs.Bools.{test, or-left, or-right, eqb-eq, eqb-ne, lt-ltb, ltb-ge, ge-ltb}
+use Rattle.words.proofs.Numbers.{count-le}
 use Rattle.words.proofs.Tests.{below-or-not}
 use Rattle.masks.specs.Mask.{testBit, maskBelow}
 use Rattle.sizes.specs.declared.Counts.{Counts}
 use Rattle.model.specs.Algebra.{Place}
-use Rattle.model.specs.Version.{Version}
+use Rattle.model.specs.Version.{Version, held}
 use Rattle.model.specs.Store.{Site, Store, siteWith, withSites, withCache, withCaches}
+use Rattle.model.specs.Allowance.{heldCount}
 use Rattle.model.specs.Prepare.{prepareCaches}
-use Rattle.model.proofs.Formed.{well-out, formed-choice, formed-caches}
+use Rattle.model.proofs.Formed.{well-out, formed-choice}
+use Rattle.model.proofs.FormedNext.{formed-caches}
 use Rattle.layout.specs.Reading.{storeOf}
 use Rattle.layout.specs.Buffer.{written}
 use Rattle.layout.proofs.Whole.{FitStore, counts-back, store-back}
@@ -30,10 +35,11 @@ use Rattle.layout.proofs.Kept.{fine-next}
 use Rattle.version.specs.Places.{choice}
 use Rattle.form.specs.Parts.{FormWith}
 use Rattle.form.proofs.Known.{form-counts, form-again}
+use Rattle.fetching.specs.Takes.{takesOver}
 use Rattle.fetching.proofs.Taking.{taken-cache, site-again}
 use Rattle.trial.specs.Jobs.{UsedRun}
 use Rattle.trial.proofs.Known.{job-known}
-use Rattle.prepare.specs.Turns.{noSets, takenAt, setOf, takenSites}
+use Rattle.prepare.specs.Turns.{noSets, takenAt, setOf, Fitting, takenSites}
 use Rattle.prepare.proofs.Fetching.{set-at, prepared-cache, prepared-beyond}
 
 -- ---- by the store
@@ -69,10 +75,26 @@ one-more s f n =
         ⊎-elim (λ h. rw (lt-ltb o n h, lt-ltb o (n + 1) (omega arith)))
         (λ h. rw (ge-ltb o n h, ge-ltb o (n + 1) (omega (arith, ne)))) (below-or-not o n)
 
+-- With the keys of a mask no more is held than by both.
+taken-less : (z : Counts) (x : Site) (master : Place Version) (m : ℕ) → takesOver z x m ≡ false
+    → heldCount (z .keys) (choice (testBit m) master (x .cache)) ≤ x .allowance
+unfolding takesOver heldCount
+taken-less z x master m e =
+    let both : Items = λ k. testBit m k || held (x .cache k) in
+    omega (
+      arith,
+      ltb-ge (x .allowance) (countBelow (z .keys) both) e,
+      count-le (z .keys)
+          (λ k. held (choice (testBit m) master (x .cache) k)) both
+          (λ k _ h. test (testBit m k) (or-left (held (x .cache k)))
+          (λ n. or-right (testBit m k) (rw n at h))),
+    )
+
 sites-fine : (s : Store) (f : ℕ → ℕ) (n : ℕ) → n ≤ s .counts .sites → Fine s
+    → ((o : ℕ) → o < s .counts .sites → takesOver (s .counts) (s .site o) (f o) ≡ false)
     → Fine (takenSites s f n)
 unfolding takenSites withCaches withSites
-sites-fine s f n h F =
+sites-fine s f n h F room =
     let z = s .counts in
     let G = well-out s (F .formed) in
     let taken : ℕ → Place Version = λ o.
@@ -87,14 +109,17 @@ sites-fine s f n h F =
     }) in
     let formed = formed-caches s G (after s f n) (λ o i.
     test (ltb o n)
-    (λ y. rw y (formed-choice z (testBit (f o)) (s .master) (s .site o .cache) (G .master)
-    (G .cache o i)))
-    (λ y. rw y (G .cache o i))) in
+    (λ y. rw y (
+      formed-choice z (testBit (f o)) (s .master) (s .site o .cache) (G .master) (G .cache o i),
+      taken-less z (s .site o) (s .master) (f o) (room o i),
+    ))
+    (λ y. rw y (G .cache o i, G .room o i .1))) in
     fine-next s (takenSites s f n) F fits formed refl
 
 -- ---- l: the buffer before, and m: after the first n sites
 
-module _ (l : List ℕ) (z : Counts) (H : FormWith l z) (f : ℕ → ℕ) where
+module _ (l : List ℕ) (z : Counts) (H : FormWith l z) (f : ℕ → ℕ)
+    (room : (o : ℕ) → o < z .sites → takesOver z (storeOf l .site o) (f o) ≡ false) where
   pub sites-start : l ≡ written (takenSites (storeOf l) f 0) l
   sites-start =
       rw (no-sites (storeOf l) f (form-fine l (H .form))) (sym (form-again l z H))
@@ -104,6 +129,8 @@ module _ (l : List ℕ) (z : Counts) (H : FormWith l z) (f : ℕ → ℕ) where
     fine : Fine (takenSites (storeOf l) f n)
     fine =
         sites-fine (storeOf l) f n (rw (form-counts l z H) h) (form-fine l (H .form))
+        (λ o i. subst (λ (y : Counts). takesOver y (storeOf l .site o) (f o) ≡ false)
+        (sym (form-counts l z H)) (room o (rw (← form-counts l z H) i)))
 
     pub sites-store : storeOf m ≡ takenSites (storeOf l) f n
     sites-store = rw e (store-back (takenSites (storeOf l) f n) l (fine .fits))
@@ -149,19 +176,21 @@ module _ (l : List ℕ) (z : Counts) (r : ℕ) (U : UsedRun l z r) (t : List ℕ
       (sym (prepared-beyond s r o (λ j i. omega (arith, job-known l z r U j i .site)))))
       (below-or-not o (z .sites))))
 
-  module _ (m : List ℕ) (f : m ≡ written (takenSites (storeOf l) (setOf t) (z .sites)) l) where
+  module _ (m : List ℕ) (f : m ≡ written (takenSites (storeOf l) (setOf t) (z .sites)) l)
+      (R : Fitting l z t) where
     pub prepared-left : m ≡ written (prepared (storeOf l) r) l
     prepared-left = f ∙ ap (λ (x : Store). written x l) sets-taken
 
     pub prepared-fits : FitStore (prepared (storeOf l) r)
     prepared-fits =
-        rw (← sets-taken) (fine l z (U .form) (setOf t) (z .sites) (omega arith) m f .fits)
+        rw (← sets-taken)
+        (fine l z (U .form) (setOf t) (R .fits) (z .sites) (omega arith) m f .fits)
 
     pub prepared-used : UsedRun m z r
     unfolding takenSites withCaches withSites
     prepared-used =
         let n = z .sites in record {
-          form = sites-form l z (U .form) (setOf t) n (omega arith) m f;
+          form = sites-form l z (U .form) (setOf t) (R .fits) n (omega arith) m f;
           run = U .run;
-          used = rw (sites-store l z (U .form) (setOf t) n (omega arith) m f) (U .used);
+          used = rw (sites-store l z (U .form) (setOf t) (R .fits) n (omega arith) m f) (U .used);
         }

@@ -1,11 +1,12 @@
 -- What the parts of prepare leave of a store, and what they ask of a buffer.
 -- earlyCause: the causes that the run decides. readsAt: what the jobs at a site read. takenAt: T
--- of a site. noSets, setOf, SetsOf: a mask for each site. takenSites: the fetches of the first n.
+-- of a site. noSets, setOf, SetsOf, Fitting: a mask for each site. takenSites: the fetches of the
+-- first n.
 -- mergedSites, merged: the merge of the first n sites, of all. siteMerged: of one, in words.
 -- MergeArea: a snapshot that the caches are merged into.
 -- Assumes nothing.
 use mathlib.Core.Path.{_≡_}
-use mathlib.Core.Bool.{cond, not, _&&_}
+use mathlib.Core.Bool.{false, cond, not, _&&_}
 use mathlib.Core.List.{List}
 use Prim.Native.Nat.{ℕ, _+_, _^_, _≤_, _<_}
 use lib.Dec.{eqb, ltb}
@@ -21,9 +22,10 @@ use Rattle.model.specs.Sets.{fetchSet}
 use Rattle.model.specs.Store.{Store, emptyPlace, planned, withCaches, withRun, withSnapshot}
 use Rattle.model.specs.Outcome.{refuse, prepareRow, runCause}
 use Rattle.model.specs.Prepare.{usesSite, sitesMerged, siteCaches}
-use Rattle.layout.specs.Reading.{readPlace}
+use Rattle.layout.specs.Reading.{readPlace, storeOf}
 use Rattle.layout.specs.Stored.{putPlace}
 use Rattle.version.specs.Places.{choice, Area}
+use Rattle.fetching.specs.Takes.{takesOver}
 
 -- ---- the causes
 
@@ -57,6 +59,11 @@ setOf t o = getD t o 0
 pub record SetsOf (z : Counts) (t : List ℕ) : Type 0 where
   pub long : z .sites ≤ length t
   pub low : (o : ℕ) → o < z .sites → setOf t o < 2 ^ z .keys
+
+-- No site would hold too much with its mask.
+pub record Fitting (l : List ℕ) (z : Counts) (t : List ℕ) : Type 0 where
+  pub sets : SetsOf z t
+  pub fits : (o : ℕ) → o < z .sites → takesOver z (storeOf l .site o) (setOf t o) ≡ false
 
 -- The store after the first n sites have taken the keys of their masks.
 unfoldable pub takenSites : Store → (ℕ → ℕ) → ℕ → Store

@@ -2,6 +2,7 @@
 // fetched together. T of every site is found before a word is stored.
 use fetching::find_taken;
 use fetching::is_lacked;
+use fetching::is_over;
 use fetching::take_keys;
 use masks::mask_if;
 use sets::missing::lacking;
@@ -19,8 +20,9 @@ ghost use Rattle.model.specs.Sets.{unfetchable};
 ghost use Rattle.layout.specs.Reading.{storeOf};
 ghost use Rattle.layout.specs.Buffer.{written};
 ghost use Rattle.form.specs.Parts.{FormWith};
+ghost use Rattle.fetching.specs.Takes.{takesOver};
 ghost use Rattle.trial.specs.Jobs.{UsedRun};
-ghost use Rattle.prepare.specs.Turns.{noSets, readsAt, takenAt, setOf, SetsOf, takenSites};
+ghost use Rattle.prepare.specs.Turns.{noSets, readsAt, takenAt, setOf, SetsOf, Fitting, takenSites};
 
 // What the jobs of run r at site o read.
 fn reads_at(words: &[u32], z: Counts, r: usize, o: usize) -> u32
@@ -83,10 +85,28 @@ pub fn is_unpreparable(words: &[u32], z: Counts, sets: &[u32]) -> bool
     false
 }
 
+// Whether a site would hold more than it may with its T.
+pub fn is_crowded(words: &[u32], z: Counts, sets: &[u32]) -> bool
+    requires { ⌜ FormWith (now words) z ⌝ }
+    requires { ⌜ SetsOf z (now sets) ⌝ }
+    ensures { λ b. ⌜ b ≡ anyBelow (z .sites) (λ o. takesOver z
+        (storeOf (now (words .entry)) .site o) (setOf (now (sets .entry)) o)) ⌝ }
+{
+    let n = z.sites;
+    let mut o = 0;
+    while o < n {
+        if is_over(words, z, o, sets[o]) {
+            return true;
+        }
+        o += 1;
+    }
+    false
+}
+
 // Each site takes its T.
 pub fn take_sets(words: &mut [u32], z: Counts, sets: &[u32])
     requires { ⌜ FormWith (now words) z ⌝ }
-    requires { ⌜ SetsOf z (now sets) ⌝ }
+    requires { ⌜ Fitting (now words) z (now sets) ⌝ }
     ensures { λ _. ⌜ now (words .exit) ≡ written (takenSites (storeOf (now (words .entry)))
         (setOf (now (sets .entry))) (z .sites)) (now (words .entry)) ⌝ }
 {

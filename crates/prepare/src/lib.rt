@@ -4,6 +4,7 @@ pub mod fetches;
 pub mod merges;
 
 use answers::Answered;
+use fetches::is_crowded;
 use fetches::is_unpreparable;
 use fetches::site_sets;
 use fetches::take_sets;
@@ -43,6 +44,9 @@ pub fn prepare(words: &mut [u32], run: u32) -> Answered
     let sets = site_sets(words, z, r);
     if is_unpreparable(words, z, &sets) {
         return Answered::Refused(7);
+    }
+    if is_crowded(words, z, &sets) {
+        return Answered::Refused(12);
     }
     take_sets(words, z, &sets);
     merge_run(words, z, r);

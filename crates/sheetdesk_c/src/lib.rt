@@ -5,7 +5,7 @@ pub mod clocks;
 
 use form::in_form;
 ghost use mathlib.Core.Path.{_≡_};
-ghost use Rattle.model.specs.Calls.{look, explain, stale, admit, openRun, fetch, evict, prepare, step, issue, dropRun, ask};
+ghost use Rattle.model.specs.Calls.{look, explain, stale, admit, openRun, fetch, evict, prepare, step, issue, dropRun, allow, ask};
 ghost use Rattle.layout.specs.Calls.{new, on};
 ghost use Rattle.calls.specs.Performs.{Exported};
 
@@ -124,18 +124,26 @@ pub extern "C" fn sheetdesk_admit(store: &[u32], out: &mut [u32]) -> u32
     calls::later::admit(store, in_form(store), out)
 }
 
+#[no_mangle]
+pub extern "C" fn sheetdesk_allow(store: &mut [u32], site: u32, most: u32, out: &mut [u32]) -> u32
+    ensures { λ n. ⌜ Exported (on (allow site most))
+        (now (store .entry)) (now (store .exit)) (now (out .entry)) (now (out .exit)) n ⌝ }
+{
+    calls::later::allow(store, in_form(store), site, most, out)
+}
+
 // The version of this interface: it rises when a call, its arguments or its answer change.
 #[no_mangle]
 pub extern "C" fn sheetdesk_version() -> u32
-    ensures { λ r. ⌜ r ≡ 6 ⌝ }
+    ensures { λ r. ⌜ r ≡ 7 ⌝ }
 {
-    6
+    7
 }
 
 // The version of the layout: it rises when the words of a desk change.
 #[no_mangle]
 pub extern "C" fn sheetdesk_layout() -> u32
-    ensures { λ r. ⌜ r ≡ 3 ⌝ }
+    ensures { λ r. ⌜ r ≡ 4 ⌝ }
 {
-    3
+    4
 }

@@ -11,7 +11,7 @@ use lib.Dec.{leb}
 use Rattle.words.proofs.Bools.{and-intro, and-left, and-right, leb-le, le-leb}
 use Rattle.words.proofs.Slots.{slot-end}
 use Rattle.sizes.specs.declared.Counts.{Counts}
-use Rattle.sizes.specs.Bounds.{maxKeys, maxWriters, maxSites, maxRuns, maxJobs, maxTotal, jobSize, planSize, headerSize, pastOffset, writerPastOffset, snapshotOffset, between, ranged, Ranged, pastSize, versionSize, placeSize, siteSize, writerSize, runSize, masterAt, sitesAt, writersAt, runsAt, tailSize, tailAt, totalOf, siteAt, staleAt, writerAt, runAt, snapshotAt, jobAt, keyAt, pastRowAt, rowAt, writerRowAt}
+use Rattle.sizes.specs.Bounds.{maxKeys, maxWriters, maxSites, maxRuns, maxJobs, maxTotal, jobSize, planSize, headerSize, pastOffset, writerPastOffset, snapshotOffset, between, ranged, Ranged, pastSize, versionSize, placeSize, siteSize, writerSize, runSize, masterAt, sitesAt, writersAt, runsAt, tailSize, tailAt, totalOf, siteAt, staleAt, allowanceAt, writerAt, runAt, snapshotAt, jobAt, keyAt, pastRowAt, rowAt, writerRowAt}
 
 -- ---- counts in range
 
@@ -65,10 +65,10 @@ pub record Largest (z : Counts) : Type 0 where
   pub past : pastSize z ≤ 512
   pub version : versionSize z ≤ 514
   pub place : placeSize z ≤ 16448
-  pub site : siteSize z ≤ 16449
+  pub site : siteSize z ≤ 16450
   pub writer : writerSize z ≤ 513
   pub run : runSize z ≤ 16476
-  pub sites : z .sites * siteSize z ≤ 131592
+  pub sites : z .sites * siteSize z ≤ 131600
   pub writers : z .writers * writerSize z ≤ 8208
   pub runs : z .runs * runSize z ≤ 131808
 
@@ -78,7 +78,7 @@ largest z R =
     let past : pastSize z ≤ 32 * 16 = mul-le-mul (R .keys-high) (R .writers-high) in
     let version : versionSize z ≤ 514 = omega arith in
     let place : placeSize z ≤ 32 * 514 = mul-le-mul (R .keys-high) version in
-    let site : siteSize z ≤ 16449 = omega arith in
+    let site : siteSize z ≤ 16450 = omega arith in
     let writer : writerSize z ≤ 513 = omega arith in
     let run : runSize z ≤ 16476 = omega arith in
     record {
@@ -151,6 +151,12 @@ pub mark-lies : (z : Counts) (at : ℕ)
     → Lies (at + placeSize z) (at + siteSize z) (staleAt z at) 1
 unfolding siteSize
 mark-lies z at = record { starts = omega arith; ends = omega arith }
+
+-- The allowance stands behind the mark.
+pub allowance-lies : (z : Counts) (at : ℕ)
+    → Lies (at + placeSize z) (at + siteSize z) (allowanceAt z at) 1
+unfolding siteSize
+allowance-lies z at = record { starts = omega arith; ends = omega arith }
 
 -- The snapshot is the last part of its run.
 pub snapshot-lies : (z : Counts) (r : ℕ)

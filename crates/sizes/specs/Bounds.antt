@@ -62,8 +62,7 @@ pub record Ranged (z : Counts) : Type 0 where
   pub runs-low : 1 ≤ z .runs
   pub runs-high : z .runs ≤ maxRuns
 
--- ---- inside the header: "Header, 10 words: K, W, N, P, last issue number, then the offsets in
--- ---- words of master, shelves, writers and runs, then the total."
+-- ---- inside the header: "K, W, N, P, last issue number, then the offsets .., then the total"
 
 abbrev pub keysOffset : ℕ
 keysOffset = 0
@@ -110,8 +109,7 @@ pastOffset = 2
 abbrev pub writerPastOffset : ℕ
 writerPastOffset = 1
 
--- ---- inside a run: "A run is state (0 free, 1 open, 2 broken), number of jobs, done mask, read
--- ---- mask, 8 jobs of 3 words (office, reads mask, upstream mask), then the card, K versions."
+-- ---- inside a run: "state .., number of jobs, done mask, read mask, 8 jobs .., then the card"
 
 -- Of a job, whose site stands first.
 abbrev pub readsOffset : ℕ
@@ -155,9 +153,9 @@ versionSize z = pastOffset + pastSize z
 unfoldable pub placeSize : Counts → ℕ
 placeSize z = z .keys * versionSize z
 
--- What a site keeps behind its cache: CR 4's "one stored word after its versions", the stale mark.
+-- Behind a site's cache: the stale mark (CR 4); its allowance, "one word after" it (CR 7).
 abbrev pub siteRest : ℕ
-siteRest = 1
+siteRest = 2
 
 unfoldable pub siteSize : Counts → ℕ
 siteSize z = placeSize z + siteRest
@@ -174,8 +172,7 @@ runSize z = snapshotOffset + placeSize z
 unfoldable pub tailSize : Counts → ℕ
 tailSize z = 0
 
--- ---- offsets, after the header:
--- ---- "master K·V; shelves N·(K·V + 1); writers W·(1 + K·W); runs P·(28 + K·V)"
+-- ---- offsets: "master K·V; shelves N·(K·V + 2); writers W·(1 + K·W); runs P·(28 + K·V)"
 
 unfoldable pub masterAt : Counts → ℕ
 masterAt z = headerSize
@@ -197,7 +194,7 @@ totalOf z = tailAt z + tailSize z
 
 -- The total of the largest counts.
 abbrev pub maxTotal : ℕ
-maxTotal = 288066
+maxTotal = 288074
 
 unfoldable pub sizesOf : Counts → Sizes
 sizesOf z = record {
@@ -215,9 +212,12 @@ sizesOf z = record {
 unfoldable pub siteAt : Counts → ℕ → ℕ
 siteAt z o = sitesAt z + o * siteSize z
 
--- The stale mark of the site at an index.
+-- The stale mark of the site at an index, and its allowance.
 abbrev pub staleAt : Counts → ℕ → ℕ
 staleAt z at = at + placeSize z
+
+abbrev pub allowanceAt : Counts → ℕ → ℕ
+allowanceAt z at = staleAt z at + 1
 
 unfoldable pub writerAt : Counts → ℕ → ℕ
 writerAt z u = writersAt z + u * writerSize z

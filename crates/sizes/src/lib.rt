@@ -9,7 +9,7 @@ use past::WriterOffset;
 use run::RunOffset;
 ghost use mathlib.Core.Path.{_≡_};
 ghost use Prim.Native.Nat.{_+_, _*_, _<_, _^_};
-ghost use Rattle.sizes.specs.Bounds.{between, ranged, Ranged, countsOf, sizesOf, maxKeys, maxWriters, maxSites, maxRuns, maxJobs, placeLimit, versionLimit, everyJob, jobSize, siteRest, pastSize, versionSize, placeSize, siteSize, writerSize, runSize, siteAt, staleAt, writerAt, runAt, snapshotAt, jobAt, keyAt, pastRowAt};
+ghost use Rattle.sizes.specs.Bounds.{between, ranged, Ranged, countsOf, sizesOf, maxKeys, maxWriters, maxSites, maxRuns, maxJobs, placeLimit, versionLimit, everyJob, jobSize, siteRest, pastSize, versionSize, placeSize, siteSize, writerSize, runSize, siteAt, staleAt, allowanceAt, writerAt, runAt, snapshotAt, jobAt, keyAt, pastRowAt};
 
 // Sheets, writers, offices and runs (document 01: K, W, N, P).
 pub struct Counts {
@@ -46,7 +46,7 @@ impl Sizes {
     pub const JOB_SIZE: usize = 3;
 
     // The words of a site behind its cache.
-    pub const SITE_REST: usize = 1;
+    pub const SITE_REST: usize = 2;
 
     // Offsets and total from four counts.
     pub fn of(keys: usize, writers: usize, sites: usize, runs: usize) -> Sizes
@@ -210,6 +210,15 @@ impl Counts {
         ensures { λ r. ⌜ r ≡ staleAt self at ⌝ }
     {
         at + self.place_size()
+    }
+
+    // Where its allowance stands, behind the mark.
+    pub fn allowance_at(self, at: usize) -> usize
+        requires { ⌜ Ranged self ⌝ }
+        requires { ⌜ at < placeLimit ⌝ }
+        ensures { λ r. ⌜ r ≡ allowanceAt self at ⌝ }
+    {
+        self.stale_at(at) + 1
     }
 
     // Where the snapshot of run r begins.

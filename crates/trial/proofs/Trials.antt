@@ -1,14 +1,15 @@
 -- The trial of a job finds what the rule of step does.
 -- visit-is: a visit as the code makes it. VisitKnown, visit-known: what holds of it.
 -- site-at, master-at, cache-at, old-..: the parts of the rule, where a visit reads them.
--- taken-read: T. cause-last: cause 7, as the code tests it. trial-found: T and C.
+-- taken-read: T. cause-last: the causes by T, as the code tests them. trial-found: T and C.
 -- branch-own: the run's own snapshot and read mask.
 -- Assumes nothing.
 use mathlib.Core.Path.{_≡_, sym, ap, _∙_}
-use mathlib.Core.Bool.{Bool}
+use mathlib.Core.Bool.{cond}
 use mathlib.Core.List.{List}
 use Prim.Native.Nat.{ℕ, _+_, _<_, _^_}
 use native.Mathlib.Omega.{arith}
+use lib.Dec.{eqb}
 use lib.ListN.{length, getD}
 use Rattle.words.specs.Tests.{Items}
 use Rattle.masks.specs.Mask.{testBit, maskBelow}
@@ -16,8 +17,9 @@ use Rattle.sizes.specs.declared.Counts.{Counts}
 use Rattle.sizes.specs.Bounds.{everyJob, readOffset, masterAt, siteAt, runAt, snapshotAt}
 use Rattle.model.specs.Algebra.{Algebra, lacking}
 use Rattle.model.specs.Version.{Version, versions}
-use Rattle.model.specs.Sets.{drawSet, fetchSet, unfetchable}
+use Rattle.model.specs.Sets.{drawSet, fetchSet, fetched, unfetchable}
 use Rattle.model.specs.Store.{Run, Store}
+use Rattle.model.specs.Allowance.{over}
 use Rattle.model.specs.Outcome.{refuse}
 use Rattle.model.specs.Step.{readStart, jobCause, stepCause, stepSite, stepReads, stepStart, stepFetch, stepCache, stepPlan, stepPull}
 use Rattle.model.proofs.Steps.{step-below}
@@ -30,7 +32,8 @@ use Rattle.form.proofs.Known.{form-area, form-counts}
 use Rattle.form.proofs.Snapshots.{test-plan}
 use Rattle.status.proofs.Known.{run-known}
 use Rattle.sets.specs.Draws.{viewed}
-use Rattle.fetching.proofs.Taking.{taken-lacked}
+use Rattle.fetching.specs.Takes.{takesCause}
+use Rattle.fetching.proofs.Taking.{taken-cause}
 use Rattle.trial.specs.declared.Visit.{Visit}
 use Rattle.trial.specs.declared.Trial.{Trial}
 use Rattle.trial.specs.declared.jobs.PlannedJob.{PlannedJob}
@@ -146,23 +149,28 @@ module _ (l : List ℕ) (z : Counts) (r j snapshot : ℕ) (U : UsedRun l z r)
         (readPlace z l (v .cache)) (testBit start))
     taken-read t f = rw (← old-master, ← old-cache, ← site-at) f
 
-    pub cause-last : (t : ℕ) (b : Bool) → jobCause (s .run r) j 0 ≡ 0
+    pub cause-last : (t : ℕ) → jobCause (s .run r) j 0 ≡ 0
         → t ≡ maskBelow (z .keys) (fetchSet alg (z .keys) (s .master) (s .site (v .site) .cache)
         (testBit start))
-        → b ≡ unfetchable alg (z .keys) (s .master) (testBit t)
-        → stepCause s r j ≡ refuse b 7 0
-    unfolding stepStart
-    cause-last t b free f g =
-        let asked : unfetchable alg (z .keys) (readPlace z l (v .master)) (testBit start) ≡ b =
-        rw (← old-master) (sym (taken-lacked z (s .master) (s .site (v .site) .cache)
-        (testBit start) t f) ∙ sym g) in
-        let same : unfetchable (versions (s .counts .writers)) (s .counts .keys) (s .master)
-        (stepStart s r j) ≡ b =
-        rw (old-reads, old-cache, L .place, old-master, form-counts l z (U .form))
-        (sym (fetchable alg (z .keys) (readPlace z l (v .master)) _ _ _ wanted start w e)
-        ∙ asked) in
+        → stepCause s r j ≡ takesCause z s (v .site) t
+    unfolding stepStart stepCache
+    cause-last t free f =
+        let o = stepSite s r j in
+        let S = stepStart s r j in
+        let rows : Counts → ℕ = λ y.
+        let alg = versions (y .writers) in
+        refuse (unfetchable alg (y .keys) (s .master) S) 7
+        (refuse (over y (s .site o) (fetched alg (y .keys) (s .master) (s .site o .cache) S)) 12
+        0) in
+        let mask : t
+        ≡ maskBelow (z .keys) (fetchSet alg (z .keys) (s .master) (s .site o .cache) S)
+        = rw (old-reads, old-cache, L .place, old-master, form-counts l z (U .form))
+        (taken-mask alg (z .keys) (readPlace z l (v .master)) _ _ _ wanted start w e t
+        (taken-read t f)) in
         step-below s r j (rw (form-counts l z (U .form)) (U .run))
-        ∙ rw free (ap (λ (t : Bool). refuse t 7 0) same)
+        ∙ ap (λ (n : ℕ). cond (eqb n 0) (rows (s .counts)) n) free
+        ∙ ap rows (form-counts l z (U .form))
+        ∙ sym (taken-cause z s o S t mask) ∙ ap (λ (o : ℕ). takesCause z s o t) (sym site-at)
 
     pub trial-found : (t p : ℕ)
         → t ≡ maskBelow (z .keys) (fetchSet alg (z .keys) (readPlace z l (v .master))

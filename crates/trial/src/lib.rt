@@ -5,7 +5,7 @@ pub mod jobs;
 
 use causes::job_cause;
 use fetching::find_taken;
-use fetching::is_lacked;
+use fetching::taking_cause;
 use jobs::job_of;
 use jobs::plan_keys;
 use sets::View;
@@ -75,8 +75,9 @@ pub fn try_at(words: &[u32], z: Counts, r: usize, j: usize, snapshot: usize, rea
     let wanted = lacking(words, z, snapshot, visit.reads);
     let start = lacking(words, z, visit.cache, wanted);
     let taken = find_taken(words, z, visit.site, start);
-    if is_lacked(words, z, taken) {
-        return Tried::Refused(7);
+    let late = taking_cause(words, z, visit.site, taken);
+    if late != 0 {
+        return Tried::Refused(late);
     }
     let source = View {
         mask: taken,

@@ -1,18 +1,25 @@
 -- Where the versions and rows of a place lie, and what is read there.
 -- key-..: the version of a key. row-in: a row. leaders-..: its mask. standing-word: two rows
--- compared.
+-- compared. mark-in, allowance-in: the words behind a cache. count-held: how many keys it holds.
 -- Assumes nothing.
-use mathlib.Core.Path.{_≡_, ap}
+use mathlib.Core.Path.{_≡_, ap, _∙_}
+use mathlib.Core.Bool.{_||_}
 use mathlib.Core.List.{List}
 use mathlib.Core.Logic.{inl, inr, ⊎-elim}
 use Prim.Native.Nat.{ℕ, _+_, _≤_, _<_}
 use native.Mathlib.Omega.{arith}
 use Rattle.words.specs.Words.{Apart}
+use Rattle.words.specs.Numbers.{countBelow}
+use Rattle.words.proofs.Numbers.{count-same}
+use Rattle.masks.specs.Mask.{testBit}
+use Rattle.masks.proofs.Bits.{test-none}
 use Rattle.clock.specs.Clock.{standing, clockAt}
 use Rattle.clock.proofs.Standings.{standing-same}
 use Rattle.sizes.specs.declared.Counts.{Counts}
-use Rattle.sizes.specs.Bounds.{versionLimit, leadersOffset, pastOffset, versionSize, placeSize, siteSize, staleAt, keyAt, rowAt}
-use Rattle.sizes.proofs.Offsets.{largest, Lies, mark-lies, key-lies, row-lies}
+use Rattle.sizes.specs.Bounds.{versionLimit, leadersOffset, pastOffset, versionSize, placeSize, siteSize, staleAt, allowanceAt, keyAt, rowAt}
+use Rattle.sizes.proofs.Offsets.{largest, Lies, mark-lies, allowance-lies, key-lies, row-lies}
+use Rattle.model.specs.Version.{held}
+use Rattle.model.specs.Allowance.{heldCount}
 use Rattle.layout.specs.Reading.{readWord, readVersion, readPlace}
 use Rattle.layout.proofs.Places.{place-at}
 use Rattle.layout.proofs.Readings.{row-word}
@@ -48,7 +55,7 @@ pub site-cache : (len : ℕ) (z : Counts) (at : ℕ) → SiteArea len z at → A
 unfolding siteSize
 site-cache len z at A = record { ranged = A .ranged; low = A .low; fits = omega (arith, A .fits) }
 
--- A word behind it, and so the stale mark.
+-- A word behind it, and so the stale mark and the allowance.
 pub word-in : (len : ℕ) (z : Counts) (at i : ℕ) → SiteArea len z at
     → Lies (at + placeSize z) (at + siteSize z) i 1 → (i < versionLimit) × (i < len)
 word-in len z at i A e =
@@ -57,6 +64,19 @@ word-in len z at i A e =
 pub mark-in : (len : ℕ) (z : Counts) (at : ℕ) → SiteArea len z at
     → (staleAt z at < versionLimit) × (staleAt z at < len)
 mark-in len z at A = word-in len z at (staleAt z at) A (mark-lies z at)
+
+pub allowance-in : (len : ℕ) (z : Counts) (at : ℕ) → SiteArea len z at
+    → (allowanceAt z at < versionLimit) × (allowanceAt z at < len)
+allowance-in len z at A = word-in len z at (allowanceAt z at) A (allowance-lies z at)
+
+-- The number of keys that are held, where no other is counted.
+pub count-held : (z : Counts) (l : List ℕ) (at c : ℕ)
+    → c ≡ countBelow (z .keys) (λ k. testBit 0 k || held (readPlace z l at k))
+    → c ≡ heldCount (z .keys) (readPlace z l at)
+unfolding heldCount
+count-held z l at c e =
+    e ∙ count-same (z .keys) (λ k. testBit 0 k || held (readPlace z l at k))
+    (λ k. held (readPlace z l at k)) (λ k _. rw (test-none k))
 
 -- The versions of one key in two places.
 pub key-apart : (len : ℕ) (z : Counts) (dst src : ℕ) → Areas len z dst src → (k : ℕ) → k < z .keys

@@ -6,6 +6,7 @@ use clock::compare;
 use clock::covering;
 use clock::merge_into;
 use clock::present;
+use masks::count_items;
 use masks::has;
 use masks::with_if;
 use numbers::version_issue;
@@ -14,9 +15,11 @@ use sizes::past::VersionOffset;
 use words::copy;
 use words::zero;
 ghost use mathlib.Core.Path.{_≡_};
+ghost use mathlib.Core.Bool.{_||_};
 ghost use Prim.Native.Nat.{_+_, _≤_, _<_};
 ghost use lib.ListN.{length};
 ghost use Rattle.words.specs.Words.{Apart};
+ghost use Rattle.words.specs.Numbers.{countBelow};
 ghost use Rattle.masks.specs.Mask.{testBit, maskBelow};
 ghost use Rattle.sizes.specs.Bounds.{placeLimit, Ranged, pastSize, versionSize, keyAt, rowAt};
 ghost use Rattle.model.specs.Version.{unheld, held, dependency, supersedes, joinPasts};
@@ -97,6 +100,17 @@ pub fn held_mask(words: &[u32], z: Counts, at: usize) -> u32
         k += 1;
     }
     mask
+}
+
+// How many keys the place holds, with those of a mask.
+pub fn count_with(words: &[u32], z: Counts, at: usize, more: u32) -> u32
+    requires { ⌜ Area (length (now words)) z at ⌝ }
+    ensures { λ r. ⌜ r ≡ countBelow (z .keys)
+        (λ k. testBit more k || held (readPlace z (now (words .entry)) at k)) ⌝ }
+{
+    let mask = more | held_mask(words, z, at);
+    let n = z.keys;
+    count_items(mask, n)
 }
 
 // Copies the version at src to dst.

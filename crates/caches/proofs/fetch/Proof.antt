@@ -11,7 +11,7 @@ use Rattle.form.proofs.Known.{form-long, form-area}
 use Rattle.answers.specs.Answers.{answeredWords}
 use Rattle.caches.specs.Range.{outOfRange}
 use Rattle.caches.proofs.Known.{inside, one-low}
-use Rattle.caches.proofs.Fetches.{fetch-out, fetch-lacks, fetch-done}
+use Rattle.caches.proofs.Fetches.{fetch-out, fetch-refused, fetch-done}
 use Rattle.caches.proofs.fetch.Statement.{statement}
 use Rattle.caches.proofs.fetch.Tie as tie
 
@@ -54,11 +54,13 @@ find-taken-requires c κs =
       one-low _ _ _ (ready e .1) (i .with-item .ensures),
     )
 
-is-lacked-requires : tie.Need-is-lacked-requires
-is-lacked-requires c κs =
+taking-cause-requires : tie.Need-taking-cause-requires
+taking-cause-requires c κs =
     let f = c .before in
-    let e = f .before .before .before in
-    (holds (e .before), rw (f .find-taken .ensures) (mask-lt _ _ _ (omega arith)))
+    let e = f .before .before .before in (
+      (holds (e .before), ready e .0),
+      rw (f .find-taken .ensures) (mask-lt _ _ _ (omega arith)),
+    )
 
 returns-2 : tie.Need-returns-2
 unfolding answeredWords
@@ -67,8 +69,8 @@ returns-2 c =
     let f = u .before .before in
     let i = f .before .before in
     let e = i .before in
-    fetch-lacks _ _ (holds (e .before)) _ _ (in-range e) _ _ (i .with-item .ensures)
-    (f .find-taken .ensures) (sym (u .is-lacked .ensures) ∙ c .if2 .taken)
+    fetch-refused _ _ (holds (e .before)) _ _ (in-range e) _ _ (i .with-item .ensures)
+    (f .find-taken .ensures) _ (u .taking-cause .ensures) (c .if2 .taken)
 
 take-keys-requires : tie.Need-take-keys-requires
 take-keys-requires c κs =
@@ -85,7 +87,8 @@ returns-3 c =
     let i = f .before .before in
     let e = i .before in
     fetch-done _ _ (holds (e .before)) _ _ (in-range e) _ _ (i .with-item .ensures)
-    (f .find-taken .ensures) (sym (u .is-lacked .ensures) ∙ o .if2 .left) _ (k .take-keys .ensures)
+    (f .find-taken .ensures) (sym (u .taking-cause .ensures) ∙ o .if2 .left) _
+    (k .take-keys .ensures)
 
 pub fetch-spec : {M : Type 1} → statement M
 fetch-spec =
@@ -97,7 +100,7 @@ fetch-spec =
     returns
     with-item-requires
     find-taken-requires
-    is-lacked-requires
+    taking-cause-requires
     (λ c. search needs)
     returns-2
     take-keys-requires

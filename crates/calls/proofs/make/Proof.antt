@@ -82,6 +82,8 @@ make-spec =
     (λ c κs. search needs)
     (λ c. search needs)
     (λ c κs. search needs)
+    (λ c. search needs)
+    (λ c κs. search needs)
     returns
     (λ c. search needs)
     (λ c. search needs)
@@ -89,6 +91,9 @@ make-spec =
     (λ c. search needs)
     (λ c. search needs)
     returns-3
+    (λ c. search needs)
+    (λ c. search needs)
+    (λ c. search made-of)
     (λ c. search needs)
     (λ c. search needs)
     (λ c. search made-of)

@@ -1,4 +1,5 @@
--- `store_fresh` meets its contract: zeros and the header are the words of a fresh store.
+-- `store_fresh` meets its contract: zeros, the header and the allowances are the words of
+-- a fresh store.
 -- Assumes nothing.
 use mathlib.Core.Path.{_∙_}
 use native.Mathlib.Omega.{arith}
@@ -28,19 +29,26 @@ store-header-requires c κs =
     let R = has-room (c .before .before .before .before .before) in
     same-room _ _ _ _ R (omega arith)
 
+store-allowances-requires : tie.Need-store-allowances-requires
+store-allowances-requires c κs =
+    let h = c .before .before .before in
+    let R = has-room (h .before .before .before .before .before .before) in
+    (R .counts, omega (arith, R .fits, total-is _ _ (R .sizes)))
+
 narrow-requires : tie.Need-narrow-requires
 narrow-requires c κs =
-    let R = has-room (c .before .before .before .before .before .before .before .before) in
+    let h = c .before .before .before .before .before .before in
+    let R = has-room (h .before .before .before .before .before .before) in
     omega (arith, R)
 
 returns : tie.Need-returns
 returns c =
-    let h = c .before .before .before in
-    let s = h .before .before .before .before .before .before in
-    let R = has-room s in (
+    let a = c .before .before .before in
+    let h = a .before .before .before .before in
+    let R = has-room (h .before .before .before .before .before .before) in (
       c .narrow .ensures ∙ total-is _ _ (R .sizes),
-      fresh-stored _ _ _ _ _ R (h .before .before .before .before .zero .ensures)
-          (h .store-header .ensures),
+      fresh-stored _ _ _ _ _ _ R (h .before .before .before .before .zero .ensures)
+          (h .store-header .ensures) (a .store-allowances .ensures),
     )
 
 pub store-fresh-spec : {M : Type 1} → statement M
@@ -50,6 +58,7 @@ store-fresh-spec =
     sizes-of-requires
     zero-requires
     store-header-requires
+    store-allowances-requires
     narrow-requires
     (λ c. search needs)
     returns)

@@ -26,7 +26,8 @@ use Rattle.model.proofs.Outcomes.{no-cause, no-lack}
 use Rattle.model.proofs.DoneReads.{doneReads-none}
 use Rattle.layout.proofs.Parts.{FitRun}
 use Rattle.layout.proofs.Fit.{fit-empty, fit-run}
-use Rattle.model.proofs.Formed.{formed-empty, well-out, formed-run}
+use Rattle.model.proofs.Formed.{formed-empty, well-out}
+use Rattle.model.proofs.FormedNext.{formed-run}
 use Rattle.model.proofs.Plans.{zero-job, plan-in}
 use Rattle.layout.proofs.Follow.{Fine}
 use Rattle.layout.proofs.Kept.{Kept, kept-done, kept-unless}

@@ -10,6 +10,7 @@ use native.Mathlib.Omega.{arith}
 use Rattle.words.specs.Tests.{Items}
 use Rattle.words.proofs.Bools.{test, clash, leb-gt, eqb-eq}
 use Rattle.words.proofs.Numbers.{fold-keeps}
+use Rattle.words.proofs.Tests.{any-none}
 use Rattle.masks.specs.Mask.{testBit}
 use Rattle.masks.proofs.Bits.{test-none}
 use Rattle.sizes.specs.declared.Counts.{Counts}
@@ -17,16 +18,19 @@ use Rattle.model.specs.Algebra.{Place}
 use Rattle.model.specs.Version.{Version, unheld, held, merge, versions}
 use Rattle.model.specs.Sets.{fetched}
 use Rattle.model.specs.Store.{Job, Run, Site, Store, emptyPlace, planned, withSites, withCaches, withRun, withSnapshot}
+use Rattle.model.specs.Allowance.{heldCount}
 use Rattle.model.specs.Form.{runFormed}
 use Rattle.model.specs.Outcome.{allowed, prepareRow, runCause}
-use Rattle.model.specs.Prepare.{jobStart, fetchReads, preparedCaches, usesSite, sitesMerged, siteCaches, prepareCause, prepareCaches, prepareSnapshot, prepareDone, prepareRule}
+use Rattle.model.specs.Prepare.{jobStart, fetchReads, preparedCaches, usesSite, sitesMerged, siteCaches, anyOver, prepareCause, prepareCaches, prepareSnapshot, prepareDone, prepareRule}
 use Rattle.model.proofs.Merges.{held-unheld, merge-unheld-left}
 use Rattle.model.proofs.Outcomes.{no-cause, no-lack, allowed-used}
+use Rattle.model.proofs.Allowances.{over-no}
 use Rattle.model.proofs.DoneReads.{doneReads-none}
 use Rattle.layout.proofs.Codec.{FitMany}
 use Rattle.layout.proofs.Parts.{FitVersion, FitPlace, FitRun}
 use Rattle.layout.proofs.Fit.{fit-unheld, fit-put, fit-merge, fit-caches, fit-run}
-use Rattle.model.proofs.Formed.{VersionFormed, version-unheld, version-merge, PlaceFormed, well-out, formed-caches, formed-run}
+use Rattle.model.proofs.Formed.{VersionFormed, version-unheld, version-merge, PlaceFormed, well-out}
+use Rattle.model.proofs.FormedNext.{formed-caches, formed-run}
 use Rattle.model.proofs.Plans.{valid-out, Jobs, Plan, plan-out, plan-in}
 use Rattle.layout.proofs.Follow.{Fine}
 use Rattle.layout.proofs.Kept.{Kept, kept-done, kept-unless, fetched-fits, fetched-formed}
@@ -125,17 +129,23 @@ pub record Accepted (s : Store) (r : ℕ) : Type 0 where
   pub run : r < s .counts .runs
   pub state : 1 ≤ s .run r .state
   pub done : s .run r .done ≡ 0
+  pub fits : (o : ℕ) → o < s .counts .sites
+      → heldCount (s .counts .keys) (prepareCaches s r o) ≤ s .site o .allowance
 
 pub accepted : (s : Store) (r : ℕ) → prepareCause s r ≡ 0 → Accepted s r
-unfolding prepareCause runCause allowed
+unfolding prepareCause runCause allowed anyOver
 accepted s r e =
     let a = no-cause _ 3 _ (omega arith) e in
     let b = no-lack _ 4 _ (omega arith) (a .1) in
     let c = no-lack _ 6 _ (omega arith) (b .1) in
+    let d = no-cause _ 7 _ (omega arith) (c .1) in
+    let f = no-cause _ 12 0 (omega arith) (d .1) in
     record {
       run = leb-gt _ _ (a .0);
       state = allowed-used prepareRow (s .run r .state) refl (b .0);
       done = eqb-eq (s .run r .done) 0 (c .0);
+      fits = λ o h. over-no (s .counts) (s .site o) (prepareCaches s r o)
+          (any-none (s .counts .sites) _ (f .0) o h);
     }
 
 module _ (s : Store) (r : ℕ) (F : Fine s) (A : Accepted s r) where
@@ -199,7 +209,8 @@ module _ (s : Store) (r : ℕ) (F : Fine s) (A : Accepted s r) where
       let s₁ = withCaches s p in
       let f₁ = fit-caches s (F .fits) p
       (record { each = λ o h. caches .each o h .fits; rest = caches .rest }) in
-      let g₁ = formed-caches s (well-out s (F .formed)) p (λ o h. caches .each o h .formed) in
+      let g₁ = formed-caches s (well-out s (F .formed)) p
+      (λ o h. (caches .each o h .formed, A .fits o h)) in
       kept-done s (withRun s₁ r after) _ F (fit-run s₁ f₁ r after (A .run) after-fits)
       (formed-run s₁ g₁ r after after-formed) refl
 

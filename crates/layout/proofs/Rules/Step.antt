@@ -20,11 +20,13 @@ use Rattle.model.specs.Form.{runFormed}
 use Rattle.model.specs.Outcome.{brokenState}
 use Rattle.model.specs.Step.{stepBranch, stepSite, stepReads, stepStart, stepCache, stepPlan, stepSnapshot, stepMoved, stepCause, stepBroken, stepDone, stepRule}
 use Rattle.model.proofs.Draws.{pulled-cases}
+use Rattle.model.proofs.Allowances.{over-no}
 use Rattle.model.proofs.Steps.{Accepted, accepted, accepted-used, stepSnapshot-keeps, stepSnapshot-held, stepSnapshot-planned, steppedRun}
 use Rattle.model.proofs.DoneReads.{doneReads-mask}
 use Rattle.layout.proofs.Parts.{FitPlace, FitRun}
 use Rattle.layout.proofs.Fit.{fit-choice, fit-merged, fit-cache, fit-run}
-use Rattle.model.proofs.Formed.{VersionFormed, version-merge, PlaceFormed, Formed, well-out, formed-cache, formed-run}
+use Rattle.model.proofs.Formed.{VersionFormed, version-merge, PlaceFormed, Formed, well-out}
+use Rattle.model.proofs.FormedNext.{formed-cache, formed-run}
 use Rattle.model.proofs.Plans.{Valid, valid-out, Plan, plan-out, plan-in}
 use Rattle.layout.proofs.Follow.{Fine}
 use Rattle.layout.proofs.Kept.{Kept, kept-done, kept-broken, kept-unless, fetched-fits, fetched-formed}
@@ -130,7 +132,8 @@ module _ (s : Store) (r j : ℕ) (F : Fine s) (A : Accepted s r j) where
       let b = steppedRun s r j in
       let s₁ = withCache s o p in
       let f₁ = fit-cache s (F .fits) o p site cache-fits in
-      let g₁ = formed-cache s formed o p cache-formed in
+      let g₁ = formed-cache s formed o p cache-formed
+      (over-no (s .counts) (s .site o) p (A .fits)) in
       kept-done s (withRun s₁ r b) _ F (fit-run s₁ f₁ r b (A .run-in) stepped-fits)
       (formed-run s₁ g₁ r b stepped-formed) refl
 

@@ -25,10 +25,18 @@ unfolding calling formAt
 returns-3 c = (rw (c .match .keys3), omega arith)
 
 returns-4 : tie.Need-returns-4
+unfolding calling formAt
 returns-4 c =
+    let a = c .before .before .number-at .ensures in
+    let b = c .before .number-at2 .ensures in
+    (rw (c .match .keys4, a, b), omega arith)
+
+returns-5 : tie.Need-returns-5
+returns-5 c =
     let s = c .before .before .before .before in
     let r = c .match .rest in
-    let past = next (next (next (s .pre .0) (r .0 .0 .1)) (r .0 .1)) (r .1) in
+    let past =
+    next (next (next (next (s .pre .0) (r .0 .0 .0 .1)) (r .0 .0 .1)) (r .0 .1)) (r .1) in
     absurd (not-past (in-table (s .args .number) (s .args .n) (s .pre .1 .0)) past)
 
 pub later-command-spec : {M : Type 1} → statement M
@@ -40,4 +48,5 @@ later-command-spec =
     returns
     returns-2
     returns-3
-    returns-4)
+    returns-4
+    returns-5)

@@ -4,17 +4,19 @@ use mathlib.Core.Path.{_≡_, sym, ap, _∙_}
 use mathlib.Core.Bool.{Bool}
 use borrow.Author.Needs.{needs}
 use native.Mathlib.Omega.{arith}
+use Rattle.words.proofs.Tests.{any-none}
 use Rattle.model.specs.Outcome.{refuse}
-use Rattle.model.specs.Prepare.{prepareCause}
+use Rattle.model.specs.Version.{versions}
+use Rattle.model.specs.Prepare.{unpreparable, siteCaches, prepareCause}
 use Rattle.layout.specs.Reading.{storeOf}
 use Rattle.form.proofs.Known.{form-long, form-area}
 use Rattle.answers.specs.Answers.{answeredWords}
 use Rattle.trial.specs.Jobs.{UsedRun}
-use Rattle.prepare.specs.Turns.{earlyCause}
-use Rattle.prepare.proofs.Fetching.{sets-of, sets-lacked}
+use Rattle.prepare.specs.Turns.{earlyCause, Fitting}
+use Rattle.prepare.proofs.Fetching.{sets-of, sets-lacked, sets-over}
 use Rattle.prepare.proofs.Taking.{prepared-left, prepared-fits, prepared-used}
 use Rattle.prepare.proofs.Carrying.{snapshot-in-place}
-use Rattle.prepare.proofs.Causes.{cause-early, cause-lacks, used-run, no-run-cause}
+use Rattle.prepare.proofs.Causes.{cause-early, cause-lacks, cause-over, used-run, no-run-cause}
 use Rattle.prepare.proofs.Endings.{prepare-refused, prepare-done}
 use Rattle.prepare.proofs.prepare.Statement.{statement}
 use Rattle.prepare.proofs.prepare.Tie as tie
@@ -50,50 +52,97 @@ is-unpreparable-requires c κs =
     let k = c .before .before in
     let U = used (k .before .before) in (U .form, sets-of _ _ _ U _ (k .site-sets .ensures))
 
--- The cause, by what is found of the keys.
-cause : (c : tie.After-is-unpreparable)
+-- 7: the master lacks a key exactly if it lacks one of T.
+lacked : (c : tie.After-is-unpreparable)
     → let a = c .before .before .before .before .before .before .before .before .before
     .before .before .args in
-    refuse (c .is-unpreparable .result) 7 0 ≡ prepareCause (storeOf (a .words .now)) (a .run)
-cause c =
+    let z = c .before .before .before .before .before .before .before .before .counts .result in
+    let s = storeOf (a .words .now) in
+    c .is-unpreparable .result
+    ≡ unpreparable (versions (z .writers)) (z .keys) (s .master) (s .run (a .run) .job)
+    (s .run (a .run) .jobs) (siteCaches s)
+lacked c =
     let k = c .before .before .before in
-    let e = k .before .before in
-    let U = used e in
-    cause-lacks _ _ _ _ (U .form) (early e)
-    (c .is-unpreparable .ensures ∙ sets-lacked _ _ _ U _ (k .site-sets .ensures))
+    c .is-unpreparable .ensures
+    ∙ sets-lacked _ _ _ (used (k .before .before)) _ (k .site-sets .ensures)
 
 returns-2 : tie.Need-returns-2
-unfolding answeredWords refuse
+unfolding answeredWords
 returns-2 c =
-    let k = c .before .before .before .before in
-    let U = used (k .before .before) in
+    let u = c .before in
+    let k = u .before .before .before in
+    let e = k .before .before in
+    let U = used e in
     prepare-refused _ _ 7 (U .form .form)
-    (ap (λ (b : Bool). refuse b 7 0) (sym (c .if2 .taken)) ∙ cause (c .before)) (omega arith)
+    (cause-lacks _ _ _ _ (U .form) (early e) (lacked u) (c .if2 .taken)) (omega arith)
 
--- No cause.
-free : (c : tie.Else2)
+is-crowded-requires : tie.Need-is-crowded-requires
+is-crowded-requires c κs =
+    let k = c .before .before .before .before .before .before in
+    let U = used (k .before .before) in (U .form, sets-of _ _ _ U _ (k .site-sets .ensures))
+
+-- 12: a site would hold too much exactly if it would with its T.
+cause : (c : tie.After-is-crowded)
     → let a = c .before .before .before .before .before .before .before .before .before
-    .before .before .before .args in
+    .before .before .before .before .before .before .args in
+    refuse (c .is-crowded .result) 12 0 ≡ prepareCause (storeOf (a .words .now)) (a .run)
+cause c =
+    let n = c .before .before .before in
+    let u = n .before in
+    let k = u .before .before .before in
+    let e = k .before .before in
+    let U = used e in
+    cause-over _ _ _ _ (U .form) (early e) (lacked u) (n .if2 .left) _ (c .is-crowded .ensures
+    ∙ sets-over _ _ _ U _ (k .site-sets .ensures) (sym (lacked u) ∙ n .if2 .left))
+
+returns-3 : tie.Need-returns-3
+unfolding answeredWords refuse
+returns-3 c =
+    let u = c .before .before .before .before .before in
+    let k = u .before .before .before in
+    let U = used (k .before .before) in
+    prepare-refused _ _ 12 (U .form .form)
+    (ap (λ (b : Bool). refuse b 12 0) (sym (c .if3 .taken)) ∙ cause (c .before)) (omega arith)
+
+-- No cause, and each site has room for its T.
+free : (c : tie.Else3)
+    → let a = c .before .before .before .before .before .before .before .before .before
+    .before .before .before .before .before .before .before .args in
     prepareCause (storeOf (a .words .now)) (a .run) ≡ 0
 unfolding refuse
-free c = sym (cause (c .before)) ∙ ap (λ (b : Bool). refuse b 7 0) (c .if2 .left)
+free c = sym (cause (c .before)) ∙ ap (λ (b : Bool). refuse b 12 0) (c .if3 .left)
+
+fitting : (c : tie.Else3)
+    → let k = c .before .before .before .before .before .before .before .before in
+    let n = k .before .before .before .before .before in
+    Fitting (n .before .before .before .args .words .now) (n .counts .result)
+    (k .site-sets .result)
+fitting c =
+    let k = c .before .before .before .before .before .before .before .before in
+    let U = used (k .before .before) in
+    record {
+      sets = sets-of _ _ _ U _ (k .site-sets .ensures);
+      fits = any-none _ _ (sym (c .before .is-crowded .ensures) ∙ c .if3 .left);
+    }
 
 take-sets-requires : tie.Need-take-sets-requires
 take-sets-requires c κs =
-    let k = c .before .before .before .before .before .before in
-    let U = used (k .before .before) in (U .form, sets-of _ _ _ U _ (k .site-sets .ensures))
+    let e = c .before .before in
+    let k = e .before .before .before .before .before .before .before .before in
+    (used (k .before .before) .form, fitting e)
 
 merge-run-requires : tie.Need-merge-run-requires
 merge-run-requires c κs =
     let t = c .before .before .before in
-    let k = t .before .before .before .before .before .before .before in
+    let e = t .before .before .before in
+    let k = e .before .before .before .before .before .before .before .before in
     prepared-used _ _ _ (used (k .before .before)) _ (k .site-sets .ensures) _
-    (t .take-sets .ensures)
+    (t .take-sets .ensures) (fitting e)
 
 snapshot-at-requires : tie.Need-snapshot-at-requires
 snapshot-at-requires c κs =
-    let t = c .before .before .before .before .before .before in
-    let k = t .before .before .before .before .before .before .before in
+    let e = c .before .before .before .before .before .before .before .before .before in
+    let k = e .before .before .before .before .before .before .before .before in
     let U = used (k .before .before) in (form-area _ _ (U .form) .ranged, U .run)
 
 held-mask-requires : tie.Need-held-mask-requires
@@ -101,22 +150,24 @@ held-mask-requires c κs =
     let n = c .before in
     let m = n .before .before .before in
     let t = m .before .before .before .before in
-    let k = t .before .before .before .before .before .before .before in
+    let e = t .before .before .before in
+    let k = e .before .before .before .before .before .before .before .before in
     rw (n .snapshot-at .ensures, m .merge-run .kept .0, t .take-sets .kept .0)
     (snapshot-in-place _ _ _ (used (k .before .before)))
 
-returns-3 : tie.Need-returns-3
+returns-4 : tie.Need-returns-4
 unfolding answeredWords
-returns-3 c =
+returns-4 c =
     let n = c .before .before in
     let m = n .before .before .before in
     let t = m .before .before .before .before in
-    let k = t .before .before .before .before .before .before .before in
+    let e = t .before .before .before in
+    let k = e .before .before .before .before .before .before .before .before in
     let U = used (k .before .before) in
-    let e = k .site-sets .ensures in
-    prepare-done _ _ _ U (free (t .before .before .before)) _ _
-    (prepared-left _ _ _ U _ e _ (t .take-sets .ensures))
-    (prepared-fits _ _ _ U _ e _ (t .take-sets .ensures)) (m .merge-run .ensures)
+    let found = k .site-sets .ensures in
+    prepare-done _ _ _ U (free e) _ _
+    (prepared-left _ _ _ U _ found _ (t .take-sets .ensures) (fitting e))
+    (prepared-fits _ _ _ U _ found _ (t .take-sets .ensures) (fitting e)) (m .merge-run .ensures)
     _ (c .held-mask .result) (n .snapshot-at .ensures) (c .held-mask .ensures)
 
 pub prepare-spec : {M : Type 1} → statement M
@@ -133,9 +184,13 @@ prepare-spec =
     (λ c. search needs)
     returns-2
     (λ c. search needs)
+    is-crowded-requires
+    (λ c. search needs)
+    returns-3
+    (λ c. search needs)
     take-sets-requires
     merge-run-requires
     snapshot-at-requires
     held-mask-requires
     (λ c. search needs)
-    returns-3)
+    returns-4)

@@ -1,13 +1,11 @@
 -- `try_at` tests the causes of the run, finds what is to be fetched and T, tests it, and finds C.
 -- Assumes nothing.
 use mathlib.Core.Path.{_≡_, sym, ap, _∙_}
-use mathlib.Core.Bool.{Bool}
 use Prim.Native.Nat.{_<_, _^_}
 use borrow.Author.Needs.{needs}
 use native.Mathlib.Omega.{arith}
 use Rattle.words.proofs.Bools.{ne-eqb}
 use Rattle.masks.proofs.Sets.{mask-lt}
-use Rattle.model.specs.Outcome.{refuse}
 use Rattle.model.specs.Step.{jobCause, stepCause}
 use Rattle.model.proofs.Steps.{step-below}
 use Rattle.layout.specs.Reading.{storeOf}
@@ -85,14 +83,15 @@ taken-low : (c : tie.After-find-taken)
     .args .z .keys
 taken-low c = rw (c .find-taken .ensures) (mask-lt _ _ _ (omega arith))
 
-is-lacked-requires : tie.Need-is-lacked-requires
-is-lacked-requires c κs =
-    let e = c .before .before .before .before in (ready e .0 .form, taken-low c)
+taking-cause-requires : tie.Need-taking-cause-requires
+taking-cause-requires c κs =
+    let v = c .before .before .before in
+    let e = v .before in ((ready e .0 .form, known v .site), taken-low c)
 
 -- What is left where the causes before it do not hold.
-tested : (c : tie.After-is-lacked)
+tested : (c : tie.After-taking-cause)
     → let a = c .before .before .before .before .before .before .before .before .args in
-    stepCause (storeOf (a .words .now)) (a .r) (a .j) ≡ refuse (c .is-lacked .result) 7 0
+    stepCause (storeOf (a .words .now)) (a .r) (a .j) ≡ c .taking-cause .result
 tested c =
     let t = c .before in
     let n = t .before in
@@ -104,16 +103,14 @@ tested c =
     cause-last (a .words .now) (a .z) (a .r) (a .j) (a .snapshot) (ready e .0) (ready e .1)
     (v .visit-of .result) (v .visit-of .ensures) (a .read) (s .pre .1) (w .lacking .result)
     (n .lacking2 .result) (w .lacking .ensures) (n .lacking2 .ensures)
-    (t .find-taken .result) (c .is-lacked .result) (free e) (t .find-taken .ensures)
-    (c .is-lacked .ensures)
+    (t .find-taken .result) (free e) (t .find-taken .ensures)
+    ∙ sym (c .taking-cause .ensures)
 
 returns-2 : tie.Need-returns-2
-unfolding refuse
 returns-2 c =
     let u = c .before in
     let a = u .before .before .before .before .before .before .before .before .args in
-    tried-no _ (a .r) (a .j) _ 7 (tested u ∙ ap (λ (b : Bool). refuse b 7 0) (c .if2 .taken))
-    (λ e. absurd (omega arith))
+    tried-no _ (a .r) (a .j) _ _ (tested u) (c .if2 .taken)
 
 -- ---- C
 
@@ -126,7 +123,6 @@ draw-set-requires c κs =
     (record { target-in = L .area; first-in = K .master; second-in = K .cache }, wanted-low w)
 
 returns-3 : tie.Need-returns-3
-unfolding refuse
 returns-3 c =
     let i = c .before in
     let u = i .before in
@@ -142,7 +138,7 @@ returns-3 c =
     (w .lacking .result) (n .lacking2 .result) (w .lacking .ensures) (n .lacking2 .ensures)
     (t .find-taken .result) (t .find-taken .ensures) in
     tried-yes _ (a .r) (a .j) _ _ _
-    (tested u ∙ ap (λ (b : Bool). refuse b 7 0) (i .if2 .left)) (v .visit-of .ensures)
+    (tested u ∙ i .if2 .left) (v .visit-of .ensures)
     (trial-found (a .words .now) (a .z) (a .r) (a .j) (a .snapshot) (ready e .0) (ready e .1)
     (v .visit-of .result) (v .visit-of .ensures) (a .read) (s .pre .1) (w .lacking .result)
     (n .lacking2 .result) (w .lacking .ensures) (n .lacking2 .ensures)
@@ -158,7 +154,7 @@ try-at-spec =
     lacking-requires
     lacking-requires-2
     find-taken-requires
-    is-lacked-requires
+    taking-cause-requires
     returns-2
     draw-set-requires
     returns-3)

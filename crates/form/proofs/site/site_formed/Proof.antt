@@ -1,4 +1,4 @@
--- `site_formed` tests the cache, and the mark behind it.
+-- `site_formed` tests the cache, and the mark and the allowance behind it.
 -- Assumes nothing.
 use borrow.Author.Needs.{needs}
 use native.Mathlib.Omega.{arith}
@@ -13,29 +13,38 @@ stale-mask-requires c κs =
     let s = c .before .before in
     (s .pre .0, site-cache _ (s .args .z) (s .args .site) (s .pre .1))
 
+allowance-formed-requires : tie.Need-allowance-formed-requires
+allowance-formed-requires c κs = c .before .before .before .pre .1
+
 place-formed-requires : tie.Need-place-formed-requires
 place-formed-requires c κs =
-    let s = c .before .before .before in site-cache _ (s .args .z) (s .args .site) (s .pre .1)
+    let s = c .before .before .before .before in
+    site-cache _ (s .args .z) (s .args .site) (s .pre .1)
 
 mul-result : tie.Need-mul-result
 mul-result c =
-    let s = c .before .before .before .before in
-    rw (c .before .before .stale-at .ensures)
+    let t = c .before .before .before in
+    let s = t .before .before in
+    rw (t .stale-at .ensures)
     (omega (arith, mark-in _ (s .args .z) (s .args .site) (s .pre .1) .0))
 
 shared-slice-read-result : tie.Need-shared-slice-read-result
 shared-slice-read-result c =
-    let s = c .before .before .before .before .before in
-    rw (c .before .before .before .stale-at .ensures)
-    (mark-in _ (s .args .z) (s .args .site) (s .pre .1) .1)
+    let t = c .before .before .before .before in
+    let s = t .before .before in
+    rw (t .stale-at .ensures) (mark-in _ (s .args .z) (s .args .site) (s .pre .1) .1)
 
 returns : tie.Need-returns
 unfolding siteFormed readSite
 returns c =
+    let p = c .before in
+    let n = p .before in
+    let m = n .before in
     rw (
-      c .before .place-formed .ensures,
-      c .before .before .stale-mask .ensures,
-      c .before .before .before .stale-at .ensures,
+      p .place-formed .ensures,
+      n .allowance-formed .ensures,
+      m .stale-mask .ensures,
+      m .before .stale-at .ensures,
     )
 
 pub site-formed-spec : {M : Type 1} → statement M
@@ -44,6 +53,7 @@ site-formed-spec =
     (tie.spec
     (λ c κs. search needs)
     stale-mask-requires
+    allowance-formed-requires
     place-formed-requires
     mul-result
     shared-slice-read-result

@@ -22,18 +22,20 @@ abbrev μ-loop : tie.MeasureT-loop
 loop-holds : tie.Need-loop-holds Inv-loop μ-loop
 loop-holds c =
     let s = c .before .before in
-    (omega arith, refl, sites-start (s .args .words .now) (s .args .z) (s .pre .0) _)
+    let a = s .args in
+    (omega arith, refl, sites-start (a .words .now) (a .z) (s .pre .0) _ (s .pre .1 .fits))
 
 -- There is a mask for the site.
 inside : (l : tie.At-loop Inv-loop μ-loop) → let s = l .before .before .before in
     s .args .z .sites ≤ length (s .args .sets .now)
-inside l = l .before .before .before .pre .1 .long
+inside l = l .before .before .before .pre .1 .sets .long
 
 take-keys-requires : tie.Need-take-keys-requires Inv-loop μ-loop
 take-keys-requires c κs =
     let l = c .before .before .before in
-    let s = l .before .before .before in (
-      sites-form (s .args .words .now) (s .args .z) (s .pre .0) _ (l .loop .o) (omega arith)
+    let s = l .before .before .before in
+    let a = s .args in (
+      sites-form (a .words .now) (a .z) (s .pre .0) _ (s .pre .1 .fits) (l .loop .o) (omega arith)
           (l .loop .words) (l .loop .inv .2),
       omega arith,
     )
@@ -42,10 +44,11 @@ loop-again : tie.Need-loop-again Inv-loop μ-loop
 loop-again c =
     let k = c .before .before in
     let l = k .before .before .before .before in
-    let s = l .before .before .before in (
+    let s = l .before .before .before in
+    let a = s .args in (
       omega arith,
       k .take-keys .kept .0 ∙ l .loop .inv .1,
-      sites-turn (s .args .words .now) (s .args .z) (s .pre .0) _ (l .loop .o) (omega arith)
+      sites-turn (a .words .now) (a .z) (s .pre .0) _ (s .pre .1 .fits) (l .loop .o) (omega arith)
           (l .loop .words) (l .loop .inv .2) _ (k .take-keys .ensures),
     )
 
