@@ -1,5 +1,5 @@
 #!/usr/bin/env bash
-# When and how the command builds the program: on copies of it with a small tree of sources, spaces in its path, and an rt
+# When and how the command builds its programs: on copies of it with a small tree of sources, spaces in its path, and an rt
 # that proves nothing (tests/fake/rt). Usage: tests/build.sh [TRIAL..], all trials without one. Wants a built program.
 set -u
 cd "$(dirname "$0")/.." || exit 2
@@ -19,12 +19,13 @@ bad() {
 
 # A fresh copy, and its program built; the working folder is the copy.
 begin() {
-  cd "$work" && rm -rf "$FAKE" "a desk" && mkdir -p "$FAKE" "a desk/crates/one/src" "a desk/crates/sheetdesk/src" || exit 2
+  cd "$work" && rm -rf "$FAKE" "a desk" && mkdir -p "$FAKE" "a desk/crates/"{one,sheetdesk,histories}/src || exit 2
   cd "a desk" && cp -R "$REAL/sheetdesk" "$REAL/tools" "$REAL/docs" "$REAL/embed" "$REAL/scripts" . || exit 2
   echo "fn one() {}" >crates/one/src/lib.rt
   echo "fn two() {}" >crates/one/src/two.rt
   echo "fn main() {}" >crates/sheetdesk/src/main.rt
-  printf 'one:\nsheetdesk: one\n' >crates.txt
+  echo "fn main() {}" >crates/histories/src/main.rt
+  printf 'one:\nsheetdesk: one\nhistories: one\n' >crates.txt
   answers ./sheetdesk
   : >"$FAKE/calls"
 }
@@ -55,6 +56,24 @@ trial_content() {
   rm crates/one/src/two.rt && answers ./sheetdesk && built 1 "a source that is gone"
   rm target/bin/sheetdesk && answers ./sheetdesk && built 1 "a program that is gone"
   answers ./sheetdesk && built 0 "all built"
+}
+
+# The second program: built when it is asked for, and for itself.
+trial_histories() {
+  begin
+  lists && built 1 "the listing, the first time"
+  lists && built 0 "the listing again"
+  answers ./sheetdesk && built 0 "the program, after the listing"
+  echo "// more" >>crates/one/src/lib.rt
+  lists && built 1 "the listing, with a source that differs"
+  answers ./sheetdesk && built 1 "the program, with a source that differs"
+  rm target/bin/histories && lists && built 1 "a listing that is gone"
+}
+
+# The command must list every small history.
+lists() {
+  ./sheetdesk --histories >"$work/out" 2>"$work/err" || bad "--histories: exit status $?"
+  cmp -s "$work/out" "$REAL/crates/histories/stdout" || bad "--histories: not the listing"
 }
 
 # The best of some starts in the checkout itself, with all its sources: another program may slow any of them.
@@ -151,7 +170,7 @@ trial_interrupted() {
 }
 
 trials=("$@")
-[ $# -gt 0 ] || trials=(content quick two_at_once anywhere read_only failed interrupted)
+[ $# -gt 0 ] || trials=(content histories quick two_at_once anywhere read_only failed interrupted)
 for trial in "${trials[@]}"; do
   (trial_"$trial") || exit 1
 done

@@ -41,7 +41,7 @@ trial_options() {
   for option in -h --help; do
     want 0 "$option" ./sheetdesk "$option"
     told "docs/USER.md"
-    [ "$(wc -l <"$work/out")" -le 14 ] || bad "$option: more than a dozen lines"
+    [ "$(wc -l <"$work/out")" -le 15 ] || bad "$option: more than fifteen lines"
   done
   want 0 "--man" ./sheetdesk --man
   told "^REFUSALS"
@@ -49,6 +49,33 @@ trial_options() {
     bad "--man: over 80 columns, or marks of Markdown"
   want 0 "--version" ./sheetdesk --version
   told "^sheetdesk [0-9]*, layout [0-9]*, toolchain [a-z]"
+}
+
+# The second program: every script of one to three calls.
+trial_histories() {
+  want 0 "--histories" ./sheetdesk --histories
+  same crates/histories/stdout "--histories"
+  want 0 "--histories without standard input" bash -c './sheetdesk --histories <&-'
+  same crates/histories/stdout "--histories without standard input"
+  want 2 "--histories with a file" ./sheetdesk --histories scripts/case-a.txt
+  said "stands alone"
+  want 2 "--histories with --strict" ./sheetdesk --strict --histories
+  want 2 "--histories on a full disk" bash -c './sheetdesk --histories >/dev/full'
+  said "sheetdesk: not all lines were written"
+  want 141 "--histories to head" env --default-signal=PIPE bash -c './sheetdesk --histories | head -n 1; exit "${PIPESTATUS[0]}"'
+  head -n 1 crates/histories/stdout | cmp -s - "$work/out" || bad "--histories to head: not the first line"
+  [ ! -s "$work/err" ] || bad "--histories to head: a word"
+}
+
+# As it is installed: without the second program, and with one that is killed on the way.
+trial_installed_histories() {
+  mkdir -p "$work/installed/target/bin" && cp sheetdesk "$work/installed/" || exit 2
+  want 2 "--histories, installed" "$work/installed/sheetdesk" --histories
+  said "an installed command has no listing"
+  local fake=$work/installed/target/bin/histories
+  printf '#!/bin/sh\nhead -n 3 %q\nkill -KILL $$\n' "$PWD/crates/histories/stdout" >"$fake" && chmod +x "$fake" || exit 2
+  want 2 "--histories, killed" "$work/installed/sheetdesk" --histories
+  said "sheetdesk: the program ended with status 137"
 }
 
 # A failed write or read: status 2 and a message. Whoever takes the answers may stop.
@@ -255,7 +282,7 @@ trial_readme() {
 }
 
 trials=("$@")
-[ $# -gt 0 ] || trials=(files options lost strict speed echo prompt terminal signal broken explained allowances leading refusals line_ends examples readme)
+[ $# -gt 0 ] || trials=(files options histories installed_histories lost strict speed echo prompt terminal signal broken explained allowances leading refusals line_ends examples readme)
 for trial in "${trials[@]}"; do
   (trial_"$trial") || exit 1
 done

@@ -1,6 +1,7 @@
 # Sourced by sheetdesk and tools/install.sh: proves and builds what isn't that of the sources. What decides is what the
-# sources hold, not when they were written. Wants $top, the repository, $program and a function `fail`.
-built=$top/target/sheetdesk.built
+# sources hold, not when they were written. Wants $top, the repository, $name, the program's crate, $program and a
+# function `fail`.
+built=$top/target/$name.built
 library=$top/target/staticlib/libsheetdesk_c.a
 log=$top/target/sheetdesk.log
 
@@ -10,7 +11,7 @@ sources() {
     sha256sum)
 }
 
-# state SOURCES: what target/sheetdesk.built must say of a program that is built from them.
+# state SOURCES: what target/$name.built must say of a program that is built from them.
 state() {
   printf 'sources %s\nprogram %s\n' "$1" "$(sha256sum <"$program")"
 }
@@ -96,12 +97,12 @@ build_program() {
   if ! is_current; then
     command -v rt >/dev/null || fail "the Rattle toolchain's command rt is not on the PATH: it builds the program"
     now=$(sources)
-    number=$(crates sheetdesk)
+    number=$(crates "$name")
     # rt goes by its stamps, and doesn't see that a program is gone or another one.
-    if ! [ -x "$program" ] || grep -qxF "sources $now" "$built" 2>/dev/null; then rm -f "$top/target/stamp/sheetdesk"; fi
+    if ! [ -x "$program" ] || grep -qxF "sources $now" "$built" 2>/dev/null; then rm -f "$top/target/stamp/$name"; fi
     rm -f "$built"
     echo "sheetdesk: proving and building, $number crates; about six minutes the first time" >&2
-    prove "$number" check sheetdesk && [ -x "$program" ] || fail "the build failed: $(fault); target/sheetdesk.log has all that rt said"
+    prove "$number" check "$name" && [ -x "$program" ] || fail "the build failed: $(fault); target/sheetdesk.log has all that rt said"
     { state "$now" && echo "toolchain $(rt version)"; } >"$built.new" && mv "$built.new" "$built" || fail "can't write $built"
   fi
   exec 9>&-

@@ -13,7 +13,8 @@ set -u
 unset CDPATH
 cd "$(dirname -- "${BASH_SOURCE[0]}")/.." || exit 2
 top=$PWD
-program=$top/target/bin/sheetdesk
+name=sheetdesk
+program=$top/target/bin/$name
 library=$top/target/staticlib/libsheetdesk_c.a
 
 fail() {

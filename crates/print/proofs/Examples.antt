@@ -4,7 +4,7 @@ use mathlib.Core.Path.{_≡_, refl}
 use mathlib.Core.List.{[], _∷_}
 use Rattle.text.specs.Bytes.{bytesOf}
 use Rattle.text.specs.Decimal.{digitsOf, decimalOf}
-use Rattle.print.specs.Print.{answerWord, numbersText, answerText, unreadText}
+use Rattle.print.specs.Print.{answerWord, numbersText, answerBody, answerText, unreadText}
 
 -- Case A's kinds of answers, a broken run, the largest number, and a line that is unread.
 pub answers :
@@ -17,5 +17,5 @@ pub answers :
     × (answerText (1 ∷ 1 ∷ []) ≡ bytesOf "broken 1\n")
     × (answerText (0 ∷ 4294967295 ∷ []) ≡ bytesOf "ok 4294967295\n")
     × (unreadText ≡ bytesOf "unread\n")
-unfolding answerText answerWord numbersText unreadText decimalOf digitsOf
+unfolding answerText answerBody answerWord numbersText unreadText decimalOf digitsOf
 answers = (refl, refl, refl, refl, refl, refl, refl, refl, refl)

@@ -1,6 +1,7 @@
 -- Laws of an answer's text.
 -- table-word, no-word: an answer's first word. numbers-more, numbers-end: the
--- numbers from place i on, one by one. answer-parts: an answer's text put in three parts.
+-- numbers from place i on, one by one. body-parts: an answer's text put in two parts; line-parts:
+-- its line.
 -- Assumes nothing.
 use mathlib.Core.Path.{_≡_, refl, sym}
 use mathlib.Core.List.{List, [], _∷_, _++_, map, append-assoc, append-nil}
@@ -13,7 +14,7 @@ use Rattle.text.specs.Decimal.{decimalOf}
 use Rattle.text.specs.Fields.{inFirst, fieldsOf, firstOf}
 use Rattle.text.proofs.Puts.{put-both}
 use Rattle.print.specs.declared.Word.{Word}
-use Rattle.print.specs.Print.{answerWords, answerWord, numbersText, answerText}
+use Rattle.print.specs.Print.{answerWords, answerWord, numbersText, answerBody, answerText}
 
 -- The code's table: spaces fill what a word leaves of its row.
 abbrev row : List ℕ → Word
@@ -42,11 +43,13 @@ pub numbers-end : (m l : List ℕ) (i : ℕ) → length l ≤ i → m ++ numbers
 unfolding numbersText
 numbers-end m l i h = rw (drop-of-length-le l h, append-nil)
 
-pub answer-parts : (m l : List ℕ) {a b r : List ℕ} → 0 < length l
-    → a ≡ m ++ answerWord (getD l 0 0) → b ≡ a ++ numbersText (drop 1 l) → r ≡ b ++ (10 ∷ [])
+pub body-parts : (m l : List ℕ) {a r : List ℕ} → 0 < length l
+    → a ≡ m ++ answerWord (getD l 0 0) → r ≡ a ++ numbersText (drop 1 l) → r ≡ m ++ answerBody l
+unfolding answerBody
+body-parts m [] h e f = absurd (omega arith)
+body-parts m (t ∷ ns) h e f = put-both m (answerWord t) (numbersText ns) e f
+
+pub line-parts : (m l : List ℕ) {a r : List ℕ} → a ≡ m ++ answerBody l → r ≡ a ++ (10 ∷ [])
     → r ≡ m ++ answerText l
 unfolding answerText
-answer-parts m [] h e f g = absurd (omega arith)
-answer-parts m (t ∷ ns) h e f g =
-    put-both m (answerWord t ++ numbersText ns) (10 ∷ [])
-    (put-both m (answerWord t) (numbersText ns) e f) g
+line-parts m l e f = put-both m (answerBody l) (10 ∷ []) e f

@@ -1,7 +1,7 @@
 -- The program's answers: "One line out for each: `ok` and the answer's numbers, `broken m` or
 -- `refused n`, single spaces." Document 02's calls have words of their own.
--- lineRoom: how long a line is. answerWords: the words. answerText: the line of an answer in
--- words. unreadText: the line `unread`.
+-- lineRoom, bodyRoom: how long a line is. answerWords: the words. answerBody: the text of an
+-- answer in words; answerText: its line. unreadText: the line `unread`.
 -- Assumes nothing.
 use mathlib.Core.List.{List, [], _∷_, _++_}
 use Prim.Native.Nat.{ℕ}
@@ -13,6 +13,10 @@ use Rattle.text.specs.Decimal.{decimalOf}
 -- after a space, and the line's end need 372.
 abbrev pub lineRoom : ℕ
 lineRoom = 384
+
+-- The same without the line's end.
+abbrev pub bodyRoom : ℕ
+bodyRoom = 383
 
 -- The words of an answer's first number: 0 ok, 1 broken, 2 refused; explain's 3 clear, 4 path.
 abbrev pub answerWords : List (List ℕ)
@@ -28,11 +32,14 @@ unfoldable pub numbersText : List ℕ → List ℕ
 numbersText [] = []
 numbersText (n ∷ ns) = (32 ∷ decimalOf n) ++ numbersText ns
 
--- The words of an answer are those of crate model's `answer`: a first word, then the numbers. A
--- line feed (10) ends the line.
+-- The words of an answer are those of crate model's `answer`: a first word, then the numbers.
+unfoldable pub answerBody : List ℕ → List ℕ
+answerBody [] = []
+answerBody (t ∷ ns) = answerWord t ++ numbersText ns
+
+-- A line feed (10) ends the line.
 unfoldable pub answerText : List ℕ → List ℕ
-answerText [] = 10 ∷ []
-answerText (t ∷ ns) = answerWord t ++ numbersText ns ++ (10 ∷ [])
+answerText ws = answerBody ws ++ (10 ∷ [])
 
 unfoldable pub unreadText : List ℕ
 unreadText = bytesOf "unread\n"

@@ -5,7 +5,7 @@ ghost use Prim.Native.Nat.{_+_, _*_, _≤_, _<_};
 ghost use lib.ListN.{length, take, drop};
 ghost use Rattle.answers.specs.Answers.{maxAnswer};
 ghost use Rattle.text.specs.Decimal.{decimalOf};
-ghost use Rattle.print.specs.Print.{lineRoom, answerWord, numbersText, answerText, unreadText};
+ghost use Rattle.print.specs.Print.{lineRoom, bodyRoom, answerWord, numbersText, answerBody, answerText, unreadText};
 
 // How much room a line of an answer needs.
 pub struct Line {}
@@ -69,7 +69,7 @@ fn put_spaced(out: &mut [u8], at: usize, n: u32) -> usize
 }
 
 // All but the first of an answer's words, each after a space.
-fn put_numbers(out: &mut [u8], at: usize, answer: &[u32]) -> usize
+pub fn put_numbers(out: &mut [u8], at: usize, answer: &[u32]) -> usize
     requires { ⌜ (0 < length (now answer)) × (at + 11 * length (now answer) ≤ length (now out)) ⌝ }
     ensures { λ r. ⌜ (r ≤ at + 11 * length (now (answer .entry)))
         × (take r (now (out .exit))
@@ -84,7 +84,19 @@ fn put_numbers(out: &mut [u8], at: usize, answer: &[u32]) -> usize
     end
 }
 
-// Puts an answer's line after the first at bytes of out, and answers how many there are then.
+// Puts an answer's text after the first at bytes of out, and answers how many there are then.
+pub fn put_answer(out: &mut [u8], at: usize, answer: &[u32]) -> usize
+    requires { ⌜ at + bodyRoom ≤ length (now out) ⌝ }
+    requires { ⌜ (0 < length (now answer)) × (length (now answer) ≤ maxAnswer) ⌝ }
+    ensures { λ r. ⌜ take r (now (out .exit))
+        ≡ take at (now (out .entry)) ++ answerBody (now (answer .entry)) ⌝ }
+    ensures { λ r. ⌜ r ≤ at + bodyRoom ⌝ }
+{
+    let word_end = put_word(out, at, answer[0]);
+    put_numbers(out, word_end, answer)
+}
+
+// Puts an answer's line: its text and the line's end.
 pub fn print_answer(out: &mut [u8], at: usize, answer: &[u32]) -> usize
     requires { ⌜ at + lineRoom ≤ length (now out) ⌝ }
     requires { ⌜ (0 < length (now answer)) × (length (now answer) ≤ maxAnswer) ⌝ }
@@ -92,8 +104,7 @@ pub fn print_answer(out: &mut [u8], at: usize, answer: &[u32]) -> usize
         ≡ take at (now (out .entry)) ++ answerText (now (answer .entry)) ⌝ }
     ensures { λ r. ⌜ r ≤ at + lineRoom ⌝ }
 {
-    let word_end = put_word(out, at, answer[0]);
-    let end = put_numbers(out, word_end, answer);
+    let end = put_answer(out, at, answer);
     text::put_byte(out, end, 10)
 }
 

@@ -1,0 +1,12 @@
+pub mod CallOrder
+pub mod Counts
+pub mod Members
+pub mod Listed
+pub mod Strict
+pub mod Totals
+pub mod Orders
+pub mod Positions
+pub mod Chunks
+pub mod Desks
+pub mod Examples
+pub mod Plain

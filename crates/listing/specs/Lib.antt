@@ -1,0 +1,3 @@
+pub mod Scripts
+pub mod Calls
+pub mod Lines
