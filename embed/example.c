@@ -31,7 +31,7 @@ static void case_a(void)
     static const uint32_t reader[] = {0, 1, 0};
     static const uint32_t two[] = {0, 1, 0, 1, 2, 1};
 
-    DUE("new 2 2 2 1", sheetdesk_new(DESK, 2, 2, 2, 1, ANSWER), SHEETDESK_OK, 100);
+    DUE("new 2 2 2 1", sheetdesk_new(DESK, 2, 2, 2, 1, ANSWER), SHEETDESK_OK, 101);
     DUE("open 0 0 0 0", sheetdesk_open(DESK, 0, empty, LEN(empty), ANSWER), SHEETDESK_OK, 1);
     DUE("step 0 0", sheetdesk_step(DESK, 0, 0, ANSWER), SHEETDESK_OK, 0, 0, 0);
     DUE("issue 0 0 3", sheetdesk_issue(DESK, 0, 0, 3, ANSWER), SHEETDESK_OK, 1);
@@ -99,6 +99,9 @@ static void explained(void)
     DUE("stale 1", sheetdesk_stale(other, LEN(other), 1, ANSWER), SHEETDESK_OK, 0);
     DUE("stale 2", sheetdesk_stale(other, LEN(other), 2, ANSWER), SHEETDESK_REFUSED,
         SHEETDESK_OUT_OF_RANGE);
+    DUE("pick", sheetdesk_pick(other, LEN(other), ANSWER), SHEETDESK_NOTHING);
+    sheetdesk_open(other, LEN(other), 1, empty, LEN(empty), ANSWER);
+    DUE("pick", sheetdesk_pick(other, LEN(other), ANSWER), SHEETDESK_OK, 1, 0);
     DUE("allow 1 1", sheetdesk_allow(other, LEN(other), 1, 1, ANSWER), SHEETDESK_OK, 0);
     DUE("fetch 1 1", sheetdesk_fetch(other, LEN(other), 1, 1, ANSWER), SHEETDESK_REFUSED,
         SHEETDESK_OVER_ALLOWANCE);

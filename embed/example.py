@@ -9,7 +9,7 @@ from sheetdesk import Desk, Job, Look, Refusal, Standing, card, compare, covers,
 def case_a(desk):
     """The calls of case A and their answers, a line each."""
     return [
-        (desk.new(2, 2, 2, 1), "ok 100"),
+        (desk.new(2, 2, 2, 1), "ok 101"),
         (desk.open(0, [Job(0, 0, 0)]), "ok 1"),
         (desk.step(0, 0), "ok 0 0 0"),
         (desk.issue(0, 0, 3), "ok 1"),
@@ -36,7 +36,7 @@ def explained(desk):
     """A run has read sheet 0, both sheets are saved together, and its next job reads sheet 1. Then office 0 has an older
     sheet 0, and office 1 has none."""
     return [
-        (desk.new(2, 2, 2, 2), "ok 140"),
+        (desk.new(2, 2, 2, 2), "ok 141"),
         (desk.open(1, [Job(0, 0, 0)]), "ok 1"),
         (desk.step(1, 0), "ok 0 0 0"),
         (desk.issue(1, 0, 1), "ok 1"),
@@ -52,6 +52,9 @@ def explained(desk):
         (desk.stale(0), "ok 1"),
         (desk.stale(1), "ok 0"),
         (desk.stale(2), "refused 3"),
+        (desk.pick(), "nothing"),
+        (desk.open(1, [Job(0, 0, 0)]), "ok 1"),
+        (desk.pick(), "ok 1 0"),
         (desk.allow(1, 1), "ok 0"),
         (desk.fetch(1, 1), "refused 12"),
         (desk.allow(1, 2), "ok 0"),
@@ -62,7 +65,7 @@ def explained(desk):
 def rivals(desk):
     """A writer saves a sheet without having read the other's: both lead, until one has read both."""
     return [
-        (desk.new(1, 2, 1, 1), "ok 58"),
+        (desk.new(1, 2, 1, 1), "ok 59"),
         (desk.open(0, [Job(0, 0, 0)]), "ok 1"),
         (desk.step(0, 0), "ok 0 0 0"),
         (desk.issue(0, 0, 1), "ok 1"),

@@ -13,7 +13,7 @@ fn job(office: u32, reads: u32, upstream: u32) -> Job {
 /// The calls of case A and their answers, a line each.
 fn case_a(desk: &mut Desk) -> Vec<(Answer, &'static str)> {
     vec![
-        (desk.new(2, 2, 2, 1), "ok 100"),
+        (desk.new(2, 2, 2, 1), "ok 101"),
         (desk.open(0, &[job(0, 0, 0)]), "ok 1"),
         (desk.step(0, 0), "ok 0 0 0"),
         (desk.issue(0, 0, 3), "ok 1"),
@@ -40,7 +40,7 @@ fn case_a(desk: &mut Desk) -> Vec<(Answer, &'static str)> {
 /// office 0 has an older sheet 0, and office 1 has none.
 fn explained(desk: &mut Desk) -> Vec<(Answer, &'static str)> {
     vec![
-        (desk.new(2, 2, 2, 2), "ok 140"),
+        (desk.new(2, 2, 2, 2), "ok 141"),
         (desk.open(1, &[job(0, 0, 0)]), "ok 1"),
         (desk.step(1, 0), "ok 0 0 0"),
         (desk.issue(1, 0, 1), "ok 1"),
@@ -56,6 +56,9 @@ fn explained(desk: &mut Desk) -> Vec<(Answer, &'static str)> {
         (desk.stale(0), "ok 1"),
         (desk.stale(1), "ok 0"),
         (desk.stale(2), "refused 3"),
+        (desk.pick(), "nothing"),
+        (desk.open(1, &[job(0, 0, 0)]), "ok 1"),
+        (desk.pick(), "ok 1 0"),
         (desk.allow(1, 1), "ok 0"),
         (desk.fetch(1, 1), "refused 12"),
         (desk.allow(1, 2), "ok 0"),
@@ -66,7 +69,7 @@ fn explained(desk: &mut Desk) -> Vec<(Answer, &'static str)> {
 /// A writer saves a sheet without having read the other's: both lead, until one has read both.
 fn rivals(desk: &mut Desk) -> Vec<(Answer, &'static str)> {
     vec![
-        (desk.new(1, 2, 1, 1), "ok 58"),
+        (desk.new(1, 2, 1, 1), "ok 59"),
         (desk.open(0, &[job(0, 0, 0)]), "ok 1"),
         (desk.step(0, 0), "ok 0 0 0"),
         (desk.issue(0, 0, 1), "ok 1"),

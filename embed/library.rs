@@ -27,6 +27,7 @@ pub fn call(desk: &mut [u32], call: &Call, answer: &mut [u32]) -> u32 {
             Call::Stale(office) => sheetdesk_stale(d, dn, *office, a, an),
             Call::Admit => sheetdesk_admit(d, dn, a, an),
             Call::Allow(office, number) => sheetdesk_allow(d, dn, *office, *number, a, an),
+            Call::Pick => sheetdesk_pick(d, dn, a, an),
             Call::Issue(run, writer, mask) => {
                 sheetdesk_issue(d, dn, *run, *writer, *mask, a, an)
             }

@@ -21,7 +21,7 @@
  *
  * Every call writes its answer's words and returns how many it wrote:
  *   0 and the answer's numbers (ok), 1 and a mask (broken, step alone), 2 and a number (refused),
- *   3 (clear) or 4 and sheets (path), explain alone.
+ *   3 (clear) or 4 and sheets (path), explain alone; 5 (nothing to do), pick alone.
  * An answer_len below SHEETDESK_ANSWER_WORDS returns 0, and nothing is changed. Words of the
  * answer's slice behind the written ones stay as they were. A refused call leaves every word of
  * the desk; words past the desk's total are never touched.
@@ -39,9 +39,9 @@ extern "C" {
 #endif
 
 /* The version of the calls: rises when one is added or changes what it takes, does or answers. */
-#define SHEETDESK_VERSION 7
+#define SHEETDESK_VERSION 8
 /* The version of the desk's words: rises when a desk of the same counts has other words. */
-#define SHEETDESK_LAYOUT 4
+#define SHEETDESK_LAYOUT 5
 /* The same two of the library that is linked: compare them with these. */
 uint32_t sheetdesk_version(void);
 uint32_t sheetdesk_layout(void);
@@ -49,7 +49,7 @@ uint32_t sheetdesk_layout(void);
 /* The length of a slice that holds any answer. */
 #define SHEETDESK_ANSWER_WORDS 40
 /* The words of the largest desk (32 sheets, 16 writers, 8 offices, 8 runs). */
-#define SHEETDESK_MOST_WORDS 288074
+#define SHEETDESK_MOST_WORDS 288075
 
 /* The words of a desk of k sheets, w writers, n offices and p runs, to be lent before new; 0 if
  * new refuses the counts. A constant if they are. */
@@ -58,10 +58,10 @@ uint32_t sheetdesk_layout(void);
          ? SHEETDESK_WORDS_OF((size_t)(k), (size_t)(w), (size_t)(n), (size_t)(p)) \
          : 0)
 /* The same for counts in range: header, then master, shelves and cards of k versions each, a
- * mark and an allowance for each shelf, a count and a past for each writer, and 28 words more for
- * each run. */
+ * mark and an allowance for each shelf, a count and a past for each writer, 28 words more for
+ * each run, and the last picked run. */
 #define SHEETDESK_WORDS_OF(k, w, n, p) \
-    (10 + (k) * (2 + (k) * (w)) * (1 + (n) + (p)) + 2 * (n) + (w) * (1 + (k) * (w)) + 28 * (p))
+    (10 + (k) * (2 + (k) * (w)) * (1 + (n) + (p)) + 2 * (n) + (w) * (1 + (k) * (w)) + 28 * (p) + 1)
 
 /* The answer's first word. */
 enum sheetdesk_outcome {
@@ -69,7 +69,8 @@ enum sheetdesk_outcome {
     SHEETDESK_BROKEN = 1,
     SHEETDESK_REFUSED = 2,
     SHEETDESK_CLEAR = 3,
-    SHEETDESK_PATH = 4
+    SHEETDESK_PATH = 4,
+    SHEETDESK_NOTHING = 5
 };
 
 /* The second word of a refusal. */
@@ -174,6 +175,14 @@ uint32_t sheetdesk_admit(const uint32_t *desk, size_t desk_len, uint32_t *answer
  * refused with 12, and nothing is changed; evict frees places. Ok: 0. Returns 2 words. */
 uint32_t sheetdesk_allow(uint32_t *desk, size_t desk_len, uint32_t office, uint32_t number,
                          uint32_t *answer, size_t answer_len);
+
+/* Picks the job to step next: going round the runs from the one after the last picked, the first
+ * open run with a job that isn't done and whose upstream jobs are; in it the lowest such job. Ok:
+ * run and job; returns 3 words. The run is kept as the last picked, nothing else is changed: the
+ * job isn't stepped, and its step may still be refused or break. Nothing: no open run has such a
+ * job; returns 1 word, and no word is changed. A run that stays open and has such a job is picked
+ * within as many picks as the desk has runs. */
+uint32_t sheetdesk_pick(uint32_t *desk, size_t desk_len, uint32_t *answer, size_t answer_len);
 
 /* How clock p stands against clock q. Returns an enum sheetdesk_standing; two empty clocks (both
  * lengths 0) are equal. */

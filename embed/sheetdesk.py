@@ -1,7 +1,7 @@
 """The sheet desk for Python: the library's calls by ctypes alone, with the names of the Rust wrapper.
 
     desk = sheetdesk.Desk(sheetdesk.words(2, 2, 2, 1))
-    print(desk.new(2, 2, 2, 1))                # ok 100
+    print(desk.new(2, 2, 2, 1))                # ok 101
     print(desk.open(0, [sheetdesk.Job(0, 0, 0)]))
 
 A Desk owns its words; each call gives an Answer, which prints as the program prints it. sheetdesk.h says what each
@@ -16,10 +16,10 @@ import enum
 import os
 from typing import NamedTuple
 
-VERSION = 7
-LAYOUT = 4
+VERSION = 8
+LAYOUT = 5
 ANSWER_WORDS = 40
-MOST_WORDS = 288074
+MOST_WORDS = 288075
 
 
 class Refusal(enum.IntEnum):
@@ -59,7 +59,8 @@ class Look(NamedTuple):
 
 
 class Answer(NamedTuple):
-    """What a call gives back: outcome "ok", "broken" or "refused", of explain "clear" or "path"; and its numbers."""
+    """What a call gives back: outcome "ok", "broken" or "refused", of explain "clear" or "path", of pick "nothing"; and
+    its numbers."""
 
     outcome: str
     numbers: tuple
@@ -100,7 +101,7 @@ class Job(NamedTuple):
 MASTER = (0, 0)
 
 # By an answer's first word.
-_OUTCOMES = ("ok", "broken", "refused", "clear", "path")
+_OUTCOMES = ("ok", "broken", "refused", "clear", "path", "nothing")
 
 
 def shelf(office):
@@ -117,7 +118,7 @@ def words(sheets, writers, offices, runs):
         if not 1 <= _word(count) <= most:
             return 0
     version, writer = 2 + sheets * writers, 1 + sheets * writers
-    return 10 + sheets * version * (1 + offices + runs) + 2 * offices + writers * writer + 28 * runs
+    return 10 + sheets * version * (1 + offices + runs) + 2 * offices + writers * writer + 28 * runs + 1
 
 
 def _word(number):
@@ -150,7 +151,7 @@ def _library():
     places = [os.path.join(here, "..", "..", "lib", name), os.path.join(here, "..", "target", "shared", name)]
     path = os.environ.get("SHEETDESK_LIBRARY") or next(filter(os.path.exists, places), name)
     library = ctypes.CDLL(path)
-    calls = "new open fetch evict prepare step explain issue drop look stale admit allow compare covers merge version layout"
+    calls = "new open fetch evict prepare step explain issue drop look stale admit allow pick compare covers merge version layout"
     for call in calls.split():
         getattr(library, "sheetdesk_" + call).restype = ctypes.c_uint32
     if (library.sheetdesk_version(), library.sheetdesk_layout()) != (VERSION, LAYOUT):
@@ -232,6 +233,10 @@ class Desk:
     def allow(self, office, number):
         """Sets how many sheets the office's shelf may hold."""
         return self._call("allow", office, number)
+
+    def pick(self):
+        """Which job to step next: run and job, or nothing."""
+        return self._call("pick")
 
 
 def compare(p, q):

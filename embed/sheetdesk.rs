@@ -9,16 +9,16 @@
 use std::fmt::{self, Write};
 
 /// The version of the calls: `SHEETDESK_VERSION` of the header.
-pub const VERSION: u32 = 7;
+pub const VERSION: u32 = 8;
 
 /// The version of the desk's words: `SHEETDESK_LAYOUT` of the header. Save it with the words.
-pub const LAYOUT: u32 = 4;
+pub const LAYOUT: u32 = 5;
 
 /// Words of a slice that holds any answer.
 pub const ANSWER_WORDS: usize = 40;
 
 /// The words of the largest desk (32 sheets, 16 writers, 8 offices, 8 runs).
-pub const MOST_WORDS: usize = 288_074;
+pub const MOST_WORDS: usize = 288_075;
 
 /// The words to lend for a desk of so many sheets, writers, offices and runs; 0 if new refuses
 /// the counts.
@@ -28,7 +28,7 @@ pub const fn words(sheets: u32, writers: u32, offices: u32, runs: u32) -> usize 
         return 0;
     }
     let (version, writer) = (2 + k * w, 1 + k * w);
-    10 + k * version * (1 + n + p) + 2 * n + w * writer + 28 * p
+    10 + k * version * (1 + n + p) + 2 * n + w * writer + 28 * p + 1
 }
 
 /// The exports as C has them: a slice is a pointer and a length in words.
@@ -58,6 +58,7 @@ pub mod exports {
         sheetdesk_stale(*const u32, office);
         sheetdesk_admit(*const u32);
         sheetdesk_allow(*mut u32, office, number);
+        sheetdesk_pick(*mut u32);
     }
 
     extern "C" {
@@ -103,6 +104,8 @@ pub enum Answer {
     Clear,
     /// Explain alone: the step would break the run, by these sheets.
     Path(Numbers),
+    /// Pick alone: no open run has a job that could be stepped.
+    Nothing,
 }
 
 /// Why a call is refused, by the header's names.
@@ -232,6 +235,7 @@ impl fmt::Display for Answer {
             Answer::Refused(refusal) => write!(out, "refused {}", refusal.number()),
             Answer::Clear => out.write_str("clear"),
             Answer::Path(sheets) => write!(out, "path{sheets}"),
+            Answer::Nothing => out.write_str("nothing"),
         }
     }
 }
@@ -313,6 +317,7 @@ fn answer(call: impl FnOnce(*mut u32, usize) -> u32) -> Answer {
         [1, mask, ..] => Answer::Broken(mask),
         [3, ..] => Answer::Clear,
         [4, ..] => Answer::Path(Numbers { words, count }),
+        [5, ..] => Answer::Nothing,
         [_, number, ..] => Answer::Refused(Refusal::of(number)),
     }
 }
@@ -392,6 +397,8 @@ impl<'a> Desk<'a> {
         drop(run) = sheetdesk_drop;
         /// Sets how many sheets the office's shelf may hold.
         allow(office, number) = sheetdesk_allow;
+        /// Which job to step next: run and job, or nothing.
+        pick() = sheetdesk_pick;
     }
 
     tells! {

@@ -76,7 +76,7 @@ static inline uint32_t sheetdesk_hand(const struct sheetdesk_record *record, con
                                       const uint32_t *numbers, size_t count, const uint32_t *list,
                                       size_t list_len, const uint32_t *answer, uint32_t words)
 {
-    static const char *const first[] = {"ok", "broken", "refused", "clear", "path"};
+    static const char *const first[] = {"ok", "broken", "refused", "clear", "path", "nothing"};
     struct sheetdesk_text text;
 
     if (record == NULL || record->take == NULL || words == 0)
@@ -134,6 +134,7 @@ SHEETDESK_RECORDED(look, const uint32_t, 3, place, number, sheet)
 SHEETDESK_RECORDED(stale, const uint32_t, 1, office)
 SHEETDESK_RECORDED_ALONE(admit, const uint32_t)
 SHEETDESK_RECORDED(allow, uint32_t, 2, office, number)
+SHEETDESK_RECORDED_ALONE(pick, uint32_t)
 
 static inline uint32_t sheetdesk_open_recorded(const struct sheetdesk_record *record,
                                                uint32_t *desk, size_t desk_len, uint32_t run,

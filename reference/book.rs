@@ -13,11 +13,13 @@ mod paths;
 pub mod rows;
 pub mod runs;
 pub mod saves;
+mod turns;
 
 use crate::text::Call;
 use ledger::Ledger;
 pub use runs::{Finished, Job, Run};
 use saves::Saves;
+use turns::Turns;
 
 pub struct Book {
     pub k: usize,
@@ -30,6 +32,7 @@ pub struct Book {
     /// How many sheets each shelf may hold, by the calls that set it.
     pub allowances: Vec<u32>,
     pub runs: Vec<Run>,
+    pub turns: Turns,
 }
 
 /// What a step finds: its reads that the card lacks, T of its fetch, C, and the shelf after the
@@ -63,6 +66,7 @@ impl Book {
             shelves: vec![empty(k); n as usize],
             allowances: vec![k as u32; n as usize],
             runs: (0..p).map(|_| Run::fresh(k)).collect(),
+            turns: Turns::after(p as usize - 1, p as usize),
         }
     }
 
@@ -99,6 +103,8 @@ impl Book {
                 self.allowances[*office as usize] = *number;
                 vec![0]
             }
+            // Nothing changes; whose turn it is goes by the desk's runs (`check_pick`).
+            Call::Pick => Vec::new(),
         }
     }
 

@@ -1,8 +1,8 @@
 //! Document 01's sheet desk over lent words, written the plainest way.
 //!
 //! Every call takes a buffer of any length and content and any numbers. It answers `Ok`
-//! with the answer's numbers, `Broken` (step alone), `Clear` or `Path` (explain alone) or
-//! `Refused` with the table's number; a refused call leaves every word.
+//! with the answer's numbers, `Broken` (step alone), `Clear` or `Path` (explain alone), `Nothing`
+//! (pick alone) or `Refused` with the table's number; a refused call leaves every word.
 
 mod admit;
 pub mod allowance;
@@ -10,6 +10,7 @@ mod calls;
 pub mod explain;
 mod form;
 pub mod layout;
+mod pick;
 pub mod reads;
 pub mod sets;
 pub mod stale;
@@ -25,6 +26,7 @@ pub use explain::explain;
 pub use form::in_form;
 #[allow(unused_imports)]
 pub use layout::Sizes;
+pub use pick::pick;
 pub use reads::{evict, fetch, prepare, step};
 pub use stale::stale;
 
@@ -38,6 +40,8 @@ pub enum Answer {
     Clear,
     /// The step would be answered `Broken`; the sheets of the path.
     Path(Vec<u32>),
+    /// "Nothing to do": no open run has a job to pick.
+    Nothing,
 }
 
 // The numbers of the table "When a call is turned down".

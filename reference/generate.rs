@@ -20,6 +20,8 @@ mod plots;
 mod random;
 #[path = "generate/rivals.rs"]
 mod rivals;
+#[path = "generate/rounds.rs"]
+mod rounds;
 #[path = "generate/small.rs"]
 mod small;
 #[path = "generate/teller.rs"]
@@ -59,7 +61,8 @@ fn one_plot(teller: &mut Teller) {
         number @ 0..=57 => plots::of_runs(teller, number),
         58..=62 => everyday::fetch_and_evict(teller),
         63..=65 => small::small_shelf(teller),
-        66..=77 => everyday::any_call(teller),
+        66..=68 => rounds::dispatch(teller),
+        69..=77 => everyday::any_call(teller),
         78..=89 => odd::refused(teller),
         90..=94 => odd::unread(teller),
         95 => odd::long_line(teller),

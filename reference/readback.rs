@@ -21,6 +21,8 @@ mod plots;
 mod random;
 #[path = "generate/rivals.rs"]
 mod rivals;
+#[path = "generate/rounds.rs"]
+mod rounds;
 #[path = "generate/small.rs"]
 mod small;
 #[path = "generate/teller.rs"]

@@ -1,6 +1,6 @@
 //! Checks on lent buffers: the paper's numbers, the ten marked readings, the form, refusals
 //! 9 and 10, how clocks stand, paths behind a break, leading writers, stale marks, admission,
-//! allowances, other layouts, what stands behind a save, and random buffers. Panics at the first check that fails.
+//! allowances, picks, other layouts, what stands behind a save, and random buffers. Panics at the first check that fails.
 #![allow(dead_code)]
 
 #[path = "selftest/admitted.rs"]
@@ -27,6 +27,8 @@ mod listed;
 mod marked;
 #[path = "selftest/paths.rs"]
 mod paths;
+#[path = "selftest/picked.rs"]
+mod picked;
 #[path = "selftest/random.rs"]
 mod random;
 #[path = "selftest/rivals.rs"]
@@ -94,5 +96,12 @@ fn fixed_checks() {
     allowances::of_all_jobs();
     allowances::of_any_shelf();
     allowances::asked_by_form();
+    picked::in_turns();
+    picked::nothing_leaves_the_round();
+    picked::fetched_or_not();
+    picked::not_of_a_broken_run();
+    picked::behind_all_upstreams();
+    picked::asked_by_form();
+    picked::within_as_many_picks();
     layouts::none_agree();
 }

@@ -6,7 +6,7 @@ use crate::desk::{self, Answer};
 pub const LENT: usize = 16_384;
 const LONGEST: usize = 400;
 
-/// One of the thirteen calls with its numbers.
+/// One of the fourteen calls with its numbers.
 #[derive(Clone, PartialEq, Eq, Debug)]
 pub enum Call {
     New([u32; 4]),
@@ -22,6 +22,7 @@ pub enum Call {
     Stale(u32),
     Admit,
     Allow(u32, u32),
+    Pick,
 }
 
 impl Call {
@@ -41,6 +42,7 @@ impl Call {
             Call::Stale(office) => ("stale", vec![*office]),
             Call::Admit => ("admit", Vec::new()),
             Call::Allow(office, number) => ("allow", vec![*office, *number]),
+            Call::Pick => ("pick", Vec::new()),
         }
     }
 
@@ -95,6 +97,7 @@ pub fn read_line(line: &[u8]) -> Option<Call> {
         (b"stale", [office]) => Some(Call::Stale(*office)),
         (b"admit", []) => Some(Call::Admit),
         (b"allow", [office, number]) => Some(Call::Allow(*office, *number)),
+        (b"pick", []) => Some(Call::Pick),
         _ => None,
     }
 }
@@ -130,11 +133,12 @@ pub fn run(words: &mut [u32], call: &Call) -> Answer {
         Call::Stale(office) => desk::stale(words, *office),
         Call::Admit => desk::admit(words),
         Call::Allow(office, number) => desk::allow(words, *office, *number),
+        Call::Pick => desk::pick(words),
     }
 }
 
 /// What an answer begins with: a word in the program, its place in this list in the library.
-pub const ANSWERS: [&str; 5] = ["ok", "broken", "refused", "clear", "path"];
+pub const ANSWERS: [&str; 6] = ["ok", "broken", "refused", "clear", "path", "nothing"];
 
 impl Answer {
     /// The answer as the library writes it: what it begins with, then its numbers.
@@ -145,6 +149,7 @@ impl Answer {
             Answer::Refused(number) => vec![2, *number],
             Answer::Clear => vec![3],
             Answer::Path(sheets) => [&[4][..], sheets].concat(),
+            Answer::Nothing => vec![5],
         }
     }
 
@@ -156,6 +161,7 @@ impl Answer {
             [2, number] => Some(Answer::Refused(*number)),
             [3] => Some(Answer::Clear),
             [4, sheets @ ..] => Some(Answer::Path(sheets.to_vec())),
+            [5] => Some(Answer::Nothing),
             _ => None,
         }
     }

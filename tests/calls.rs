@@ -23,6 +23,7 @@ pub fn call(desk: &mut Desk, line: &str) -> Option<Answer> {
         ("drop", &[run]) => desk.drop(run),
         ("stale", &[office]) => desk.stale(office),
         ("admit", &[]) => desk.admit(),
+        ("pick", &[]) => desk.pick(),
         ("allow", &[office, number]) => desk.allow(office, number),
         ("look", &[0, 0, sheet]) => desk.look(Place::Master, sheet),
         ("look", &[1, office, sheet]) => desk.look(Place::Shelf(office), sheet),

@@ -136,12 +136,12 @@ trial_speed() {
 
 # Each line of --echo is its number, the script's line, and the answer, with words behind what isn't ok.
 trial_echo() {
-  for script in case-a refused-1 refused-2 refused-3 refused-4 refused-5 refused-6 refused-7 refused-8 break-several explain-path explain-refused stale-refused admit allow-refused allow-counts-held; do
+  for script in case-a refused-1 refused-2 refused-3 refused-4 refused-5 refused-6 refused-7 refused-8 break-several explain-path explain-refused stale-refused admit allow-refused allow-counts-held pick-refused pick-goes-round; do
     want 0 "--echo $script" ./sheetdesk --echo "scripts/$script.txt"
-    sed -E 's/((refused|broken) [0-9]+|unread|clear|path [0-9 ]+): .*/\1/' "$work/out" >"$work/plain"
+    sed -E 's/((refused|broken) [0-9]+|unread|clear|nothing|path [0-9 ]+): .*/\1/' "$work/out" >"$work/plain"
     paste -d '|' "scripts/$script.txt" "scripts/$script.out" | sed 's/|/ -> /' | awk '{ print NR ": " $0 }' |
       cmp -s - "$work/plain" || bad "--echo $script: not each answer behind its call"
-    if grep -q -E '((refused|broken) [0-9]+|clear|path [0-9 ]+)$' "$work/out"; then bad "--echo $script: an answer without words"; fi
+    if grep -q -E '((refused|broken) [0-9]+|clear|nothing|path [0-9 ]+)$' "$work/out"; then bad "--echo $script: an answer without words"; fi
   done
   printf 'new 2 2 2 1\nfetch 0 0\nlook 2 0 1\nlook 01 0 1\nlook 0 0 1\nevict 0 0\nstep 0 8\n\na\001\nlast' >"$work/words"
   want 0 "--echo in words" ./sheetdesk --echo "$work/words"
@@ -233,10 +233,18 @@ trial_explained() {
 
 # And of allowances.
 trial_allowances() {
-  { head -n 13 scripts/allow-counts-held.txt; sed -n '/^## ALLOWANCES/,/^## EXPLAINED STEPS/s/^    //p' "$page"; } >"$work/allowed"
+  { head -n 13 scripts/allow-counts-held.txt; sed -n '/^## ALLOWANCES/,/^## PICKING/s/^    //p' "$page"; } >"$work/allowed"
   want 0 "the page's allowances" ./sheetdesk "$work/allowed"
   tail -n +14 "$work/out" | paste -sd ',' | sed 's/,/` and `/; s/^/`/; s/$/`/' >"$work/due"
   grep -qF -f "$work/due" "$page" || bad "the page's allowances answer $(cat "$work/due"), the page says otherwise"
+}
+
+# And of picks.
+trial_picks() {
+  { head -n 4 scripts/pick-goes-round.txt; sed -n '/^## PICKING/,/^## EXPLAINED STEPS/s/^    //p' "$page"; } >"$work/picked"
+  want 0 "the page's picks" ./sheetdesk "$work/picked"
+  tail -n +5 "$work/out" | paste -sd ',' | sed 's/,/`, `/g; s/^/`/; s/$/`/' >"$work/due"
+  grep -qF -f "$work/due" "$page" || bad "the page's picks answer $(cat "$work/due"), the page says otherwise"
 }
 
 # And of leading writers: the two looks that the page tells are the script's.
@@ -282,7 +290,7 @@ trial_readme() {
 }
 
 trials=("$@")
-[ $# -gt 0 ] || trials=(files options histories installed_histories lost strict speed echo prompt terminal signal broken explained allowances leading refusals line_ends examples readme)
+[ $# -gt 0 ] || trials=(files options histories installed_histories lost strict speed echo prompt terminal signal broken explained allowances picks leading refusals line_ends examples readme)
 for trial in "${trials[@]}"; do
   (trial_"$trial") || exit 1
 done

@@ -31,6 +31,7 @@ mod generate {
     pub mod plots;
     pub mod random;
     pub mod rivals;
+    pub mod rounds;
     pub mod small;
     pub mod teller;
 }
@@ -49,7 +50,7 @@ mod parts {
     pub mod stories;
 }
 
-use generate::{bent, chains, counts, everyday, odd, plots, rivals, small, teller};
+use generate::{bent, chains, counts, everyday, odd, plots, rivals, rounds, small, teller};
 use parts::{admitted, arguments, built, clocks, damaged, met, pair, random, script, stories};
 use reference::{book, desk, text};
 

@@ -71,6 +71,7 @@ static int layout_refused(const uint32_t offsets[HEADER - OFFSETS])
         && NOT_TAKEN(sheetdesk_look, 0, 0, 0)
         && NOT_TAKEN(sheetdesk_stale, 0)
         && NOT_TAKEN(sheetdesk_allow, 0, 0)
+        && refused(sheetdesk_pick(other, LENT, ANSWER), SHEETDESK_NOT_IN_FORM)
         && refused(sheetdesk_admit(other, LENT, ANSWER), SHEETDESK_NOT_IN_FORM);
     return good && memcmp(before, other, sizeof other) == 0;
 }
@@ -82,7 +83,8 @@ static int other_layouts_refused(void)
         {10, 20, 30, 40, 78}, /* layout 1 */
         {10, 22, 34, 44, 84}, /* layout 2 */
         {10, 22, 35, 45, 85}, /* layout 3 */
-        {10, 22, 36, 48, 88}, /* long writers */
+        {10, 22, 36, 46, 86}, /* layout 4 */
+        {10, 22, 36, 48, 89}, /* long writers */
     };
     size_t each;
 

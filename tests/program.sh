@@ -78,7 +78,7 @@ awk '
 BEGIN {
     n = split("unread 100 rivals 1000 fetches-of-more 300 evicts-of-more 50 prepares 500 " \
         "prepares-unlike 40 steps 2000 breaks 200 issues 2000 looks-older 500 " \
-        "looks-several 500 stales 500 stales-marked 200 admits 200 allows 100 " \
+        "looks-several 500 stales 500 stales-marked 200 admits 200 allows 100 picks 100 nothing 20 " \
         "hidden-breaks 5 breaks-marked 15 clear 500 " \
         "paths 100 paths-of-3 30 paths-tied 15 paths-carried 10 refused-1 10 refused-2 10 " \
         "refused-3 20 refused-4 100 refused-5 10 refused-6 50 refused-7 10 refused-8 50 " \

@@ -65,6 +65,8 @@ static void make(const struct sheetdesk_record *record, const char *name, int co
         sheetdesk_admit_recorded(DESK, ANSWER);
     else if (strcmp(name, "allow") == 0 && count == 2)
         sheetdesk_allow_recorded(DESK, x[0], x[1], ANSWER);
+    else if (strcmp(name, "pick") == 0 && count == 0)
+        sheetdesk_pick_recorded(DESK, ANSWER);
 }
 
 int main(int argc, char **argv)

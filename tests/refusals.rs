@@ -1,4 +1,4 @@
-// Every refusal that new, open, drop, look, explain, stale, admit, allow, fetch and evict can give, tried on lent buffers through the
+// Every refusal that new, open, drop, look, explain, stale, admit, allow, pick, fetch and evict can give, tried on lent buffers through the
 // exported library: answer as expected, every word as it was, guard words untouched. Besides them: the largest store;
 // looks, leading writers and stale marks on desks that no list of calls from new leaves; the longest path; clocks compared.
 // Usage: refusals. Prints what went wrong and exits 1, or how many trials there were.
@@ -48,11 +48,11 @@ fn of_new(t: &mut Trials) {
     let counts = [2, 2, 1, 1];
     t.refused("new 1, a word short", &mut Desk::of(total(counts) - 1, 7), Call::New(counts), 1);
     t.refused("new 1, empty", &mut Desk::of(0, 7), Call::New([1, 1, 1, 1]), 1);
-    let mut desk = Desk::of(88, 7);
-    t.ok("new", &mut desk, Call::New(counts), &[86]);
-    t.check("offsets", desk.words[..HEADER] == [2, 2, 1, 1, 0, 10, 22, 36, 46, 86]);
+    let mut desk = Desk::of(89, 7);
+    t.ok("new", &mut desk, Call::New(counts), &[87]);
+    t.check("offsets", desk.words[..HEADER] == [2, 2, 1, 1, 0, 10, 22, 36, 46, 87]);
     t.check("the allowance is all sheets", std::mem::take(&mut desk.words[35]) == 2);
-    t.check("fresh, and past the total as it was", desk.words[HEADER..86].iter().all(|&w| w == 0) && desk.words[86..88] == [7, 7]);
+    t.check("fresh, and past the total as it was", desk.words[HEADER..87].iter().all(|&w| w == 0) && desk.words[87..89] == [7, 7]);
 }
 
 // One word of a new desk 2 2 2 1 changed, such that it isn't in form any more.
@@ -66,9 +66,11 @@ fn spoiled(fresh: &Desk) -> Vec<(usize, u32)> {
         (total, s.total() as u32 - 1), (total, s.total() as u32 + 1),
         // Versions: a number alone; leading writers or a count of one that isn't held.
         (s.master_at(0) + NUMBER, 1), (s.master_at(0) + LEADERS, 1), (s.master_at(0) + PAST, 1),
-        (s.shelf_at(0, 0) + NUMBER, 5), (s.shelf_at(0, 1) + LEADERS, 1), (s.card_at(0, 0) + LEADERS, 1), (s.total() - 1, 1),
+        (s.shelf_at(0, 0) + NUMBER, 5), (s.shelf_at(0, 1) + LEADERS, 1), (s.card_at(0, 0) + LEADERS, 1), (s.round_at() - 1, 1),
         // Stale marks of what isn't held, and an allowance over the number of sheets.
         (s.stale_at(0), 1), (s.stale_at(1), 2), (s.allowance_at(0), 3), (s.allowance_at(1), u32::MAX),
+        // The last picked run: none that there is.
+        (s.round_at(), 1), (s.round_at(), u32::MAX),
         // A run: a state that there isn't, an open one without jobs, a free one with words.
         (run + STATE, 3), (run + STATE, 1), (run + JOBS, 9), (run + DONE, 1), (run + READ, 1), (run + JOB_LIST + 6, 1),
     ]
@@ -96,7 +98,7 @@ pub fn calls_but_new() -> Vec<Call> {
     vec![
         Call::Open(9, vec![]), Call::Fetch(9, 9), Call::Evict(9, 9), Call::Prepare(9), Call::Step(9, 9), Call::Issue(9, 9, 9),
         Call::Drop(9), Call::Look(9, 9, 9), Call::Explain(9, 9), Call::Stale(9), Call::Admit,
-        Call::Allow(9, 99),
+        Call::Allow(9, 99), Call::Pick,
     ]
 }
 
@@ -171,9 +173,9 @@ fn of_explain(t: &mut Trials) {
 }
 
 fn of_the_largest(t: &mut Trials) {
-    t.refused("largest, a word short", &mut Desk::of(288_073, 7), Call::New([32, 16, 8, 8]), 1);
-    let mut d = Desk::of(288_074, 7);
-    t.ok("largest", &mut d, Call::New([32, 16, 8, 8]), &[288_074]);
+    t.refused("largest, a word short", &mut Desk::of(288_074, 7), Call::New([32, 16, 8, 8]), 1);
+    let mut d = Desk::of(288_075, 7);
+    t.ok("largest", &mut d, Call::New([32, 16, 8, 8]), &[288_075]);
     t.refused("largest, fetch 7", &mut d, Call::Fetch(7, 31), 7);
     t.ok("largest, open", &mut d, Call::Open(7, [7, u32::MAX, 0].repeat(8)), &[8]);
     chain(&mut d);
@@ -190,7 +192,9 @@ fn of_the_largest(t: &mut Trials) {
     t.refused("largest, allow 12", &mut d, Call::Allow(7, 31), 12);
     t.ok("largest, allow", &mut d, Call::Allow(7, 32), &[0]);
     t.ok("largest, evict", &mut d, Call::Evict(7, 16), &[0xFFFF_0000]);
+    t.ok("largest, pick", &mut d, Call::Pick, &[7, 0]);
     t.ok("largest, drop", &mut d, Call::Drop(7), &[0]);
+    t.told("largest, nothing to pick", &mut d, Call::Pick, &[5]);
 }
 
 // Compare and covers on clocks of these lengths: equal ones, and with one count larger or smaller, first and last.
@@ -228,6 +232,7 @@ fn main() {
     lent::of_marks_in_form(&mut t);
     lent::of_allowances(&mut t);
     lent::of_allowances_in_form(&mut t);
+    lent::of_rounds(&mut t);
     admitted::of_conditions(&mut t);
     admitted::of_words(&mut t);
     admitted::of_lists(&mut t);

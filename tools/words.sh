@@ -53,6 +53,7 @@ report() {
     refused*) refusal "$call" "${3#* }" ;;
     broken*) said="the run has read these sheets, and the step would move them: drop it, open it, prepare it" ;;
     clear*) said="the step would be ok" ;;
+    nothing*) said="no open run has a job that could be stepped" ;;
     path*) said="the step would break the run: each sheet draws in the next, and the last was read already" ;;
     unread*) unread "$call" ;;
   esac

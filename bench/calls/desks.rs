@@ -92,7 +92,7 @@ pub fn cases(sizes: [u32; 4]) -> Vec<Case> {
         case(full.clone(), open.clone()),
         case(full.clone(), Call::Fetch(0, k - 1)),
         case(after(&full, &filled), Call::Evict(0, 0)),
-        case(after(&full, &[open]), Call::Prepare(0)),
+        case(after(&full, std::slice::from_ref(&open)), Call::Prepare(0)),
         case(after(&full, &reader[..1]), Call::Step(0, 0)),
         case(chained(&full, sizes), Call::Explain(0, 1)),
         case(after(&full, &reader), Call::Issue(0, 0, all(k))),
@@ -101,5 +101,7 @@ pub fn cases(sizes: [u32; 4]) -> Vec<Case> {
         case(full.clone(), Call::Stale(n - 1)),
         case(full.clone(), Call::Admit),
         case(full.clone(), Call::Allow(n - 1, k)),
+        // Run 0 alone has a job to step, and was picked last: all runs are asked.
+        case(after(&full, &[open, Call::Pick]), Call::Pick),
     ]
 }

@@ -4,6 +4,7 @@
 use super::ledger::{Base, Ledger};
 use super::rows::Rows;
 use super::saves::Saves;
+use super::turns::Turns;
 use super::{has, Book, Finished, Job, Run};
 use crate::desk::layout::{COUNT, DONE, JOBS, JOB_LIST, LAST_ISSUE, NUMBER, PAST, READ};
 use crate::desk::Sizes;
@@ -25,6 +26,7 @@ impl Book {
             shelves: (0..s.n).map(|o| copies(desk, s, |k| s.shelf_at(o, k))).collect(),
             allowances: (0..s.n).map(|office| desk[s.allowance_at(office)]).collect(),
             runs: (0..s.p).map(|run| admitted_run(desk, s, run)).collect(),
+            turns: Turns::after(desk[s.round_at()] as usize, s.p),
         }
     }
 }

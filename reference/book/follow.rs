@@ -33,6 +33,9 @@ impl Book {
         if let (Call::Explain(run, job), false) = (call, refused) {
             self.check_path(*run as usize, *job as usize, answer, seen)?;
         }
+        if let (Call::Pick, Some(s), false) = (call, in_form(words), refused) {
+            self.check_pick(answer, words, s)?;
+        }
         self.check_answer(call, answer)?;
         self.check_claims(words)?;
         let pairs = |run: &Run| run.finished.len() * run.finished.len().saturating_sub(1) / 2;
@@ -49,6 +52,7 @@ impl Book {
         self.check_named()?;
         self.check_marks(words, s)?;
         self.check_within(words, s)?;
+        self.check_round(words, s)?;
         self.check_lists()?;
         if admit(words) != Answer::Ok(vec![0]) {
             return Err("admit doesn't take the desk back".into());
@@ -100,8 +104,8 @@ impl Book {
         }
     }
 
-    /// Feeds the book and compares what the rules on copies answer. `Clear` and `Path` are not
-    /// `ok`: nothing changes. Of leading writers a book that began at an admission knows nothing.
+    /// Feeds the book and compares what the rules on copies answer. `Clear`, `Path` and `Nothing`
+    /// are not `ok`: nothing changes. Of leading writers a book that began at an admission knows nothing.
     fn check_answer(&mut self, call: &Call, answer: &Answer) -> Result<(), String> {
         let Answer::Ok(numbers) = answer else {
             self.feed(call, false);
@@ -111,7 +115,7 @@ impl Book {
         if let (Call::Look(..), false) = (call, self.from_new) {
             due[1] = numbers[1];
         }
-        if !matches!(call, Call::New(_)) && due != *numbers {
+        if !matches!(call, Call::New(_) | Call::Pick) && due != *numbers {
             return Err(format!("the desk answered {numbers:?}, the book {due:?}"));
         }
         Ok(())

@@ -19,6 +19,8 @@ pub fn new(desk: &mut [u32], k: u32, w: u32, n: u32, p: u32) -> Answer {
     desk[OFFSETS..HEADER].copy_from_slice(&s.offsets());
     // An allowance is "K on a new desk".
     (0..s.n).for_each(|office| desk[s.allowance_at(office)] = k);
+    // The last picked run is "P - 1 on a new desk".
+    desk[s.round_at()] = p - 1;
     Answer::Ok(vec![s.total() as u32])
 }
 

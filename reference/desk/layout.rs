@@ -82,8 +82,13 @@ impl Sizes {
         RUN_HEAD + self.k * self.version()
     }
 
-    pub fn total(&self) -> usize {
+    /// Where the last picked run is: "one stored word at the desk's end".
+    pub fn round_at(&self) -> usize {
         self.runs() + self.p * self.run_words()
+    }
+
+    pub fn total(&self) -> usize {
+        self.round_at() + 1
     }
 
     /// The header's last five words: four offsets, then the total.

@@ -199,7 +199,7 @@ pub fn step_refusal(desk: &[u32], run: u32, job: u32) -> Result<Sizes, u32> {
 }
 
 /// A job's office, reads and upstream mask.
-fn job_words(desk: &[u32], s: Sizes, run: usize, job: usize) -> (usize, u32, u32) {
+pub fn job_words(desk: &[u32], s: Sizes, run: usize, job: usize) -> (usize, u32, u32) {
     let at = s.run_at(run) + JOB_LIST + 3 * job;
     (desk[at] as usize, desk[at + 1], desk[at + 2])
 }

@@ -14,6 +14,7 @@ pub fn bend(random: &mut Random, words: &mut [u32], s: Sizes) {
     if random.chance(15) {
         lift(random, words, s);
     }
+    words[s.round_at()] = random.below(s.p) as u32;
     for _ in 0..1 + random.below(12) {
         bend_one(random, words, s);
     }

@@ -27,6 +27,8 @@ pub struct Counts {
     admits: u64,
     allows: u64,
     hidden_breaks: u64,
+    picks: u64,
+    nothing: u64,
     breaks_marked: u64,
     clear: u64,
     paths: u64,
@@ -58,6 +60,8 @@ impl Counts {
             ("admits".into(), self.admits),
             ("allows".into(), self.allows),
             ("hidden-breaks".into(), self.hidden_breaks),
+            ("picks".into(), self.picks),
+            ("nothing".into(), self.nothing),
             ("breaks-marked".into(), self.breaks_marked),
             ("clear".into(), self.clear),
             ("paths".into(), self.paths),
@@ -107,6 +111,8 @@ impl Counts {
             }
             (Call::Admit, Answer::Ok(_)) => self.admits += 1,
             (Call::Allow(..), Answer::Ok(_)) => self.allows += 1,
+            (Call::Pick, Answer::Ok(_)) => self.picks += 1,
+            (_, Answer::Nothing) => self.nothing += 1,
             (_, Answer::Clear) => self.clear += 1,
             (Call::Explain(run, job), Answer::Path(path)) => {
                 self.enter_path(before, [*run, *job], path);

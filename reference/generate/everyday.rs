@@ -110,7 +110,7 @@ pub fn any_call(t: &mut Teller) {
     let sheets = some_sheets(t, 30);
     let job = t.below(4) as u32;
     let place = t.below(3) as u32;
-    match t.below(13) {
+    match t.below(14) {
         0 => t.tell("open", &[run, office, sheets, 0, office, 1 << (sheet & 31), 1]),
         1 => t.tell("fetch", &[office, sheet]),
         2 => t.tell("evict", &[office, sheet]),
@@ -121,7 +121,8 @@ pub fn any_call(t: &mut Teller) {
         7 => t.tell("explain", &[run, job]),
         8 => t.tell("stale", &[office]),
         9 => t.tell("admit", &[]),
-        10 => {
+        10 => t.tell("pick", &[]),
+        11 => {
             let number = if t.chance(70) { s.k } else { t.below(s.k + 2) };
             t.tell("allow", &[office, number as u32])
         }

@@ -6,7 +6,7 @@ use crate::teller::Teller;
 /// "Before any new, the buffer is all zero": every call but new is refused.
 pub fn before_new(t: &mut Teller) {
     for _ in 0..t.below(3) {
-        match t.below(8) {
+        match t.below(9) {
             0 => t.tell("fetch", &[0, 0]),
             1 => t.tell("open", &[0]),
             2 => t.tell("explain", &[0, 0]),
@@ -14,6 +14,7 @@ pub fn before_new(t: &mut Teller) {
             4 => t.tell("stale", &[0]),
             5 => t.tell("admit", &[]),
             6 => t.tell("allow", &[0, 0]),
+            7 => t.tell("pick", &[]),
             _ => t.tell("new", &[32, 16, 8, 8]),
         };
     }
@@ -171,7 +172,7 @@ pub fn unread(t: &mut Teller) {
 
 /// A line of the list; most of them only just miss a form.
 fn near_miss(t: &mut Teller) {
-    const LINES: [&[u8]; 38] = [
+    const LINES: [&[u8]; 40] = [
         b"",
         b" ",
         b"new",
@@ -210,6 +211,8 @@ fn near_miss(t: &mut Teller) {
         b"allow",
         b"allow 0",
         b"allow 0 0 0",
+        b"pick 0",
+        b"pick ",
     ];
     let line = LINES[t.below(LINES.len())];
     t.say(line);

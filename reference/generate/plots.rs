@@ -7,6 +7,7 @@ use crate::desk::{Answer, FREE};
 use crate::everyday;
 use crate::odd;
 use crate::rivals;
+use crate::rounds;
 use crate::small;
 use crate::teller::Teller;
 
@@ -29,8 +30,9 @@ pub fn without_new(t: &mut Teller) {
         22..=24 => break_a_run(t),
         number @ 0..=57 => of_runs(t, number),
         58..=64 => everyday::fetch_and_evict(t),
-        65..=69 => small::small_shelf(t),
-        70..=89 => everyday::any_call(t),
+        65..=68 => small::small_shelf(t),
+        69..=72 => rounds::dispatch(t),
+        73..=89 => everyday::any_call(t),
         _ => odd::refused(t),
     }
 }
@@ -38,7 +40,7 @@ pub fn without_new(t: &mut Teller) {
 /// A new desk, mostly small, so that sheets and writers meet often.
 pub fn fresh_desk(t: &mut Teller) {
     let sizes = if t.chance(8) {
-        const WIDE: [[u32; 4]; 4] = [[10, 14, 2, 7], [22, 4, 1, 6], [32, 1, 8, 5], [32, 2, 2, 2]];
+        const WIDE: [[u32; 4]; 4] = [[10, 13, 5, 5], [22, 4, 1, 6], [32, 1, 8, 5], [32, 2, 2, 2]];
         WIDE[t.below(4)]
     } else {
         [2 + t.below(6), 1 + t.below(6), 1 + t.below(4), 2 + t.below(3)].map(|n| n as u32)

@@ -94,6 +94,7 @@ pub fn all_refuse(words: &mut [u32], number: u32) {
         assert_eq!(stale(words, x), Answer::Refused(number));
         assert_eq!(admit(words), Answer::Refused(number));
         assert_eq!(allow(words, x, x), Answer::Refused(number));
+        assert_eq!(pick(words), Answer::Refused(number));
     }
     assert_eq!(words, before);
 }

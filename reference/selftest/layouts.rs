@@ -5,19 +5,22 @@ use crate::desk::*;
 use crate::forms::all_refuse;
 use crate::marked::fresh;
 
-/// A layout by the words of a version before its rows, and those of a shelf behind its versions.
+/// A layout by the words of a version before its rows, those of a shelf behind its versions, and
+/// those behind the runs.
 #[derive(Clone, Copy)]
 struct Layout {
     version: usize,
     shelf: usize,
+    tail: usize,
 }
 
-/// Document 01's, with leading writers, with stale marks, with allowances.
-const LAYOUTS: [Layout; 4] = [
-    Layout { version: 1, shelf: 0 },
-    Layout { version: 2, shelf: 0 },
-    Layout { version: 2, shelf: 1 },
-    Layout { version: 2, shelf: 2 },
+/// Document 01's, with leading writers, with stale marks, with allowances, with the last picked run.
+const LAYOUTS: [Layout; 5] = [
+    Layout { version: 1, shelf: 0, tail: 0 },
+    Layout { version: 2, shelf: 0, tail: 0 },
+    Layout { version: 2, shelf: 1, tail: 0 },
+    Layout { version: 2, shelf: 2, tail: 0 },
+    Layout { version: 2, shelf: 2, tail: 1 },
 ];
 
 /// The layout's offsets and total.
@@ -26,12 +29,12 @@ fn offsets(layout: Layout, [k, w, n, p]: [usize; 4]) -> [u32; 5] {
     let shelves = HEADER + k * version;
     let writers = shelves + n * (k * version + layout.shelf);
     let runs = writers + w * writer;
-    let total = runs + p * (RUN_HEAD + k * version);
+    let total = runs + p * (RUN_HEAD + k * version) + layout.tail;
     [HEADER, shelves, writers, runs, total].map(|place| place as u32)
 }
 
-/// For no counts do two layouts have the same offsets and total; shelves or writers always begin
-/// elsewhere. So every call but new refuses a desk of an older one.
+/// For no counts do two layouts have the same offsets and total: shelves or writers begin elsewhere,
+/// or only the total differs. So every call but new refuses a desk of an older one.
 pub fn none_agree() {
     for counts in (0..32 * 16 * 8 * 8).map(|n| [n / 1024, n / 64 % 16, n / 8 % 8, n % 8]) {
         let counts = counts.map(|count| count + 1);
@@ -39,10 +42,15 @@ pub fn none_agree() {
         let all = LAYOUTS.map(|layout| offsets(layout, counts));
         assert_eq!(all[all.len() - 1], Sizes::of(k, w, n, p).unwrap().offsets());
         for (one, older) in all.iter().enumerate() {
-            assert!(all[one + 1..].iter().all(|newer| older[1..3] != newer[1..3]));
+            assert!(all[one + 1..].iter().all(|newer| older != newer));
         }
     }
-    let older = [[10, 20, 30, 40, 78], [10, 22, 34, 44, 84], [10, 22, 35, 45, 85]];
+    let older = [
+        [10, 20, 30, 40, 78],
+        [10, 22, 34, 44, 84],
+        [10, 22, 35, 45, 85],
+        [10, 22, 36, 46, 86],
+    ];
     for (layout, due) in LAYOUTS.iter().zip(older) {
         let (mut words, _) = fresh(2, 2, 1, 1);
         assert_eq!(offsets(*layout, [2, 2, 1, 1]), due);

@@ -87,7 +87,7 @@ fn start(draw: &mut Draw) -> Vec<u32> {
 
 fn any_call(draw: &mut Draw) -> Call {
     let [a, b, c] = [draw.number(), draw.number(), draw.number()];
-    match draw.below(49) {
+    match draw.below(51) {
         0 => Call::New([a, b, c, draw.number()]),
         1..=6 => {
             let length = if draw.below(8) == 0 { draw.below(30) } else { 3 + 3 * draw.below(3) };
@@ -107,6 +107,7 @@ fn any_call(draw: &mut Draw) -> Call {
         40 | 41 => Call::Stale(a),
         42 | 43 => Call::Admit,
         44 | 45 => Call::Allow(a, b),
+        46 | 47 => Call::Pick,
         _ => Call::Look(a, b, c),
     }
 }

@@ -31,9 +31,9 @@ pub fn any_call(random: &mut Random, words: &[u32]) -> Call {
     let run = random.near(s.p);
     let office = random.near(s.n);
     let sheet = random.near(s.k);
-    match random.below(31) {
+    match random.below(34) {
         0 => Call::New(new_counts(random, words.len())),
-        1 | 2 => Call::Open(run, jobs(random, s)),
+        1 | 2 | 28 => Call::Open(run, jobs(random, s)),
         3..=5 => Call::Fetch(office, sheet),
         6..=8 => Call::Evict(office, sheet),
         9 | 10 => Call::Prepare(run),
@@ -54,6 +54,7 @@ pub fn any_call(random: &mut Random, words: &[u32]) -> Call {
         20 | 21 => Call::Stale(office),
         22 | 23 => Call::Admit,
         24 | 25 => Call::Allow(office, random.near(s.k + 1)),
+        26 | 27 => Call::Pick,
         _ => {
             let place = random.near(3);
             let number = match place {

@@ -1,6 +1,8 @@
 //! Desks that no list of calls leads to: built in form, or random words.
 
-use crate::damaged::{spoiled_allowance, spoiled_mark, spoiled_mask, version_place};
+use crate::damaged::{
+    spoiled_allowance, spoiled_mark, spoiled_mask, spoiled_round, version_place,
+};
 use crate::desk::allowance::held_count;
 use crate::desk::layout::{has, HEADER, LAST_ISSUE, OFFSETS};
 use crate::desk::layout::{COUNT, LEADERS, NUMBER, PAST, WRITER_PAST};
@@ -10,7 +12,8 @@ use crate::desk::{Sizes, BROKEN, OPEN};
 use crate::random::Random;
 
 /// A desk in form: pasts, cards, leading writers and done jobs of any kind, needs that nobody
-/// meets too. Now and then leading writers, a shelf's mark or its allowance aren't as form asks.
+/// meets too. Now and then leading writers, a shelf's mark, its allowance or the last picked run aren't
+/// as form asks.
 pub fn desk(random: &mut Random, [k, w, n, p]: [u32; 4], spare: usize) -> Option<Vec<u32>> {
     let s = Sizes::of(k, w, n, p)?;
     let mut words = vec![0; s.total()];
@@ -39,6 +42,7 @@ pub fn desk(random: &mut Random, [k, w, n, p]: [u32; 4], spare: usize) -> Option
         words[s.stale_at(office)] = stale_mask(&words, s, office);
         words[s.allowance_at(office)] = allowance(random, s, held_count(&words, s, office));
     }
+    words[s.round_at()] = random.below(s.p) as u32;
     spoil(random, s, &mut words);
     words.extend((0..spare).map(|_| random.word()));
     Some(words)
@@ -53,7 +57,8 @@ fn allowance(random: &mut Random, s: Sizes, held: u32) -> u32 {
     }
 }
 
-/// Seldom: leading writers that there can't be, or a mark or an allowance that isn't the shelf's.
+/// Seldom: leading writers or a last picked run that there can't be, or a mark or an allowance that
+/// isn't the shelf's.
 fn spoil(random: &mut Random, s: Sizes, words: &mut [u32]) {
     match random.below(40) {
         0 | 1 => {
@@ -68,6 +73,7 @@ fn spoil(random: &mut Random, s: Sizes, words: &mut [u32]) {
             let office = random.below(s.n);
             words[s.allowance_at(office)] = spoiled_allowance(random, words, s, office);
         }
+        4 => words[s.round_at()] = spoiled_round(random, s),
         _ => {}
     }
 }

@@ -8,20 +8,21 @@ use crate::desk::Sizes;
 use crate::pair::Pair;
 use crate::random::Random;
 
-/// Changes one to ten words, or a whole version, a version's mask, a shelf's mark or allowance, or
-/// the first words of a run. In half of the cases of words only counts, issue numbers and jobs; and in most
+/// Changes one to ten words, or a whole version, a version's mask, a shelf's mark or allowance, the
+/// last picked run, or the first words of a run. In half of the cases of words only counts, issue numbers and jobs; and in most
 /// cases the shelves' marks follow, so that the desk often stays in form.
 pub fn damage(random: &mut Random, pair: &mut Pair) {
     let [k, w, n, p] = [0, 1, 2, 3].map(|at| pair.words()[at]);
     let Some(s) = Sizes::of(k, w, n, p) else {
         return damage_words(random, pair);
     };
-    match random.below(12) {
+    match random.below(13) {
         0 | 1 => replace_version(random, pair, s),
         2 | 3 => damage_run(random, pair, s),
         4 => damage_mask(random, pair, s),
         5 => return damage_mark(random, pair, s),
         6 => return damage_allowance(random, pair, s),
+        7 => return pair.set(s.round_at(), spoiled_round(random, s)),
         _ => damage_words(random, pair),
     }
     if random.chance(85) {
@@ -62,6 +63,15 @@ pub fn spoiled_allowance(random: &mut Random, words: &[u32], s: Sizes, office: u
         2 => held,
         3 => s.k as u32,
         4 => held + 1,
+        _ => random.word(),
+    }
+}
+
+/// A last picked run, one more than there are, or any word.
+pub fn spoiled_round(random: &mut Random, s: Sizes) -> u32 {
+    match random.below(3) {
+        0 => random.below(s.p) as u32,
+        1 => s.p as u32,
         _ => random.word(),
     }
 }

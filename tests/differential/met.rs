@@ -22,9 +22,9 @@ pub enum Source {
 const SOURCES: [&str; 8] =
     ["story", "reached", "damaged", "short", "bent", "admitted", "built", "noise"];
 /// The calls that are answered `ok`: explain never is.
-const CALLS: [&str; 12] = [
+const CALLS: [&str; 13] = [
     "new", "open", "fetch", "evict", "prepare", "step", "issue", "drop", "look", "stale", "admit",
-    "allow",
+    "allow", "pick",
 ];
 
 #[derive(Default)]
@@ -47,10 +47,11 @@ pub struct Met {
     /// Calls answered ok, by source.
     by_source: [u64; 8],
     /// Answered ok, by call.
-    ok: [u64; 12],
+    ok: [u64; 13],
     refused: [u64; 13],
     breaks: u64,
     clear: u64,
+    nothing: u64,
     paths: u64,
     long_paths: u64,
     evicts_of_more: u64,
@@ -67,6 +68,7 @@ impl Met {
             None => self.no_room += 1,
             Some(Answer::Broken(_)) => self.breaks += 1,
             Some(Answer::Clear) => self.clear += 1,
+            Some(Answer::Nothing) => self.nothing += 1,
             Some(Answer::Path(sheets)) => {
                 self.paths += 1;
                 self.long_paths += u64::from(sheets.len() > 2);
@@ -100,6 +102,7 @@ impl Met {
             ("marks that aren't 0".into(), self.marks, 1000),
             ("breaks".into(), self.breaks, 1000),
             ("explained as clear".into(), self.clear, 1000),
+            ("nothing to pick".into(), self.nothing, 500),
             ("paths".into(), self.paths, 500),
             ("paths of three sheets or more".into(), self.long_paths, 100),
             ("fetches of several sheets".into(), self.fetches_of_more, 1000),
@@ -154,7 +157,7 @@ impl Met {
                 few.push(format!("{name}: {count} of {least}"));
             }
         }
-        if self.largest < 288_074 {
+        if self.largest < 288_075 {
             few.push(format!("the largest desk: {} words", self.largest));
         }
         few

@@ -46,6 +46,7 @@ export!(sheetdesk_explain, desk::explain, run, job);
 export!(sheetdesk_stale, desk::stale, office);
 export!(sheetdesk_admit, desk::admit);
 export!(sheetdesk_allow, desk::allow, office, number);
+export!(sheetdesk_pick, desk::pick);
 
 #[no_mangle]
 pub unsafe extern "C" fn sheetdesk_open(

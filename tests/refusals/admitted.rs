@@ -67,10 +67,10 @@ pub fn of_conditions(t: &mut Trials) {
 
 // The desk is lent word by word, as it is written down.
 pub fn of_words(t: &mut Trials) {
-    let mut words = vec![2, 1, 1, 1, 2, 10, 18, 28, 31, 67];
+    let mut words = vec![2, 1, 1, 1, 2, 10, 18, 28, 31, 68];
     words.extend([1, 1, 1, 0, 2, 1, 1, 2, 1, 1, 1, 0, 2, 1, 1, 2, 0, 2, 2, 1, 2, 1, 1, 0, 0, 0, 2, 0]);
     words.extend([0; 21]);
-    words.extend([0, 0, 0, 0, 2, 1, 1, 2]);
+    words.extend([0, 0, 0, 0, 2, 1, 1, 2, 0]);
     t.check("admit, the words as written down", saved().words[..words.len()] == words);
 }
 

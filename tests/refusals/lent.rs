@@ -1,5 +1,5 @@
-//! Desks that no list of calls from new leaves: looks, leading writers, stale marks, allowances, the
-//! longest path.
+//! Desks that no list of calls from new leaves: looks, leading writers, stale marks, allowances, last
+//! picked runs, the longest path.
 
 use crate::calls_but_new;
 use crate::desk::layout::{COUNT, DONE, JOBS, JOB_LIST, LAST_ISSUE, LEADERS, NUMBER, PAST, READ, STATE, WRITER_PAST};
@@ -211,4 +211,28 @@ pub fn of_allowances_in_form(t: &mut Trials) {
     let mut d = lent([[7, 2, 2, 0, 0, 0], [0; 6]]);
     d.words[at] = 1;
     t.refused("allowance, what is held, drop 3", &mut d, Call::Drop(5), 3);
+}
+
+// Each run below the number of runs may be the last picked one, and none at it; a pick changes that word alone.
+pub fn of_rounds(t: &mut Trials) {
+    let mut d = Desk::fresh([1, 1, 1, 3]);
+    let at = d.sizes().round_at();
+    t.check("round, on a new desk", d.words[at] == 2);
+    t.told("round, nothing", &mut d, Call::Pick, &[5]);
+    for run in [0, 2] {
+        d.call(&Call::Open(run, vec![0, 0, 0]));
+    }
+    for (last, due) in [(0, 2), (1, 2), (2, 0)] {
+        d.words[at] = last;
+        let mut after = d.words.clone();
+        after[at] = due;
+        t.ok("round, pick", &mut d, Call::Pick, &[due, 0]);
+        t.check("round, its word alone", d.words == after);
+    }
+    for last in [3, 4, u32::MAX] {
+        d.words[at] = last;
+        for call in calls_but_new() {
+            t.refused(&format!("round 1, {}", call.name()), &mut d, call, 1);
+        }
+    }
 }

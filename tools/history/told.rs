@@ -47,6 +47,9 @@ impl Told {
             (Call::Explain(run, job), Answer::Path(_)) => {
                 row.words = format!("Job {job} of run {run} would break the run.");
             }
+            (Call::Pick, Answer::Nothing) => {
+                row.words = String::from("No open run has a job that could be stepped.");
+            }
             _ => {}
         }
         let shelf = |copies: &Vec<Saves>| Shelf { held: held(copies), stale: 0 };
@@ -101,6 +104,10 @@ impl Told {
             }
             Call::Stale(office) => row.words = words::stale(*office, numbers[0]),
             Call::Admit => row.words = String::from("The desk is admitted."),
+            Call::Pick => {
+                row.lane = Some(Lane::Run(numbers[0] as usize));
+                row.words = format!("Job {} of run {} is next.", numbers[1], numbers[0]);
+            }
             Call::Allow(office, number) => {
                 let sheets = words::counted(*number as usize, "sheet");
                 row.words = format!("The shelf of office {office} may hold {sheets}.");

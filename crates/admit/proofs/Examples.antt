@@ -15,6 +15,7 @@ use Rattle.sizes.specs.Bounds.{between, ranged, pastSize, versionSize, placeSiz
 use Rattle.model.specs.Algebra.{needsMet, causalCut, overlappingCut}
 use Rattle.model.specs.Version.{held, dependency, supersedes}
 use Rattle.model.specs.Store.{planned, doneReads}
+use Rattle.model.specs.Allowance.{heldCount, over}
 use Rattle.model.specs.Marks.{isStale, staleMask}
 use Rattle.model.specs.Form.{zeroRows, zeroVersion, leadersFormed, versionFormed, placeFormed, validJob, zeroJob, jobsFormed, masksFormed, snapshotFormed, runFormed, siteFormed, wellFormed}
 use Rattle.model.specs.Allowance.{heldCount, over}
@@ -29,12 +30,12 @@ use Rattle.layout.specs.Calls.{on, onStore, callOn}
 -- Two sheets, one writer, one office, one run. Sheet 1 needs sheet 0; the card has 1 alone.
 abbrev desk : List ℕ
 desk =
-    2 ∷ 1 ∷ 1 ∷ 1 ∷ 2 ∷ 10 ∷ 18 ∷ 28 ∷ 31 ∷ 67
+    2 ∷ 1 ∷ 1 ∷ 1 ∷ 2 ∷ 10 ∷ 18 ∷ 28 ∷ 31 ∷ 68
     ∷ 1 ∷ 1 ∷ 1 ∷ 0 ∷ 2 ∷ 1 ∷ 1 ∷ 2
     ∷ 1 ∷ 1 ∷ 1 ∷ 0 ∷ 2 ∷ 1 ∷ 1 ∷ 2 ∷ 0 ∷ 2
     ∷ 2 ∷ 1 ∷ 2
     ∷ 1 ∷ 1 ∷ 0 ∷ 0 ∷ 0 ∷ 2 ∷ 0
-    ∷ (replicate 21 0 ++ 0 ∷ 0 ∷ 0 ∷ 0 ∷ 2 ∷ 1 ∷ 1 ∷ 2 ∷ [])
+    ∷ (replicate 21 0 ++ 0 ∷ 0 ∷ 0 ∷ 0 ∷ 2 ∷ 1 ∷ 1 ∷ 2 ∷ 0 ∷ [])
 
 abbrev put : ℕ → ℕ → List ℕ
 put i x = sets desk i (x ∷ [])

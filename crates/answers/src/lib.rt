@@ -45,6 +45,16 @@ pub fn put_two(answer: &mut [u32], first: u32, number: u32) -> usize
     2
 }
 
+// A first word and two numbers.
+pub fn put_three(answer: &mut [u32], first: u32, a: u32, b: u32) -> usize
+    requires { ⌜ answerRoom ≤ length (now answer) ⌝ }
+    ensures { λ n. ⌜ Lays (first ∷ a ∷ b ∷ []) (now (answer .entry)) (now (answer .exit)) n ⌝ }
+{
+    let two = put_two(answer, first, a);
+    answer[two] = b;
+    two + 1
+}
+
 pub fn put_answered(answer: &mut [u32], r: Answered) -> usize
     requires { ⌜ answerRoom ≤ length (now answer) ⌝ }
     ensures { λ n. ⌜ Lays (answeredWords r) (now (answer .entry)) (now (answer .exit)) n ⌝ }

@@ -4,8 +4,9 @@ use crate::laying::lay;
 use crate::laying::narrow;
 use crate::laying::turn_down;
 use explain::put::put_explained;
+use pick::put_picked;
 ghost use mathlib.Core.Path.{_≡_};
-ghost use Rattle.model.specs.Calls.{explain, stale, admit, allow, ask};
+ghost use Rattle.model.specs.Calls.{explain, stale, admit, allow, pick, ask};
 ghost use Rattle.layout.specs.Buffer.{inForm};
 ghost use Rattle.layout.specs.Calls.{on};
 ghost use Rattle.calls.specs.Performs.{Exported};
@@ -57,4 +58,17 @@ pub fn allow(store: &mut [u32], ready: bool, site: u32, number: u32, out: &mut [
     }
     let r = allow::allow(store, site, number);
     lay(out, r)
+}
+
+pub fn pick(store: &mut [u32], ready: bool, out: &mut [u32]) -> u32
+    requires { ⌜ ready ≡ inForm (now store) ⌝ }
+    ensures { λ n. ⌜ Exported (on pick)
+        (now (store .entry)) (now (store .exit)) (now (out .entry)) (now (out .exit)) n ⌝ }
+{
+    if !can_make(ready, out) {
+        return turn_down(out);
+    }
+    let r = pick::pick(store);
+    let n = put_picked(out, r);
+    narrow(n)
 }

@@ -17,6 +17,7 @@ use first::step;
 use later::admit;
 use later::allow;
 use later::explain;
+use later::pick;
 use later::stale;
 use words::wide;
 ghost use mathlib.Core.Path.{_≡_};
@@ -56,6 +57,7 @@ fn make(store: &mut [u32], ready: bool, command: Command, numbers: &[u32], out: 
         Command::Stale(o) => stale(store, ready, o, out),
         Command::Admit => admit(store, ready, out),
         Command::Allow(o, n) => allow(store, ready, o, n, out),
+        Command::Pick => pick(store, ready, out),
     }
 }
 

@@ -5,7 +5,7 @@ use mathlib.Core.Path.{_≡_, refl, sym, ap, subst, _∙_}
 use mathlib.Core.Bool.{Bool, true, false, So, cond, true≢false, _||_}
 use mathlib.Core.List.{List, [], _∷_}
 use Prim.Native.Nat.{ℕ, zero}
-use lib.Dec.{eqb}
+use lib.Dec.{eqb, ltb}
 use Rattle.words.specs.Tests.{anyBelow}
 use Rattle.words.proofs.Bools.{test, clash}
 use Rattle.model.specs.Store.{Store}
@@ -16,11 +16,12 @@ use Rattle.model.specs.Prepare.{prepareCause, prepareDone, prepareRule}
 use Rattle.model.specs.Step.{jobCause, stepCause, stepMoved, stepBroken, stepDone, stepRule}
 use Rattle.model.specs.Issue.{raiseCause, issueCause, issueDone, issueRule}
 use Rattle.model.specs.Calls.Allow.{allowCause, allowDone, allowRule}
+use Rattle.model.specs.Calls.Pick.{pickTurn, pickedRun, pickDone, pickRule}
 use Rattle.model.specs.Calls.Look.{lookCause, lookReply}
 use Rattle.model.specs.Calls.Explain.{explainReply}
 use Rattle.model.specs.Calls.Stale.{staleCause, staleReply}
 use Rattle.model.specs.Calls.Admit.{admitCause, admitReply}
-use Rattle.model.specs.Calls.{Query, look, explain, stale, admit, StoreCall, openRun, fetch, evict, prepare, step, issue, dropRun, allow, ask, replyOf, ruleOf}
+use Rattle.model.specs.Calls.{Query, look, explain, stale, admit, StoreCall, openRun, fetch, evict, prepare, step, issue, dropRun, allow, pick, ask, replyOf, ruleOf}
 use Rattle.layout.specs.Reading.{storeOf}
 use Rattle.layout.specs.Buffer.{inForm}
 use Rattle.layout.specs.Calls.{Call, new, on, newCause, newOn, onStore, callOn}
@@ -104,6 +105,12 @@ issue-listed s r w S =
     row _ _ _ refl (row _ _ _ refl (row _ _ _ refl (row _ _ _ refl (row _ _ _ refl
     (choice (eqb S 0) 0 (raiseCause s w) none (raise-listed s w))))))
 
+-- Pick is refused by nothing.
+pick-taken : (s : Store) → Taken (pickRule s)
+unfolding pickRule pickDone
+pick-taken s =
+    test (ltb (pickTurn s) (s .counts .runs)) (λ y. rw y (taken _ refl)) (λ n. rw n (taken _ refl))
+
 asked : (q : Query) (s : Store) → In (0 ∷ askedRefusals q) (replyOf q s .cause)
 unfolding replyOf askedRefusals lookReply lookCause explainReply staleReply staleCause admitReply
     admitCause
@@ -139,6 +146,7 @@ rule-listed (dropRun r) s n e =
 rule-listed (allow o k) s n e =
     by-cause _ n _ _ (taken _ refl)
     (row _ _ _ refl (row _ _ _ refl (row _ _ _ refl none))) e
+rule-listed pick s n e = absurd (pick-taken s n e)
 rule-listed (ask q) s n e = by-cause _ n _ _ (taken _ refl) (asked q s) e
 
 -- ---- on any buffer
@@ -170,6 +178,7 @@ eleven-alone (on (step r j)) l e = clash (refused-as-listed (on (step r j)) l 11
 eleven-alone (on (issue r w S)) l e = clash (refused-as-listed (on (issue r w S)) l 11 e) refl
 eleven-alone (on (dropRun r)) l e = clash (refused-as-listed (on (dropRun r)) l 11 e) refl
 eleven-alone (on (allow o n)) l e = clash (refused-as-listed (on (allow o n)) l 11 e) refl
+eleven-alone (on pick) l e = clash (refused-as-listed (on pick) l 11 e) refl
 eleven-alone (on (ask (look p i k))) l e =
     clash (refused-as-listed (on (ask (look p i k))) l 11 e) refl
 eleven-alone (on (ask (explain r j))) l e =

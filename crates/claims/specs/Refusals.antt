@@ -8,7 +8,7 @@ use mathlib.Core.List.{List, [], _∷_}
 use Prim.Native.Nat.{ℕ}
 use lib.Dec.{eqb}
 use Rattle.model.specs.Outcome.{refused}
-use Rattle.model.specs.Calls.{Query, look, explain, stale, admit, StoreCall, openRun, fetch, evict, prepare, step, issue, dropRun, allow, ask}
+use Rattle.model.specs.Calls.{Query, look, explain, stale, admit, StoreCall, openRun, fetch, evict, prepare, step, issue, dropRun, allow, pick, ask}
 use Rattle.layout.specs.Calls.{Call, new, on, callOn}
 
 abbrev pub isOneOf : ℕ → List ℕ → Bool
@@ -31,6 +31,7 @@ storeRefusals (step r j) = 3 ∷ 4 ∷ 6 ∷ 7 ∷ 12 ∷ []
 storeRefusals (issue r w S) = 3 ∷ 4 ∷ 6 ∷ 9 ∷ 10 ∷ []
 storeRefusals (dropRun r) = 3 ∷ 4 ∷ []
 storeRefusals (allow o n) = 3 ∷ 12 ∷ []
+storeRefusals pick = []
 storeRefusals (ask q) = askedRefusals q
 
 unfoldable pub refusalsOf : Call → List ℕ

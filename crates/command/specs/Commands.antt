@@ -5,10 +5,10 @@ use mathlib.Core.List.{List}
 use mathlib.Core.Option.{Option, none, some}
 use Prim.Native.Nat.{ℕ, _+_}
 use lib.ListN.{take, drop}
-use Rattle.model.specs.Calls.{look, explain, stale, admit, openRun, fetch, evict, prepare, step, issue, dropRun, allow, ask}
+use Rattle.model.specs.Calls.{look, explain, stale, admit, openRun, fetch, evict, prepare, step, issue, dropRun, allow, pick, ask}
 use Rattle.layout.specs.Calls.{Call, new, on}
 use Rattle.command.specs.declared.Command.{Command}
-use Rattle.command.specs.declared.Command.the-variants.{Unread, New, Open, Fetch, Evict, Prepare, Step, Issue, Drop, Look, Explain, Stale, Admit, Allow}
+use Rattle.command.specs.declared.Command.the-variants.{Unread, New, Open, Fetch, Evict, Prepare, Step, Issue, Drop, Look, Explain, Stale, Admit, Allow, Pick}
 
 -- Open's job words are the n from index i on.
 abbrev pub spelled : Command → List ℕ → Option Call
@@ -26,6 +26,7 @@ spelled (Explain r j) l = some (on (ask (explain r j)))
 spelled (Stale o) l = some (on (ask (stale o)))
 spelled Admit l = some (on (ask admit))
 spelled (Allow o n) l = some (on (allow o n))
+spelled Pick l = some (on pick)
 
 -- Open alone uses any.
 abbrev pub numbersEnd : Command → ℕ
@@ -43,3 +44,4 @@ numbersEnd (Explain r j) = 0
 numbersEnd (Stale o) = 0
 numbersEnd Admit = 0
 numbersEnd (Allow o n) = 0
+numbersEnd Pick = 0

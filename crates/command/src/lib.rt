@@ -17,4 +17,5 @@ pub enum Command {
     Stale(u32),
     Admit,
     Allow(u32, u32),
+    Pick,
 }

@@ -1,7 +1,7 @@
 -- Every call has its laws: the one list of calls of the theorem, and a file for each.
 -- Assumes nothing.
 use Rattle.model.specs.Store.{Store}
-use Rattle.model.specs.Calls.{StoreCall, openRun, fetch, evict, prepare, step, issue, dropRun, allow, ask, ruleOf}
+use Rattle.model.specs.Calls.{StoreCall, openRun, fetch, evict, prepare, step, issue, dropRun, allow, pick, ask, ruleOf}
 use Rattle.layout.proofs.Follow.{Fine}
 use Rattle.consistency.proofs.Laws.{Laws}
 use Rattle.consistency.proofs.Calls.Caches.{fetch-laws, evict-laws}
@@ -10,12 +10,14 @@ use Rattle.consistency.proofs.Calls.Prepare.{prepare-laws}
 use Rattle.consistency.proofs.Calls.Step.{step-laws}
 use Rattle.consistency.proofs.Calls.Issue.{issue-laws}
 use Rattle.consistency.proofs.Calls.Allow.{allow-laws}
+use Rattle.consistency.proofs.Calls.Pick.{pick-laws}
 pub mod Caches
 pub mod Runs
 pub mod Prepare
 pub mod Step
 pub mod Issue
 pub mod Allow
+pub mod Pick
 
 pub laws : (c : StoreCall) (s : Store) → Fine s → Laws c s (ruleOf c s)
 unfolding ruleOf
@@ -27,4 +29,5 @@ laws (step r j) = step-laws r j
 laws (issue r w S) = issue-laws r w S
 laws (dropRun r) = drop-laws r
 laws (allow o n) = allow-laws o n
+laws pick = pick-laws
 laws (ask q) = ask-laws q

@@ -15,11 +15,9 @@ use Rattle.model.specs.Outcome.{Outcome, refused, broken, done, told, freeState
 use Rattle.model.specs.Calls.{StoreCall, ruleOf}
 use Rattle.model.proofs.Outcomes.{nextStore}
 use Rattle.layout.specs.Reading.{storeOf}
-use Rattle.layout.specs.Calls.{leaves, isOk}
-use Rattle.layout.proofs.Whole.{store-back}
+use Rattle.layout.specs.Calls.{isOk}
 use Rattle.layout.proofs.Follow.{Fine, form-fine}
-use Rattle.layout.proofs.Forms.{form-rule}
-use Rattle.layout.proofs.Rules.{rule-kept}
+use Rattle.layout.proofs.Forms.{form-rule, left-store}
 use Rattle.consistency.specs.Roles.{Role, opening, working, freeing, elsewhere, roleOf, isOn, opens, frees}
 use Rattle.consistency.specs.Lasting.{GoesOn, Lasts, Lasting}
 use Rattle.consistency.proofs.Laws.{Changed, Turned, Turns}
@@ -97,16 +95,8 @@ pub rule-lasts : (c : StoreCall) (s : Store) (r : ℕ) → Fine s → let x = ru
     Lasts (roleOf c) (isOk x) r (s .run r) (nextStore x s .run r)
 rule-lasts c s r F = turns-lasts (roleOf c) r s (ruleOf c s) (laws c s F .turns)
 
-left-store : (x : Outcome) (l : List ℕ) → Fine (nextStore x (storeOf l))
-    → storeOf (leaves x l) ≡ nextStore x (storeOf l)
-unfolding leaves
-left-store (refused n) l F = refl
-left-store (broken m t) l F = store-back t l (F .fits)
-left-store (done a t) l F = store-back t l (F .fits)
-left-store (told w a) l F = refl
-
 pub lasting : Lasting
 lasting l c r f =
     let s = storeOf l in
     let F = form-fine l f in
-    rw (form-rule c l f, left-store (ruleOf c s) l (rule-kept c s F .fine)) (rule-lasts c s r F)
+    rw (left-store c l f, form-rule c l f) (rule-lasts c s r F)

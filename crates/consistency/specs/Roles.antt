@@ -5,7 +5,7 @@ use mathlib.Core.Bool.{Bool, false}
 use mathlib.Core.Option.{Option, none, some}
 use Prim.Native.Nat.{ℕ}
 use lib.Dec.{eqb}
-use Rattle.model.specs.Calls.{StoreCall, openRun, fetch, evict, prepare, step, issue, dropRun, allow, ask}
+use Rattle.model.specs.Calls.{StoreCall, openRun, fetch, evict, prepare, step, issue, dropRun, allow, pick, ask}
 
 -- An accepted call opens a run, works on it, frees it, or is on no run.
 pub data Role : Type 0 where
@@ -23,6 +23,7 @@ roleOf (step r j) = working r (some j)
 roleOf (issue r w S) = freeing r
 roleOf (dropRun r) = freeing r
 roleOf (allow o n) = elsewhere
+roleOf pick = elsewhere
 roleOf (ask q) = elsewhere
 
 unfoldable pub isOn : ℕ → Role → Bool

@@ -1,7 +1,7 @@
--- The words of a fresh store: the header, zeros up to the total, and the allowances.
--- zero-blocks: rows of zeros are zeros. bare-words: the words before the allowances. bare-stored:
--- a buffer that was filled with zeros up to the total, and then got the header. fresh-stored: with
--- the allowances it has the fresh store in it.
+-- The words of a fresh store: the header, zeros up to the total, the allowances and the round.
+-- zero-blocks: rows of zeros are zeros. zeroed: the store of zeros; zero-words: its words.
+-- zero-stored: a buffer that was filled with zeros up to the total, and then got the header.
+-- fresh-stored: with the allowances and the round it has the fresh store in it.
 -- Assumes nothing.
 use mathlib.Core.Path.{_≡_, refl, sym, ap, ap₂, _∙_, fun-ext}
 use mathlib.Core.Bool.{cond, false}
@@ -11,7 +11,7 @@ use Prim.Native.Nat.{ℕ, zero, suc, _+_, _-_, _*_, _≤_}
 use native.Mathlib.Nat.{mul-one}
 use native.Mathlib.Omega.{arith}
 use lib.Dec.{eqb, ltb}
-use lib.ListN.{length, set, drop, replicate, length-replicate, replicate-append-replicate}
+use lib.ListN.{length, drop, set, replicate, length-replicate, replicate-append-replicate}
 use lib.Seq.{sets, sets-eq}
 use Rattle.words.specs.Words.{put}
 use Rattle.words.specs.Lists.{putAt, blocks}
@@ -22,13 +22,13 @@ use Rattle.sizes.specs.declared.Counts.{Counts}
 use Rattle.sizes.specs.declared.Sizes.{Sizes}
 use Rattle.sizes.specs.Bounds.{headerSize, pastOffset, siteRest, writerPastOffset, snapshotOffset, pastSize, versionSize, placeSize, siteSize, writerSize, runSize, tailSize, masterAt, sitesAt, writersAt, runsAt, tailAt, totalOf, siteAt, allowanceAt}
 use Rattle.model.specs.Version.{zeroPast, unheld}
-use Rattle.model.specs.Store.{Site, Store, emptyPlace, noWriter, noSite, freeRun, noTail, siteAllowed, fresh, withSites}
+use Rattle.model.specs.Store.{Site, Store, emptyPlace, noWriter, noSite, freeRun, noTail, siteAllowed, fresh, withSites, withTail, withRound}
 use Rattle.layout.specs.Words.{clockWords, pastWords, versionWords, placeWords, siteWords, sitesWords, writerWords, writersWords, jobWords, jobsWords, runWords, runsWords, tailWords, headerWords, storeWords}
 use Rattle.layout.specs.Buffer.{written}
 use Rattle.layout.proofs.Merges.{table, put-table}
-use Rattle.layout.proofs.Updates.{put-allowance}
+use Rattle.layout.proofs.Updates.{put-allowance, put-round}
 use Rattle.create.specs.Room.{Room, allowancesPut}
-use Rattle.create.proofs.Sized.{total-is}
+use Rattle.create.proofs.Sized.{total-is, tail-is}
 
 -- n zeros.
 abbrev zeros : ℕ → List ℕ
@@ -55,7 +55,7 @@ zero-table zero = refl
 zero-table (suc n) =
     zero-join (table n (λ _. 0)) (0 ∷ []) n 1 (suc n) (zero-table n) refl (omega arith)
 
--- ---- the parts of a fresh store
+-- ---- the parts of a store of zeros
 
 module _ (z : Counts) where
   clock-zero : clockWords z (λ w. 0) ≡ zeros (z .writers)
@@ -108,6 +108,17 @@ module _ (z : Counts) where
 
 -- ---- the whole
 
+abbrev zeroed : Counts → Store
+zeroed z = record {
+  counts = z;
+  last = 0;
+  master = emptyPlace;
+  site = λ o. noSite;
+  writer = λ w. noWriter;
+  run = λ r. freeRun;
+  tail = noTail;
+}
+
 -- One area of zeros more.
 next : (h x y : List ℕ) (m n : ℕ) → x ≡ h ++ zeros m → y ≡ zeros n → x ++ y ≡ h ++ zeros (m + n)
 next h x y m n p q =
@@ -115,14 +126,10 @@ next h x y m n p q =
     ∙ append-assoc h (zeros m) (zeros n)
     ∙ ap (λ (t : List ℕ). h ++ t) (replicate-append-replicate m n 0)
 
--- A fresh store without allowances.
-bare : Counts → Store
-bare z = withSites (fresh z) (λ o. noSite)
-
-bare-words : (z : Counts) (n : ℕ) → totalOf z ≡ headerSize + n
-    → storeWords (bare z) ≡ headerWords z 0 ++ zeros n
-unfolding bare fresh withSites storeWords totalOf tailAt runsAt writersAt sitesAt masterAt
-bare-words z n e =
+zero-words : (z : Counts) (n : ℕ) → totalOf z ≡ headerSize + n
+    → storeWords (zeroed z) ≡ headerWords z 0 ++ zeros n
+unfolding storeWords totalOf tailAt runsAt writersAt sitesAt masterAt
+zero-words z n e =
     let h = headerWords z 0 in
     let a = placeSize z in
     let b = z .sites * siteSize z in
@@ -153,10 +160,11 @@ headed : (z : Counts) (n : ℕ) (rest : List ℕ)
 unfolding headerWords
 headed z n rest = refl
 
-bare-stored : (l m n : List ℕ) (z : Counts) (at : Sizes) → Room (length l) z at
-    → m ≡ put l 0 (at .total) (λ _. 0) → n ≡ sets m 0 (headerWords z 0) → n ≡ written (bare z) l
-unfolding written bare fresh withSites
-bare-stored l m n z at R p q =
+zero-stored : (l m n : List ℕ) (z : Counts) (at : Sizes) → Room (length l) z at
+    → m ≡ put l 0 (at .total) (λ _. 0) → n ≡ sets m 0 (headerWords z 0)
+    → n ≡ written (zeroed z) l
+unfolding written
+zero-stored l m n z at R p q =
     let t = totalOf z in
     let same = total-is z at (R .sizes) in
     let k = t - headerSize in
@@ -168,7 +176,7 @@ bare-stored l m n z at R p q =
     p ∙ ap (λ (j : ℕ). put l 0 j (λ _. 0)) same
     ∙ filled l t (omega (arith, R .fits)) ∙ ap (λ (x : List ℕ). x ++ rest) split in
     q ∙ ap (λ (x : List ℕ). sets x 0 (headerWords z 0)) whole
-    ∙ headed z k rest ∙ ap (λ (x : List ℕ). x ++ rest) (sym (bare-words z k e))
+    ∙ headed z k rest ∙ ap (λ (x : List ℕ). x ++ rest) (sym (zero-words z k e))
 
 -- ---- the allowances
 
@@ -206,18 +214,25 @@ allowances s l (suc n) h =
     ∙ put-allowance t l n (z .keys) (omega arith)
     ∙ ap (λ (f : ℕ → Site). written (withSites s f) l) (one-more s (z .keys) n)
 
--- All of them: a fresh store.
-all-allowed : (z : Counts) → withSites (bare z) (allowed (bare z) (z .keys) (z .sites)) ≡ fresh z
-unfolding bare fresh withSites
-all-allowed z =
-    ap (λ (f : ℕ → Site). withSites (bare z) f) (fun-ext (λ o. test (ltb o (z .sites))
-    (λ y. rw y) (λ y. rw y)))
+-- All of them, and the round: a fresh store.
+abbrev allAllowed : Counts → Store
+allAllowed z = withSites (zeroed z) (allowed (zeroed z) (z .keys) (z .sites))
 
-pub fresh-stored : (l m n k : List ℕ) (z : Counts) (at : Sizes) → Room (length l) z at
+all-allowed : (z : Counts) → withRound (allAllowed z) (z .runs - 1) ≡ fresh z
+unfolding fresh withSites withTail
+all-allowed z =
+    ap (λ (f : ℕ → Site). withRound (withSites (zeroed z) f) (z .runs - 1))
+    (fun-ext (λ o. test (ltb o (z .sites)) (λ y. rw y) (λ y. rw y)))
+
+pub fresh-stored : (l m n k o : List ℕ) (z : Counts) (at : Sizes) → Room (length l) z at
     → m ≡ put l 0 (at .total) (λ _. 0) → n ≡ sets m 0 (headerWords z 0)
-    → k ≡ allowancesPut z (z .sites) n → k ≡ written (fresh z) l
-unfolding bare fresh withSites
-fresh-stored l m n k z at R p q e =
-    e ∙ ap (allowancesPut z (z .sites)) (bare-stored l m n z at R p q)
-    ∙ allowances (bare z) l (z .sites) (omega arith)
+    → k ≡ allowancesPut z (z .sites) n → o ≡ set k (at .tail) (z .runs - 1)
+    → o ≡ written (fresh z) l
+unfolding withSites
+fresh-stored l m n k o z at R p q a e =
+    let b : k ≡ written (allAllowed z) l =
+    a ∙ ap (allowancesPut z (z .sites)) (zero-stored l m n z at R p q)
+    ∙ allowances (zeroed z) l (z .sites) (omega arith) in
+    e ∙ ap₂ (λ (x : List ℕ) (i : ℕ). set x i (z .runs - 1)) b (tail-is z at (R .sizes))
+    ∙ put-round (allAllowed z) l (z .runs - 1)
     ∙ ap (λ (s : Store). written s l) (all-allowed z)

@@ -3,7 +3,7 @@
 -- Assumes nothing.
 use mathlib.Core.Path.{_≡_}
 use mathlib.Core.List.{List}
-use Prim.Native.Nat.{ℕ, _≤_}
+use Prim.Native.Nat.{ℕ, _≤_, _<_}
 use lib.ListN.{set}
 use Rattle.words.specs.Numbers.{foldBelow}
 use Rattle.sizes.specs.declared.Counts.{Counts}
@@ -19,7 +19,8 @@ pub record Room (len : ℕ) (z : Counts) (at : Sizes) : Type 0 where
   pub sites-in : at .master ≤ at .sites
   pub writers-in : at .sites ≤ at .writers
   pub runs-in : at .writers ≤ at .runs
-  pub total-in : at .runs ≤ at .total
+  pub tail-in : at .runs ≤ at .tail
+  pub total-in : at .tail < at .total
   pub top : at .total ≤ maxTotal
   pub fits : at .total ≤ len
 

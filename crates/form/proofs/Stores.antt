@@ -8,12 +8,12 @@ use native.Mathlib.Omega.{arith}
 use lib.ListN.{length}
 use Rattle.words.specs.Tests.{allBelow}
 use Rattle.words.proofs.Tests.{all-same}
-use Rattle.sizes.specs.Bounds.{headerSize, runSize, masterAt, siteAt, runAt}
+use Rattle.sizes.specs.Bounds.{headerSize, runSize, masterAt, tailAt, siteAt, runAt}
 use Rattle.sizes.specs.declared.Counts.{Counts}
 use Rattle.sizes.proofs.Offsets.{ordered, run-lies}
-use Rattle.model.specs.Form.{placeFormed, siteFormed, runFormed, wellFormed}
+use Rattle.model.specs.Form.{placeFormed, siteFormed, runFormed, tailFormed, wellFormed}
 use Rattle.layout.specs.Buffer.{shaped}
-use Rattle.layout.specs.Reading.{readPlace, readSite, readRun, countsIn, storeOf}
+use Rattle.layout.specs.Reading.{readPlace, readSite, readRun, readTail, countsIn, storeOf}
 use Rattle.layout.proofs.Readings.{site-in, run-in}
 use Rattle.layout.proofs.Shapes.{shaped-out}
 use Rattle.form.specs.Parts.{RunArea, StoreArea}
@@ -39,7 +39,8 @@ pub store-test : (l : List ℕ) → let z = countsIn l in
     placeFormed z (readPlace z l (masterAt z))
     && (allBelow (z .sites) (λ o.
     siteFormed z (readPlace z l (masterAt z)) (readSite z l (siteAt z o)))
-    && allBelow (z .runs) (λ r. runFormed z (readRun z l (runAt z r))))
+    && (allBelow (z .runs) (λ r. runFormed z (readRun z l (runAt z r)))
+    && tailFormed z (readTail z l (tailAt z))))
     ≡ wellFormed (storeOf l)
 unfolding wellFormed storeOf
 store-test l =
@@ -49,5 +50,6 @@ store-test l =
     (all-same (z .sites) (λ o. siteFormed z master (readSite z l (siteAt z o)))
     (λ o. siteFormed z master (storeOf l .site o))
     (λ o h. ap (siteFormed z master) (sym (site-in l z refl o h))))
+    (ap (λ (t : Bool). t && tailFormed z (readTail z l (tailAt z)))
     (all-same (z .runs) (λ r. runFormed z (readRun z l (runAt z r)))
-    (λ r. runFormed z (storeOf l .run r)) (λ r h. ap (runFormed z) (sym (run-in l z refl r h)))))
+    (λ r. runFormed z (storeOf l .run r)) (λ r h. ap (runFormed z) (sym (run-in l z refl r h))))))

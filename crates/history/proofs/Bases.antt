@@ -5,7 +5,7 @@ use mathlib.Core.Path.{_≡_, refl, _∙_}
 use mathlib.Core.Bool.{Bool, true, false}
 use lib.Dec.{eqb}
 use Rattle.words.proofs.Bools.{test}
-use Rattle.model.specs.Calls.{StoreCall, openRun, fetch, evict, prepare, step, issue, dropRun, allow, ask}
+use Rattle.model.specs.Calls.{StoreCall, openRun, fetch, evict, prepare, step, issue, dropRun, allow, pick, ask}
 use Rattle.layout.specs.Calls.{Call, new, on}
 use Rattle.history.specs.Listing.{noBase}
 use Rattle.history.specs.Book.{Book, freshBook, withBookCaches, withBookRun, bookOpen, bookFetch, bookEvict, bookPrepare, bookStepJob, bookIssue, bookIssued, bookRule, bookOk, bookStep}
@@ -21,6 +21,7 @@ rule-base (step r j) b = refl
 rule-base (issue r w S) b = test (eqb S 0) (λ y. rw y refl) (λ n. rw n refl)
 rule-base (dropRun r) b = refl
 rule-base (allow o n) b = refl
+rule-base pick b = refl
 rule-base (ask q) b = refl
 
 pub step-base : (c : Call) (ok : Bool) (b : Book) → b .base ≡ noBase

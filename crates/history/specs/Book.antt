@@ -18,7 +18,7 @@ use Rattle.model.specs.Store.{Job, planned, noJobs}
 use Rattle.model.specs.Runs.{listedCount, listedJobs}
 use Rattle.model.specs.Prepare.{preparedCaches, sitesMerged, usesSite}
 use Rattle.model.specs.Step.{readStart}
-use Rattle.model.specs.Calls.{StoreCall, openRun, fetch, evict, prepare, step, issue, dropRun, allow, ask}
+use Rattle.model.specs.Calls.{StoreCall, openRun, fetch, evict, prepare, step, issue, dropRun, allow, pick, ask}
 use Rattle.layout.specs.Calls.{Call, new, on}
 use Rattle.history.specs.History.{Issue, History, inPast}
 use Rattle.history.specs.Listing.{Base, noBase, BookCopy, plainCopy, mergeBook, bookCopies, readCopy}
@@ -188,6 +188,7 @@ bookRule (step r j) b = bookStepJob r j b
 bookRule (issue r w S) b = bookIssued r w S b
 bookRule (dropRun r) b = withBookRun b r noRun
 bookRule (allow o n) b = b
+bookRule pick b = b
 bookRule (ask q) b = b
 
 unfoldable pub bookOk : Call → Book → Book

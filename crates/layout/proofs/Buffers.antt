@@ -13,7 +13,7 @@ use Rattle.words.specs.Tests.{anyBelow, allBelow}
 use Rattle.words.specs.Numbers.{when, countBelow}
 use Rattle.words.specs.Lists.{putAt, upto, blocks}
 use Rattle.clock.specs.Clock.{exceeds, standing, present}
-use Rattle.sizes.specs.Bounds.{countsOf, between, ranged, pastSize, versionSize, placeSize, siteSize, writerSize, runSize, masterAt, sitesAt, writersAt, runsAt, tailSize, tailAt, totalOf, siteAt, staleAt, allowanceAt}
+use Rattle.sizes.specs.Bounds.{countsOf, between, ranged, pastSize, versionSize, placeSize, siteSize, writerSize, runSize, masterAt, sitesAt, writersAt, runsAt, tailSize, tailAt, totalOf, siteAt, staleAt, allowanceAt, roundAt}
 use Rattle.model.specs.Version.{held}
 use Rattle.model.specs.Store.{fresh, siteMarked, withSites, withSite}
 use Rattle.model.specs.Form.{zeroRows, zeroVersion, leadersFormed, versionFormed, placeFormed, zeroJob, freeFormed, runFormed, siteFormed, wellFormed}
@@ -102,6 +102,10 @@ pub record Buffers : Type 0 where
       map (λ o. getD marks (allowanceAt z (siteAt z o)) 0) (0 ∷ 1 ∷ []) ≡ 2 ∷ 2 ∷ []
   pub allowed : let at = allowanceAt (countsOf 1 1 1 1) (siteAt (countsOf 1 1 1 1) 0) in
       map inForm (put at 0 ∷ put at 1 ∷ put at 2 ∷ []) ≡ true ∷ true ∷ false ∷ []
+  -- The last word is the round: P - 1 on a new desk, and below P.
+  pub round-word : let z = countsOf 2 2 1 3 in
+      getD (storeWords (fresh z)) (totalOf z - 1) 0 ≡ 2
+  pub round-high : inForm (raised (roundAt (countsOf 1 1 1 1))) ≡ false
   pub held-mask : map inForm (sets right 10 (1 ∷ 0 ∷ 1 ∷ []) ∷ sets right 10 (1 ∷ 2 ∷ 1 ∷ []) ∷ [])
       ≡ replicate 2 false
   pub calls : Asked
@@ -135,6 +139,8 @@ buffers = record {
   no-mark = refl;
   allowances = refl;
   allowed = refl;
+  round-word = refl;
+  round-high = refl;
   held-mask = refl;
   calls = record {
     range = refl;

@@ -16,7 +16,7 @@ use Rattle.sizes.specs.declared.Counts.{Counts}
 use Rattle.model.specs.Algebra.{Place}
 use Rattle.model.specs.Version.{Version, unheld, held, larger, merge}
 use Rattle.model.specs.Marks.{isStale, staleMask}
-use Rattle.model.specs.Store.{Writer, Run, Site, Store, emptyPlace, noSite, freeRun, fresh, siteAllowed, siteMarked, siteWith, withLast, withMarks, withMaster, withSites, withSite, withCache, withCaches, withWriter, withRun}
+use Rattle.model.specs.Store.{Writer, Run, Site, Tail, Store, emptyPlace, noSite, freeRun, fresh, siteAllowed, siteMarked, siteWith, withLast, withMarks, withMaster, withSites, withSite, withCache, withCaches, withWriter, withRun, withTail}
 use Rattle.model.proofs.Merges.{held-unheld, merge-cases, merge-unheld-left}
 use Rattle.layout.proofs.Codec.{FitMany}
 use Rattle.layout.proofs.Parts.{FitPast, FitVersion, FitPlace, FitSite, FitSites, FitWriter, FitRun}
@@ -233,4 +233,14 @@ module _ (s : Store) (F : FitStore s) where
     writer = F .writer;
     run = fit-put (s .run) r x (F .run) h G;
     tail = F .tail;
+  }
+
+  pub fit-tail : (t : Tail) → FitStore (withTail s t)
+  unfolding withTail
+  fit-tail t = record {
+    master = F .master;
+    site = F .site;
+    writer = F .writer;
+    run = F .run;
+    tail = record {};
   }

@@ -1,9 +1,9 @@
 -- A call on a buffer that is in form, and on one that isn't.
 -- no-form: refused. form-rule: the rule on the store. form-refused, form-done: by its cause.
--- form-kept: the buffer is in form after it.
+-- form-kept: the buffer is in form after it. left-store: the store in it.
 -- ask-..: a call that only answers.
 -- Assumes nothing.
-use mathlib.Core.Path.{_≡_, refl, _∙_}
+use mathlib.Core.Path.{_≡_, refl, ap, _∙_}
 use mathlib.Core.Bool.{false, So}
 use mathlib.Core.Logic.{_≢_}
 use mathlib.Core.List.{List}
@@ -16,6 +16,7 @@ use Rattle.layout.specs.Reading.{storeOf}
 use Rattle.layout.specs.Buffer.{inForm}
 use Rattle.layout.specs.Calls.{on, onStore, callOn, leaves}
 use Rattle.model.proofs.Outcomes.{nextStore, replied-cases, replied-told, replied-refused}
+use Rattle.layout.proofs.Whole.{store-back}
 use Rattle.layout.proofs.Follow.{Fine, fine-form, form-fine}
 use Rattle.layout.proofs.Rules.{rule-kept}
 
@@ -26,6 +27,14 @@ left-form (refused n) s l F K = F
 left-form (broken m t) s l F K = fine-form t l K
 left-form (done a t) s l F K = fine-form t l K
 left-form (told w a) s l F K = F
+
+left-by : (x : Outcome) (l : List ℕ) → Fine (nextStore x (storeOf l))
+    → storeOf (leaves x l) ≡ nextStore x (storeOf l)
+unfolding leaves
+left-by (refused n) l F = refl
+left-by (broken m t) l F = store-back t l (F .fits)
+left-by (done a t) l F = store-back t l (F .fits)
+left-by (told w a) l F = refl
 
 module _ (c : StoreCall) (l : List ℕ) where
   pub no-form : inForm l ≡ false → callOn (on c) l ≡ refused 1
@@ -52,6 +61,14 @@ module _ (c : StoreCall) (l : List ℕ) where
       let s = storeOf l in
       rw (form-rule F)
       (left-form (ruleOf c s) s l F (rule-kept c s (form-fine l F) .fine))
+
+  -- The store in the buffer that is left.
+  pub left-store : So (inForm l)
+      → storeOf (leaves (callOn (on c) l) l) ≡ nextStore (ruleOf c (storeOf l)) (storeOf l)
+  left-store F =
+      let s = storeOf l in
+      ap (λ x. storeOf (leaves x l)) (form-rule F)
+      ∙ left-by (ruleOf c s) l (rule-kept c s (form-fine l F) .fine)
 
 -- ---- a call that only answers
 

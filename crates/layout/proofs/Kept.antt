@@ -62,7 +62,7 @@ kept-replied s a F =
 pub fresh-fine : (z : Counts) → Ranged z → Fine (fresh z)
 unfolding fresh
 fresh-fine z R =
-    let F = fresh-formed z (free-formed z) in
+    let F = fresh-formed z (R .runs-low) (free-formed z) in
     record { fits = fresh-fits z; counts = R; formed = well-in (fresh z) F }
 
 -- ---- drop

@@ -11,7 +11,7 @@ use Rattle.layout.specs.Words.{clockWords, pastWords, versionWords, plac
 
 -- K = 1, W = 2, N = 3, P = 4, the last issue number 9.
 pub header : headerWords (countsOf 1 2 3 4) 9
-    ≡ 1 ∷ 2 ∷ 3 ∷ 4 ∷ 9 ∷ 10 ∷ 14 ∷ 32 ∷ 38 ∷ 166 ∷ []
+    ≡ 1 ∷ 2 ∷ 3 ∷ 4 ∷ 9 ∷ 10 ∷ 14 ∷ 32 ∷ 38 ∷ 167 ∷ []
 unfolding headerWords pastSize versionSize placeSize siteSize writerSize runSize masterAt sitesAt
     writersAt runsAt tailSize tailAt totalOf
 header = refl

@@ -15,20 +15,20 @@ use lib.Seq.{sets}
 use Rattle.words.specs.Lists.{putAt}
 use Rattle.words.proofs.Stores.{sets-left, sets-behind, sets-all}
 use Rattle.words.proofs.Lists.{putAt-same}
-use Rattle.sizes.specs.Bounds.{doneOffset, snapshotOffset, placeSize, siteSize, writerSize, runSize, masterAt, sitesAt, writersAt, runsAt, siteAt, staleAt, allowanceAt, writerAt, runAt, snapshotAt}
+use Rattle.sizes.specs.Bounds.{doneOffset, snapshotOffset, placeSize, siteSize, writerSize, runSize, masterAt, sitesAt, writersAt, runsAt, siteAt, staleAt, allowanceAt, roundAt, writerAt, runAt, snapshotAt}
 use Rattle.model.specs.Algebra.{Place}
 use Rattle.model.specs.Version.{Version}
 use Rattle.model.specs.Marks.{staleMask}
-use Rattle.model.specs.Store.{Writer, Run, Site, Store, withLast, withMaster, withSites, withSite, siteCached, siteMarked, siteAllowed, siteWith, withCache, withWriter, withRun, withState, withSnapshot, withJobDone}
-use Rattle.layout.specs.Words.{headerWords, placeWords, siteWords, sitesWords, writerWords, writersWords, jobsWords, runWords, runsWords, storeWords}
+use Rattle.model.specs.Store.{Writer, Run, Site, Store, withLast, withMaster, withSites, withSite, siteCached, siteMarked, siteAllowed, siteWith, withCache, withWriter, withRun, withState, withSnapshot, withJobDone, withTail, tailRound, withRound}
+use Rattle.layout.specs.Words.{headerWords, placeWords, siteWords, sitesWords, writerWords, writersWords, jobsWords, runWords, runsWords, tailWords, storeWords}
 use Rattle.layout.specs.Buffer.{written}
 use Rattle.layout.specs.Reading.{storeOf}
 use Rattle.layout.proofs.Parts.{place-laws, site-laws, writer-laws, run-laws}
 use Rattle.layout.proofs.Jobs.{jobs-laws}
 use Rattle.layout.proofs.Whole.{FitStore, store-back, written-twice}
-use Rattle.layout.proofs.Views.{put-area, put-row-part, withRuns, master-area, sites-area, writers-area, runs-area}
+use Rattle.layout.proofs.Views.{put-area, put-row-part, withRuns, master-area, sites-area, writers-area, runs-area, tail-area}
 
--- ---- the last number and the master
+-- ---- the last number, the master and the round
 
 pub put-last : (s : Store) (l : List ℕ) (n : ℕ) → set (written s l) 4 n ≡ written (withLast s n) l
 unfolding withLast written storeWords headerWords
@@ -47,7 +47,16 @@ put-master s l p =
     rw e (put-area (master-area s l) (s .master) p 0 (placeWords z p) (omega (arith, same))
     (sets-all old (placeWords z p) same))
 
--- ---- a store within one part of a row, and into the tail
+pub put-round : (s : Store) (l : List ℕ) (r : ℕ)
+    → set (written s l) (roundAt (s .counts)) r ≡ written (withRound s r) l
+unfolding tailWords withTail
+put-round s l r =
+    let z = s .counts in
+    let e : roundAt z ≡ roundAt z + 0 = omega arith in
+    rw e (put-area (tail-area s l) (s .tail) (tailRound (s .tail) r) 0 (r ∷ []) (omega arith)
+    refl)
+
+-- ---- a store within one part of a row
 
 put-site-part : (s : Store) (l : List ℕ) (o i : ℕ) (x : List ℕ) (y : Site)
     → o < s .counts .sites → i + length x ≤ siteSize (s .counts)

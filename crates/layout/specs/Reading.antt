@@ -65,7 +65,7 @@ readRun z l at = record {
 }
 
 unfoldable pub readTail : Counts → List ℕ → ℕ → Tail
-readTail z l at = record {}
+readTail z l at = record { round = readWord l at }
 
 -- The counts in the header.
 unfoldable pub countsIn : List ℕ → Counts

@@ -56,9 +56,9 @@ runWords z r =
 unfoldable pub runsWords : Counts → (ℕ → Run) → List ℕ
 runsWords z f = blocks (z .runs) (λ r. runWords z (f r))
 
--- Behind the runs: no words.
+-- Behind the runs. CR 8: "The last picked run is one stored word at the desk's end"
 unfoldable pub tailWords : Counts → Tail → List ℕ
-tailWords z t = []
+tailWords z t = t .round ∷ []
 
 -- "Header, 10 words: K, W, N, P, last issue number, then the offsets in words of master, shelves,
 -- writers and runs, then the total."

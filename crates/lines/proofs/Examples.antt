@@ -8,7 +8,7 @@ use mathlib.Core.Option.{none, some}
 use lib.ListN.{replicate}
 use Rattle.text.specs.Bytes.{bytesOf, sameBytes}
 use Rattle.text.specs.Fields.{inFirst, fieldsOf, digitsOnly, valueFrom, isEmpty, numberOf, numberBefore, numbersOf}
-use Rattle.model.specs.Calls.{openRun, fetch, evict, prepare, step, issue, dropRun, ask, look, admit}
+use Rattle.model.specs.Calls.{openRun, fetch, evict, prepare, step, issue, dropRun, pick, ask, look, admit}
 use Rattle.layout.specs.Calls.{new, on}
 use Rattle.lines.specs.Grammar.{formOf, takes, calling, asked, fieldsCall, lineCall}
 
@@ -90,7 +90,7 @@ unfolding lineCall fieldsCall fieldsOf inFirst asked formOf sameBytes takes call
     numberBefore numberOf isEmpty digitsOnly valueFrom
 unread-calls = (refl, refl, refl, refl, refl, refl, refl, refl, refl, refl)
 
--- A word alone reaches the table: each command needs a number.
+-- A word alone reaches the table: each of document 01's commands needs a number, pick takes none.
 pub bare-words :
     (lineCall (bytesOf "new") ≡ none)
     × (lineCall (bytesOf "open") ≡ none)
@@ -101,9 +101,11 @@ pub bare-words :
     × (lineCall (bytesOf "issue") ≡ none)
     × (lineCall (bytesOf "drop") ≡ none)
     × (lineCall (bytesOf "look") ≡ none)
+    × (lineCall (bytesOf "pick") ≡ some (on pick))
+    × (lineCall (bytesOf "pick 0") ≡ none)
 unfolding lineCall fieldsCall fieldsOf inFirst asked formOf sameBytes takes calling numbersOf
     numberBefore numberOf isEmpty digitsOnly valueFrom
-bare-words = (refl, refl, refl, refl, refl, refl, refl, refl, refl)
+bare-words = (refl, refl, refl, refl, refl, refl, refl, refl, refl, refl, refl)
 
 -- `drop ` and zeros: 400 bytes are read, 401 are not.
 pub long-lines :

@@ -31,7 +31,7 @@ struct Row {
 }
 
 // How many commands there are.
-const COMMANDS: usize = 13;
+const COMMANDS: usize = 14;
 
 // The commands: a command's number is its row's. Document 01's nine, then the later ones.
 const ROWS: [Row; COMMANDS] = [
@@ -99,6 +99,11 @@ const ROWS: [Row; COMMANDS] = [
         word: *b"allow   ",
         least: 2,
         most: 2,
+    },
+    Row {
+        word: *b"pick    ",
+        least: 0,
+        most: 0,
     },
 ];
 
@@ -168,6 +173,7 @@ fn later_command(number: usize, numbers: &[u32], n: usize) -> Command
         10 => Command::Stale(a),
         11 => Command::Admit,
         12 => Command::Allow(a, b),
+        13 => Command::Pick,
         _ => Command::Unread,
     }
 }

@@ -7,7 +7,7 @@ use mathlib.Core.Logic.{_⊎_}
 use mathlib.Core.List.{List, [], _∷_, _++_}
 use Prim.Native.Nat.{ℕ, _<_, _^_}
 use lib.ListN.{length}
-use Rattle.model.specs.Calls.{StoreCall, openRun, fetch, evict, prepare, step, issue, dropRun, allow, ask}
+use Rattle.model.specs.Calls.{StoreCall, openRun, fetch, evict, prepare, step, issue, dropRun, allow, pick, ask}
 use Rattle.listing.specs.Scripts.{firsts, rows, scripts, Lex}
 
 -- ---- the calls
@@ -38,6 +38,7 @@ InRange K W N (step r j) = (r ≡ 0) × (j ≡ 0)
 InRange K W N (issue r w S) = (r ≡ 0) × (w < W) × (S < 2 ^ K)
 InRange K W N (dropRun r) = r ≡ 0
 InRange K W N (allow o n) = ⊥
+InRange K W N pick = ⊥
 InRange K W N (ask q) = ⊥
 
 -- ---- the order
@@ -52,6 +53,7 @@ kindOf (step r j) = 3
 kindOf (issue r w S) = 4
 kindOf (dropRun r) = 5
 kindOf (allow o n) = 6
+kindOf pick = 6
 kindOf (ask q) = 6
 
 -- Its numbers, from the left.
@@ -64,6 +66,7 @@ argumentsOf (step r j) = r ∷ j ∷ []
 argumentsOf (issue r w S) = r ∷ w ∷ S ∷ []
 argumentsOf (dropRun r) = r ∷ []
 argumentsOf (allow o n) = o ∷ n ∷ []
+argumentsOf pick = []
 argumentsOf (ask q) = []
 
 -- A call in words: its kind, then its numbers.

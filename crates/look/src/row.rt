@@ -1,6 +1,6 @@
 // The words of a version that a look answers: its issue number, its mask of leading writers, a row
 // of counts, and a standing.
-use answers::put_two;
+use answers::put_three;
 use clock::Standing;
 use clock::standing_number;
 use numbers::IssueNumber;
@@ -19,9 +19,7 @@ fn put_front(answer: &mut [u32], issue: IssueNumber, leaders: u32) -> usize
         (now (answer .entry)) (now (answer .exit)) r ⌝ }
 {
     let number = issue.word();
-    let two = put_two(answer, 0, number);
-    answer[two] = leaders;
-    two + 1
+    put_three(answer, 0, number, leaders)
 }
 
 // An issue number, a mask of leading writers, a row of n counts from an index of the buffer on,

@@ -6,7 +6,7 @@
 -- Assumes nothing.
 use mathlib.Core.Path.{_≡_, refl}
 use mathlib.Core.Bool.{Bool, true, false, not, _&&_}
-use mathlib.Core.List.{List, [], _∷_, _++_}
+use mathlib.Core.List.{List, [], _∷_, _++_, map}
 use Prim.Native.Nat.{ℕ}
 use lib.ListN.{getD, replicate}
 use Rattle.words.specs.Tests.{anyBelow, allBelow}
@@ -17,7 +17,7 @@ use Rattle.clock.specs.Clock.{exceeds, standing, present}
 use Rattle.sizes.specs.Bounds.{countsOf, between}
 use Rattle.model.specs.Algebra.{Place}
 use Rattle.model.specs.Version.{Version, unheld, held}
-use Rattle.model.specs.Store.{Job, Run, noJob, noJobs, emptyPlace, freeRun, fresh, planned, doneReads, siteWith, withMaster, withSites, withCache, withRun}
+use Rattle.model.specs.Store.{Job, Run, noJob, noJobs, emptyPlace, freeRun, fresh, planned, doneReads, siteWith, withMaster, withSites, withCache, withRun, withTail, withRound}
 use Rattle.model.specs.Allowance.{heldCount, over}
 use Rattle.model.specs.Form.{zeroRows, zeroVersion, leadersFormed, versionFormed, placeFormed, validJob, zeroJob, freeFormed, jobsFormed, masksFormed, snapshotFormed, runFormed, siteFormed, wellFormed}
 use Rattle.model.specs.Marks.{isStale, staleMask}
@@ -172,6 +172,11 @@ on-card =
     ∷ tells (run 1 2 1 1 two card-0) (run 1 2 1 1 two card-1)
     ∷ tells (run 1 2 2 2 two card-1) (run 1 2 2 2 two card-0) ∷ []
 
+-- ---- CR 8: the last picked run is "below P in form"
+
+abbrev rounds : List Bool
+rounds = map (λ r. wellFormed (withRound (fresh (countsOf 2 2 2 2)) r)) (0 ∷ 1 ∷ 2 ∷ [])
+
 pub record Clauses : Type 0 where
   pub of-version : Versions
   pub of-free : free-jobs ≡ replicate 6 true
@@ -184,10 +189,11 @@ pub record Clauses : Type 0 where
   pub of-read : read ≡ replicate 4 true
   pub of-carried : carried ≡ replicate 2 true
   pub of-card : on-card ≡ replicate 3 true
+  pub of-round : rounds ≡ true ∷ true ∷ false ∷ []
 
 pub clauses : Clauses
 unfolding anyBelow allBelow putAt testBit withBit withIf maskBelow present between held fresh
-    planned doneReads withMaster withSites withCache withRun zeroRows zeroVersion
+    planned doneReads withMaster withSites withCache withRun withTail zeroRows zeroVersion
     leadersFormed versionFormed placeFormed
     validJob zeroJob freeFormed jobsFormed masksFormed snapshotFormed runFormed siteFormed
     wellFormed isStale staleMask siteWith exceeds standing when countBelow heldCount over
@@ -214,4 +220,5 @@ clauses = record {
   of-read = refl;
   of-carried = refl;
   of-card = refl;
+  of-round = refl;
 }

@@ -17,7 +17,7 @@ use Rattle.sizes.specs.declared.Counts.{Counts}
 use Rattle.model.specs.Algebra.{Place}
 use Rattle.model.specs.Version.{Version, unheld, zeroPast, held, larger, merge}
 use Rattle.model.specs.Store.{Run, Site, Store, emptyPlace, freeRun, fresh}
-use Rattle.model.specs.Form.{zeroRows, zeroVersion, leadersFormed, versionFormed, placeFormed, runFormed, siteFormed, wellFormed}
+use Rattle.model.specs.Form.{zeroRows, zeroVersion, leadersFormed, versionFormed, placeFormed, runFormed, siteFormed, tailFormed, wellFormed}
 use Rattle.model.specs.Marks.{isStale, staleMask}
 use Rattle.model.specs.Allowance.{heldCount, over}
 use Rattle.model.proofs.Allowances.{over-no, no-over, held-empty}
@@ -136,6 +136,7 @@ pub record Formed (s : Store) : Type 0 where
   pub mark : (o : ℕ) → o < s .counts .sites → Marked s (s .site o)
   pub room : (o : ℕ) → o < s .counts .sites → Roomy (s .counts) (s .site o)
   pub run : (r : ℕ) → r < s .counts .runs → So (runFormed (s .counts) (s .run r))
+  pub tail : s .tail .round < s .counts .runs
 
 -- What is asked of a site, and what it says.
 site-out : (s : Store) (x : Site) → So (siteFormed (s .counts) (s .master) x)
@@ -170,14 +171,18 @@ well-out s p =
     let m = placeFormed z (s .master) in
     let o = allBelow (z .sites) (λ o. siteFormed z (s .master) (s .site o)) in
     let r = allBelow (z .runs) (λ r. runFormed z (s .run r)) in
-    let q = and-right m (o && r) p in
-    let site = all-at (z .sites) (λ o. siteFormed z (s .master) (s .site o)) (and-left o r q) in
+    let t = tailFormed z (s .tail) in
+    let q = and-right m (o && (r && t)) p in
+    let rest = and-right o (r && t) q in
+    let site = all-at (z .sites) (λ o. siteFormed z (s .master) (s .site o))
+    (and-left o (r && t) q) in
     record {
-      master = place-out z (s .master) (and-left m (o && r) p);
+      master = place-out z (s .master) (and-left m (o && (r && t)) p);
       cache = λ i h. site-out s (s .site i) (site i h) .0;
       mark = λ i h. site-out s (s .site i) (site i h) .1;
       room = λ i h. site-out s (s .site i) (site i h) .2;
-      run = all-at (z .runs) (λ r. runFormed z (s .run r)) (and-right o r q);
+      run = all-at (z .runs) (λ r. runFormed z (s .run r)) (and-left r t rest);
+      tail = ltb-lt (s .tail .round) (z .runs) (and-right r t rest);
     }
 
 pub well-in : (s : Store) → Formed s → So (wellFormed s)
@@ -188,16 +193,18 @@ well-in s F =
     (and-intro
     (all-intro (z .sites) (λ o. siteFormed z (s .master) (s .site o))
     (λ o h. site-in s (s .site o) (F .cache o h) (F .mark o h) (F .room o h)))
-    (all-intro (z .runs) (λ r. runFormed z (s .run r)) (F .run)))
+    (and-intro (all-intro (z .runs) (λ r. runFormed z (s .run r)) (F .run))
+    (lt-ltb (s .tail .round) (z .runs) (F .tail))))
 
--- A fresh store, if a free run is in form.
-pub fresh-formed : (z : Counts) → So (runFormed z freeRun) → Formed (fresh z)
+-- A fresh store, if there is a run, and a free one is in form.
+pub fresh-formed : (z : Counts) → 1 ≤ z .runs → So (runFormed z freeRun) → Formed (fresh z)
 unfolding fresh staleMask isStale held
-fresh-formed z free = record {
+fresh-formed z some free = record {
   master = formed-empty z;
   cache = λ o h. formed-empty z;
   mark = λ o h. sym (mask-no (z .keys) _ (λ k l. refl));
   room = λ o h. rw (lt-ltb o (z .sites) h)
       (omega arith, omega (arith, held-empty (z .keys)));
   run = λ r h. free;
+  tail = omega arith;
 }

@@ -1,5 +1,5 @@
 -- The form of a store with one part changed.
--- formed-..: with another last number, master, sites, cache, caches, allowance, writer or run.
+-- formed-..: with another last number, master, site, cache, allowance, writer, run or tail.
 -- Assumes nothing.
 use mathlib.Core.Path.{refl}
 use mathlib.Core.Bool.{So}
@@ -8,7 +8,7 @@ use Rattle.words.specs.Lists.{putAt}
 use Rattle.words.proofs.Lists.{putAt-cases}
 use Rattle.model.specs.Algebra.{Place}
 use Rattle.model.specs.Version.{Version, held}
-use Rattle.model.specs.Store.{Writer, Run, Site, Store, siteAllowed, siteWith, withLast, withMarks, withMaster, withSites, withSite, withCache, withCaches, withWriter, withRun}
+use Rattle.model.specs.Store.{Writer, Run, Site, Tail, Store, siteAllowed, siteWith, withLast, withMarks, withMaster, withSites, withSite, withCache, withCaches, withWriter, withRun, withTail}
 use Rattle.model.specs.Form.{runFormed}
 use Rattle.model.specs.Allowance.{heldCount}
 use Rattle.model.proofs.Formed.{PlaceFormed, Marked, Roomy, Formed}
@@ -23,6 +23,7 @@ module _ (s : Store) (F : Formed s) where
         mark = F .mark;
         room = F .room;
         run = F .run;
+        tail = F .tail;
       }
 
   -- Another master: the marks follow it.
@@ -36,6 +37,7 @@ module _ (s : Store) (F : Formed s) where
         mark = λ o h. refl;
         room = F .room;
         run = F .run;
+        tail = F .tail;
       }
 
   pub formed-sites : (f : ℕ → Site)
@@ -49,6 +51,7 @@ module _ (s : Store) (F : Formed s) where
     mark = λ o h. G o h .1;
     room = λ o h. G o h .2;
     run = F .run;
+    tail = F .tail;
   }
 
   -- Another site.
@@ -92,6 +95,7 @@ module _ (s : Store) (F : Formed s) where
         mark = F .mark;
         room = F .room;
         run = F .run;
+        tail = F .tail;
       }
 
   pub formed-run : (r : ℕ) (x : Run) → So (runFormed (s .counts) x) → Formed (withRun s r x)
@@ -106,4 +110,16 @@ module _ (s : Store) (F : Formed s) where
         run = λ i h.
             putAt-cases (λ (x : Run). So (runFormed z x)) (s .run) r x i (λ _. G)
             (λ _. F .run i h);
+        tail = F .tail;
       }
+
+  pub formed-tail : (t : Tail) → t .round < s .counts .runs → Formed (withTail s t)
+  unfolding withTail
+  formed-tail t h = record {
+    master = F .master;
+    cache = F .cache;
+    mark = F .mark;
+    room = F .room;
+    run = F .run;
+    tail = h;
+  }

@@ -7,6 +7,7 @@ pub mod Explain
 pub mod Stale
 pub mod Admit
 pub mod Allow
+pub mod Pick
 use mathlib.Core.List.{List}
 use Prim.Native.Nat.{ℕ}
 use Rattle.model.specs.Store.{Store}
@@ -21,6 +22,7 @@ use Rattle.model.specs.Calls.Explain.{explainReply}
 use Rattle.model.specs.Calls.Stale.{staleReply}
 use Rattle.model.specs.Calls.Admit.{admitReply}
 use Rattle.model.specs.Calls.Allow.{allowRule}
+use Rattle.model.specs.Calls.Pick.{pickRule}
 
 -- A call that only answers.
 pub data Query : Type 0 where
@@ -45,6 +47,7 @@ pub data StoreCall : Type 0 where
   issue : ℕ → ℕ → ℕ → StoreCall  -- run, writer, mask S
   dropRun : ℕ → StoreCall  -- run
   allow : ℕ → ℕ → StoreCall  -- office, number
+  pick : StoreCall
   ask : Query → StoreCall
 
 unfoldable pub ruleOf : StoreCall → Store → Outcome
@@ -56,4 +59,5 @@ ruleOf (step r j) = stepRule r j
 ruleOf (issue r w S) = issueRule r w S
 ruleOf (dropRun r) = dropRule r
 ruleOf (allow o n) = allowRule o n
+ruleOf pick = pickRule
 ruleOf (ask q) = λ s. replied (replyOf q s)

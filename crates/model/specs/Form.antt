@@ -1,5 +1,5 @@
 -- In form, the part that speaks of the store (document 01: "A desk is in form if ..").
--- versionFormed, placeFormed, validJob, runFormed, siteFormed, wellFormed.
+-- versionFormed, placeFormed, validJob, runFormed, siteFormed, tailFormed, wellFormed.
 -- Header, offsets and length are the buffer's: crate layout, `inForm`.
 -- Assumes nothing.
 use mathlib.Core.Bool.{Bool, cond, not, _&&_}
@@ -13,7 +13,7 @@ use Rattle.sizes.specs.declared.Counts.{Counts}
 use Rattle.model.specs.Algebra.{Place, implies}
 use Rattle.model.specs.Version.{Version, held}
 use Rattle.model.specs.Marks.{staleMask}
-use Rattle.model.specs.Store.{Job, Run, Site, Store, planned, doneReads}
+use Rattle.model.specs.Store.{Job, Run, Site, Tail, Store, planned, doneReads}
 use Rattle.model.specs.Allowance.{over}
 
 -- Only zero counts.
@@ -89,9 +89,13 @@ siteFormed z master x =
     && (eqb (x .stale) (staleMask z master (x .cache))
     && (leb (x .allowance) (z .keys) && not (over z x (x .cache))))
 
+-- CR 8: the last picked run is "below P in form".
+abbrev pub tailFormed : Counts → Tail → Bool
+tailFormed z t = ltb (t .round) (z .runs)
+
 unfoldable pub wellFormed : Store → Bool
 wellFormed s =
     let z = s .counts in
     placeFormed z (s .master)
     && (allBelow (z .sites) (λ o. siteFormed z (s .master) (s .site o))
-    && allBelow (z .runs) (λ r. runFormed z (s .run r)))
+    && (allBelow (z .runs) (λ r. runFormed z (s .run r)) && tailFormed z (s .tail)))

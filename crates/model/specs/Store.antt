@@ -4,7 +4,7 @@
 -- part changed.
 -- Assumes nothing.
 use mathlib.Core.Bool.{cond, _&&_}
-use Prim.Native.Nat.{ℕ}
+use Prim.Native.Nat.{ℕ, _-_}
 use lib.Dec.{ltb}
 use Rattle.words.specs.Tests.{Items, anyBelow}
 use Rattle.words.specs.Lists.{putAt}
@@ -46,8 +46,9 @@ pub record Site : Type 0 where
   pub stale : ℕ
   pub allowance : ℕ
 
--- What stands behind the runs: nothing.
+-- What stands behind the runs. round: "The last picked run" (CR 8).
 pub record Tail : Type 0 where
+  pub round : ℕ
 
 -- last: the last issue number.
 pub record Store : Type 0 where
@@ -83,10 +84,9 @@ abbrev pub freeRun : Run
 freeRun = record { state = 0; jobs = 0; done = 0; job = noJobs; branch = noBranch }
 
 abbrev pub noTail : Tail
-noTail = record {}
+noTail = record { round = 0 }
 
--- A site with another cache, one with another mark, and one with another allowance: its other
--- words stay.
+-- A site with another cache, mark or allowance: its other words stay.
 abbrev pub siteCached : Site → Place Version → Site
 siteCached x p = record { cache = p; stale = x .stale; allowance = x .allowance }
 
@@ -100,6 +100,10 @@ siteAllowed x n = record { cache = x .cache; stale = x .stale; allowance = n }
 abbrev pub freshSite : Counts → ℕ → Site
 freshSite z o = siteAllowed noSite (cond (ltb o (z .sites)) (z .keys) 0)
 
+-- "P - 1 on a new desk" (CR 8)
+abbrev pub freshTail : Counts → Tail
+freshTail z = record { round = z .runs - 1 }
+
 -- "a fresh desk: nothing held, every run free, all counts zero"
 unfoldable pub fresh : Counts → Store
 fresh z = record {
@@ -109,7 +113,7 @@ fresh z = record {
   site = freshSite z;
   writer = λ w. noWriter;
   run = λ r. freeRun;
-  tail = noTail;
+  tail = freshTail z;
 }
 
 -- ---- what the jobs of a run read
@@ -207,6 +211,13 @@ withTail s t = record {
   run = s .run;
   tail = t;
 }
+
+-- Another last picked run: the tail's other words stay.
+abbrev pub tailRound : Tail → ℕ → Tail
+tailRound t r = record { round = r }
+
+abbrev pub withRound : Store → ℕ → Store
+withRound s r = withTail s (tailRound (s .tail) r)
 
 -- ---- a run with one part changed
 

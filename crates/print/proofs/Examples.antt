@@ -6,7 +6,7 @@ use Rattle.text.specs.Bytes.{bytesOf}
 use Rattle.text.specs.Decimal.{digitsOf, decimalOf}
 use Rattle.print.specs.Print.{answerWord, numbersText, answerBody, answerText, unreadText}
 
--- Case A's kinds of answers, a broken run, the largest number, and a line that is unread.
+-- Case A's kinds of answers, a broken run, the largest number, a pick's, a line that is unread.
 pub answers :
     (answerText (0 ∷ 88 ∷ []) ≡ bytesOf "ok 88\n")
     × (answerText (0 ∷ 0 ∷ 0 ∷ 0 ∷ []) ≡ bytesOf "ok 0 0 0\n")
@@ -16,6 +16,8 @@ pub answers :
     × (answerText (2 ∷ 10 ∷ []) ≡ bytesOf "refused 10\n")
     × (answerText (1 ∷ 1 ∷ []) ≡ bytesOf "broken 1\n")
     × (answerText (0 ∷ 4294967295 ∷ []) ≡ bytesOf "ok 4294967295\n")
+    × (answerText (0 ∷ 2 ∷ 0 ∷ []) ≡ bytesOf "ok 2 0\n")
+    × (answerText (5 ∷ []) ≡ bytesOf "nothing\n")
     × (unreadText ≡ bytesOf "unread\n")
 unfolding answerText answerBody answerWord numbersText unreadText decimalOf digitsOf
-answers = (refl, refl, refl, refl, refl, refl, refl, refl, refl)
+answers = (refl, refl, refl, refl, refl, refl, refl, refl, refl, refl, refl)

@@ -26,7 +26,7 @@ struct Word {
 }
 
 // The words of an answer's first number, from 0 on.
-const WORDS: [Word; 5] = [
+const WORDS: [Word; 6] = [
     Word {
         bytes: *b"ok      ",
     },
@@ -41,6 +41,9 @@ const WORDS: [Word; 5] = [
     },
     Word {
         bytes: *b"path    ",
+    },
+    Word {
+        bytes: *b"nothing ",
     },
 ];
 

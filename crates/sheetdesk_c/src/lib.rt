@@ -1,11 +1,11 @@
-// The calls for C and Rust. Each lays its answer's words (0 ok, 1 broken, 2 refused, 3 clear or
-// 4 path, then the numbers) over the front of a lent slice and gives how many they are; a slice of
-// fewer than 40 words gives 0, and nothing is changed.
+// The calls for C and Rust. Each lays its answer's words (0 ok, 1 broken, 2 refused, 3 clear,
+// 4 path or 5 nothing, then the numbers) over the front of a lent slice and gives how many they
+// are; a slice of fewer than 40 words gives 0, and nothing is changed.
 pub mod clocks;
 
 use form::in_form;
 ghost use mathlib.Core.Path.{_≡_};
-ghost use Rattle.model.specs.Calls.{look, explain, stale, admit, openRun, fetch, evict, prepare, step, issue, dropRun, allow, ask};
+ghost use Rattle.model.specs.Calls.{look, explain, stale, admit, openRun, fetch, evict, prepare, step, issue, dropRun, allow, pick, ask};
 ghost use Rattle.layout.specs.Calls.{new, on};
 ghost use Rattle.calls.specs.Performs.{Exported};
 
@@ -132,18 +132,26 @@ pub extern "C" fn sheetdesk_allow(store: &mut [u32], site: u32, most: u32, out: 
     calls::later::allow(store, in_form(store), site, most, out)
 }
 
+#[no_mangle]
+pub extern "C" fn sheetdesk_pick(store: &mut [u32], out: &mut [u32]) -> u32
+    ensures { λ n. ⌜ Exported (on pick)
+        (now (store .entry)) (now (store .exit)) (now (out .entry)) (now (out .exit)) n ⌝ }
+{
+    calls::later::pick(store, in_form(store), out)
+}
+
 // The version of this interface: it rises when a call, its arguments or its answer change.
 #[no_mangle]
 pub extern "C" fn sheetdesk_version() -> u32
-    ensures { λ r. ⌜ r ≡ 7 ⌝ }
+    ensures { λ r. ⌜ r ≡ 8 ⌝ }
 {
-    7
+    8
 }
 
 // The version of the layout: it rises when the words of a desk change.
 #[no_mangle]
 pub extern "C" fn sheetdesk_layout() -> u32
-    ensures { λ r. ⌜ r ≡ 4 ⌝ }
+    ensures { λ r. ⌜ r ≡ 5 ⌝ }
 {
-    4
+    5
 }

@@ -11,7 +11,7 @@ use lib.Dec.{leb}
 use Rattle.words.proofs.Bools.{and-intro, and-left, and-right, leb-le, le-leb}
 use Rattle.words.proofs.Slots.{slot-end}
 use Rattle.sizes.specs.declared.Counts.{Counts}
-use Rattle.sizes.specs.Bounds.{maxKeys, maxWriters, maxSites, maxRuns, maxJobs, maxTotal, jobSize, planSize, headerSize, pastOffset, writerPastOffset, snapshotOffset, between, ranged, Ranged, pastSize, versionSize, placeSize, siteSize, writerSize, runSize, masterAt, sitesAt, writersAt, runsAt, tailSize, tailAt, totalOf, siteAt, staleAt, allowanceAt, writerAt, runAt, snapshotAt, jobAt, keyAt, pastRowAt, rowAt, writerRowAt}
+use Rattle.sizes.specs.Bounds.{maxKeys, maxWriters, maxSites, maxRuns, maxJobs, maxTotal, jobSize, planSize, headerSize, pastOffset, writerPastOffset, snapshotOffset, between, ranged, Ranged, pastSize, versionSize, placeSize, siteSize, writerSize, runSize, masterAt, sitesAt, writersAt, runsAt, tailSize, tailAt, totalOf, roundAt, siteAt, staleAt, allowanceAt, writerAt, runAt, snapshotAt, jobAt, keyAt, pastRowAt, rowAt, writerRowAt}
 
 -- ---- counts in range
 
@@ -145,6 +145,11 @@ unfolding runAt tailAt totalOf
 run-lies z r h =
     let e = part-lies (runsAt z) r (z .runs) (runSize z) h in
     record { starts = e .starts; ends = omega (arith, e .ends) }
+
+-- The round stands behind the runs.
+pub round-lies : (z : Counts) → Lies (tailAt z) (totalOf z) (roundAt z) 1
+unfolding tailSize totalOf
+round-lies z = record { starts = omega arith; ends = omega arith }
 
 -- The cache is the first part of its site, and the stale mark stands behind it.
 pub mark-lies : (z : Counts) (at : ℕ)

@@ -44,7 +44,6 @@ everyJob = 255
 unfoldable pub between : ℕ → ℕ → Bool
 between top x = leb 1 x && leb x top
 
--- The four counts are in range.
 unfoldable pub ranged : Counts → Bool
 ranged z =
     between maxKeys (z .keys)
@@ -168,9 +167,9 @@ writerSize z = writerPastOffset + pastSize z
 unfoldable pub runSize : Counts → ℕ
 runSize z = snapshotOffset + placeSize z
 
--- What stands behind the runs, the tail: nothing.
+-- Behind the runs, the tail. CR 8: "The last picked run is one stored word at the desk's end".
 unfoldable pub tailSize : Counts → ℕ
-tailSize z = 0
+tailSize z = 1
 
 -- ---- offsets: "master K·V; shelves N·(K·V + 2); writers W·(1 + K·W); runs P·(28 + K·V)"
 
@@ -192,9 +191,8 @@ tailAt z = runsAt z + z .runs * runSize z
 unfoldable pub totalOf : Counts → ℕ
 totalOf z = tailAt z + tailSize z
 
--- The total of the largest counts.
 abbrev pub maxTotal : ℕ
-maxTotal = 288074
+maxTotal = 288075
 
 unfoldable pub sizesOf : Counts → Sizes
 sizesOf z = record {
@@ -208,7 +206,6 @@ sizesOf z = record {
 
 -- ---- one part of many
 
--- Site o, its cache first.
 unfoldable pub siteAt : Counts → ℕ → ℕ
 siteAt z o = sitesAt z + o * siteSize z
 
@@ -225,6 +222,10 @@ writerAt z u = writersAt z + u * writerSize z
 unfoldable pub runAt : Counts → ℕ → ℕ
 runAt z r = runsAt z + r * runSize z
 
+-- The round: the tail's first word.
+abbrev pub roundAt : Counts → ℕ
+roundAt z = tailAt z
+
 -- The snapshot of run r.
 unfoldable pub snapshotAt : Counts → ℕ → ℕ
 snapshotAt z r = runAt z r + snapshotOffset
@@ -237,11 +238,10 @@ jobAt at i = at + i * jobSize
 unfoldable pub keyAt : Counts → ℕ → ℕ → ℕ
 keyAt z at k = at + k * versionSize z
 
--- Row d, the clock for key d, of the past at an index.
+-- Row d, the clock for key d, of the past at an index; and of the version.
 unfoldable pub pastRowAt : Counts → ℕ → ℕ → ℕ
 pastRowAt z at d = at + d * z .writers
 
--- Row d of the version at an index.
 unfoldable pub rowAt : Counts → ℕ → ℕ → ℕ
 rowAt z at d = at + (pastOffset + d * z .writers)
 

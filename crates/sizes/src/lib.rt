@@ -9,7 +9,7 @@ use past::WriterOffset;
 use run::RunOffset;
 ghost use mathlib.Core.Path.{_≡_};
 ghost use Prim.Native.Nat.{_+_, _*_, _<_, _^_};
-ghost use Rattle.sizes.specs.Bounds.{between, ranged, Ranged, countsOf, sizesOf, maxKeys, maxWriters, maxSites, maxRuns, maxJobs, placeLimit, versionLimit, everyJob, jobSize, siteRest, pastSize, versionSize, placeSize, siteSize, writerSize, runSize, siteAt, staleAt, allowanceAt, writerAt, runAt, snapshotAt, jobAt, keyAt, pastRowAt};
+ghost use Rattle.sizes.specs.Bounds.{between, ranged, Ranged, countsOf, sizesOf, maxKeys, maxWriters, maxSites, maxRuns, maxJobs, placeLimit, versionLimit, everyJob, jobSize, siteRest, pastSize, versionSize, placeSize, siteSize, writerSize, runSize, siteAt, staleAt, allowanceAt, roundAt, writerAt, runAt, snapshotAt, jobAt, keyAt, pastRowAt};
 
 // Sheets, writers, offices and runs (document 01: K, W, N, P).
 pub struct Counts {
@@ -19,7 +19,7 @@ pub struct Counts {
     pub runs: usize,
 }
 
-// Where each area begins, and how many words there are. The tail, behind the runs, is empty.
+// Where each area begins, and how many words there are. Behind the runs stands the tail.
 pub struct Sizes {
     pub master: usize,
     pub sites: usize,
@@ -48,7 +48,7 @@ impl Sizes {
     // The words of a site behind its cache.
     pub const SITE_REST: usize = 2;
 
-    // Offsets and total from four counts.
+    // Offsets and total from four counts. The tail is one word, the round.
     pub fn of(keys: usize, writers: usize, sites: usize, runs: usize) -> Sizes
         requires { ⌜ Ranged (countsOf keys writers sites runs) ⌝ }
         ensures { λ r. ⌜ r ≡ sizesOf (countsOf keys writers sites runs) ⌝ }
@@ -65,7 +65,7 @@ impl Sizes {
             writers: writers_at,
             runs: runs_at,
             tail,
-            total: tail,
+            total: tail + 1,
         }
     }
 
@@ -124,7 +124,7 @@ impl Counts {
         Sizes::of(self.keys, self.writers, self.sites, self.runs)
     }
 
-    // The words of a past.
+    // How many words a past, a version, a place, a site, a writer and a run have.
     pub fn past_size(self) -> usize
         requires { ⌜ Ranged self ⌝ }
         ensures { λ r. ⌜ r ≡ pastSize self ⌝ }
@@ -132,7 +132,6 @@ impl Counts {
         self.keys * self.writers
     }
 
-    // The words of a version.
     pub fn version_size(self) -> usize
         requires { ⌜ Ranged self ⌝ }
         ensures { λ r. ⌜ r ≡ versionSize self ⌝ }
@@ -140,7 +139,6 @@ impl Counts {
         VersionOffset::PAST + self.past_size()
     }
 
-    // The words of a place.
     pub fn place_size(self) -> usize
         requires { ⌜ Ranged self ⌝ }
         ensures { λ r. ⌜ r ≡ placeSize self ⌝ }
@@ -149,7 +147,6 @@ impl Counts {
         self.keys * v
     }
 
-    // The words of a site.
     pub fn site_size(self) -> usize
         requires { ⌜ Ranged self ⌝ }
         ensures { λ r. ⌜ r ≡ siteSize self ⌝ }
@@ -157,7 +154,6 @@ impl Counts {
         self.place_size() + Sizes::SITE_REST
     }
 
-    // The words of a writer.
     pub fn writer_size(self) -> usize
         requires { ⌜ Ranged self ⌝ }
         ensures { λ r. ⌜ r ≡ writerSize self ⌝ }
@@ -165,7 +161,6 @@ impl Counts {
         WriterOffset::PAST + self.past_size()
     }
 
-    // The words of a run.
     pub fn run_size(self) -> usize
         requires { ⌜ Ranged self ⌝ }
         ensures { λ r. ⌜ r ≡ runSize self ⌝ }
@@ -173,7 +168,7 @@ impl Counts {
         RunOffset::SNAPSHOT + self.place_size()
     }
 
-    // Where site o begins.
+    // Where site o, writer u and run r begin.
     pub fn site_at(self, o: usize) -> usize
         requires { ⌜ Ranged self ⌝ }
         requires { ⌜ o < self .sites ⌝ }
@@ -183,7 +178,6 @@ impl Counts {
         nth(areas.sites, self.site_size(), o)
     }
 
-    // Where writer u begins.
     pub fn writer_at(self, u: usize) -> usize
         requires { ⌜ Ranged self ⌝ }
         requires { ⌜ u < self .writers ⌝ }
@@ -193,7 +187,6 @@ impl Counts {
         nth(areas.writers, self.writer_size(), u)
     }
 
-    // Where run r begins.
     pub fn run_at(self, r: usize) -> usize
         requires { ⌜ Ranged self ⌝ }
         requires { ⌜ r < self .runs ⌝ }
@@ -212,13 +205,20 @@ impl Counts {
         at + self.place_size()
     }
 
-    // Where its allowance stands, behind the mark.
+    // Where its allowance stands, behind the mark; and where the round does.
     pub fn allowance_at(self, at: usize) -> usize
         requires { ⌜ Ranged self ⌝ }
         requires { ⌜ at < placeLimit ⌝ }
         ensures { λ r. ⌜ r ≡ allowanceAt self at ⌝ }
     {
         self.stale_at(at) + 1
+    }
+
+    pub fn round_at(self) -> usize
+        requires { ⌜ Ranged self ⌝ }
+        ensures { λ r. ⌜ r ≡ roundAt self ⌝ }
+    {
+        self.areas().tail
     }
 
     // Where the snapshot of run r begins.

@@ -5,3 +5,5 @@ pub mod Slots
 pub mod Words
 pub mod Lists
 pub mod Stores
+pub mod Firsts
+pub mod Turns

@@ -84,6 +84,8 @@ make-spec =
     (λ c κs. search needs)
     (λ c. search needs)
     (λ c κs. search needs)
+    (λ c. search needs)
+    (λ c κs. search needs)
     returns
     (λ c. search needs)
     (λ c. search needs)
@@ -91,6 +93,9 @@ make-spec =
     (λ c. search needs)
     (λ c. search needs)
     returns-3
+    (λ c. search needs)
+    (λ c. search needs)
+    (λ c. search made-of)
     (λ c. search needs)
     (λ c. search needs)
     (λ c. search made-of)

@@ -1,5 +1,5 @@
--- `store_fresh` meets its contract: zeros, the header and the allowances are the words of
--- a fresh store.
+-- `store_fresh` meets its contract: zeros, the header, the allowances and the round are the words
+-- of a fresh store.
 -- Assumes nothing.
 use mathlib.Core.Path.{_∙_}
 use native.Mathlib.Omega.{arith}
@@ -35,20 +35,29 @@ store-allowances-requires c κs =
     let R = has-room (h .before .before .before .before .before .before) in
     (R .counts, omega (arith, R .fits, total-is _ _ (R .sizes)))
 
+store-round-requires : tie.Need-store-round-requires
+store-round-requires c κs =
+    let a = c .before .before .before in
+    let h = a .before .before .before .before in
+    let R = has-room (h .before .before .before .before .before .before) in
+    same-room _ _ _ _ R (omega arith)
+
 narrow-requires : tie.Need-narrow-requires
 narrow-requires c κs =
-    let h = c .before .before .before .before .before .before in
+    let a = c .before .before .before .before .before .before in
+    let h = a .before .before .before .before in
     let R = has-room (h .before .before .before .before .before .before) in
     omega (arith, R)
 
 returns : tie.Need-returns
 returns c =
-    let a = c .before .before .before in
+    let r = c .before .before .before in
+    let a = r .before .before .before .before in
     let h = a .before .before .before .before in
     let R = has-room (h .before .before .before .before .before .before) in (
       c .narrow .ensures ∙ total-is _ _ (R .sizes),
-      fresh-stored _ _ _ _ _ _ R (h .before .before .before .before .zero .ensures)
-          (h .store-header .ensures) (a .store-allowances .ensures),
+      fresh-stored _ _ _ _ _ _ _ R (h .before .before .before .before .zero .ensures)
+          (h .store-header .ensures) (a .store-allowances .ensures) (r .store-round .ensures),
     )
 
 pub store-fresh-spec : {M : Type 1} → statement M
@@ -59,6 +68,7 @@ store-fresh-spec =
     zero-requires
     store-header-requires
     store-allowances-requires
+    store-round-requires
     narrow-requires
     (λ c. search needs)
     returns)

@@ -1,4 +1,4 @@
--- `in_form` tests the shape, then the master, the caches and the runs.
+-- `in_form` tests the shape, then the master, the caches, the runs and the round.
 -- Assumes nothing.
 use mathlib.Core.Path.{sym, _∙_}
 use mathlib.Core.Bool.{So}
@@ -39,7 +39,8 @@ place-formed-requires c κs =
 returns-2 : tie.Need-returns-2
 unfolding inForm sizesOf masterAt
 returns-2 c =
-    let s = c .before in
+    let r = c .before in
+    let s = r .before in
     let p = s .before in
     let a = p .before in
     let n = a .before in
@@ -47,7 +48,8 @@ returns-2 c =
       yes (n .before),
       p .place-formed .ensures,
       s .sites-formed .ensures,
-      c .runs-formed .ensures,
+      r .runs-formed .ensures,
+      c .round-formed .ensures,
       a .areas .ensures,
       n .counts .ensures,
     )
@@ -64,4 +66,5 @@ in-form-spec =
     place-formed-requires
     (λ c κs. area (c .before .before))
     (λ c κs. area (c .before .before .before))
+    (λ c κs. area (c .before .before .before .before))
     returns-2)

@@ -32,11 +32,15 @@ returns-4 c =
     (rw (c .match .keys4, a, b), omega arith)
 
 returns-5 : tie.Need-returns-5
-returns-5 c =
+unfolding calling formAt
+returns-5 c = (rw (c .match .keys5), omega arith)
+
+returns-6 : tie.Need-returns-6
+returns-6 c =
     let s = c .before .before .before .before in
     let r = c .match .rest in
-    let past =
-    next (next (next (next (s .pre .0) (r .0 .0 .0 .1)) (r .0 .0 .1)) (r .0 .1)) (r .1) in
+    let far = next (next (next (s .pre .0) (r .0 .0 .0 .0 .1)) (r .0 .0 .0 .1)) (r .0 .0 .1) in
+    let past = next (next far (r .0 .1)) (r .1) in
     absurd (not-past (in-table (s .args .number) (s .args .n) (s .pre .1 .0)) past)
 
 pub later-command-spec : {M : Type 1} → statement M
@@ -49,4 +53,5 @@ later-command-spec =
     returns-2
     returns-3
     returns-4
-    returns-5)
+    returns-5
+    returns-6)

@@ -1,10 +1,8 @@
 -- `Sizes::of` gives the offsets and the total: every sum and product is below its largest value.
 -- Assumes nothing.
-use mathlib.Core.Path.{_≡_, sym}
+use mathlib.Core.Path.{refl}
 use Prim.Native.Nat.{ℕ, _+_, _*_, _≤_}
-use native.Mathlib.Nat.{add-zero}
 use native.Mathlib.Omega.{arith}
-use Rattle.sizes.specs.declared.Counts.{Counts}
 use Rattle.sizes.specs.Bounds.{Ranged, countsOf, maxTotal, pastOffset, writerPastOffset, siteRest, snapshotOffset, pastSize, versionSize, placeSize, siteSize, writerSize, runSize, tailSize, masterAt, sitesAt, writersAt, runsAt, tailAt, totalOf, sizesOf}
 use Rattle.sizes.proofs.Offsets.{largest}
 use Rattle.sizes.proofs.Sizes.of.Statement.{statement}
@@ -20,39 +18,16 @@ most k w n p R =
     let m = largest (countsOf k w n p) R in
     (m .place, omega (arith, m .sites), m .past, m .writers, m .runs)
 
--- The total is where the tail begins.
-sized : (z : Counts) → let t = tailAt z in sizesOf z
-    ≡ record {
-      master = masterAt z;
-      sites = sitesAt z;
-      writers = writersAt z;
-      runs = runsAt z;
-      tail = t;
-      total = t;
-    }
-unfolding sizesOf totalOf tailSize
-sized z =
-    let e = add-zero (tailAt z) in
-    λ i. record {
-      master = masterAt z;
-      sites = sitesAt z;
-      writers = writersAt z;
-      runs = runsAt z;
-      tail = tailAt z;
-      total = e i;
-    }
-
 returns : tie.Need-returns
 unfolding pastSize versionSize placeSize siteSize writerSize runSize
-    masterAt sitesAt writersAt runsAt tailAt
-returns c =
-    let a = c .args in
-    sym (sized (countsOf (a .keys) (a .writers) (a .sites) (a .runs)))
+    masterAt sitesAt writersAt runsAt tailAt tailSize totalOf sizesOf
+returns c = refl
 
 pub of-spec : {M : Type 1} → statement M
 of-spec =
     tie.close
     (tie.spec
+    (λ c. omega (arith, most _ _ _ _ (c .pre)))
     (λ c. omega (arith, most _ _ _ _ (c .pre)))
     (λ c. omega (arith, most _ _ _ _ (c .pre)))
     (λ c. omega (arith, most _ _ _ _ (c .pre)))
