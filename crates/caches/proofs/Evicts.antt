@@ -2,47 +2,29 @@
 -- evict-rule: the cause as the code tests it. evict-out, evict-lacks, evict-done: answer and
 -- buffer.
 -- Assumes nothing.
-use mathlib.Core.Path.{_≡_, ap, _∙_}
+use mathlib.Core.Path.{_≡_, ap}
 use mathlib.Core.Bool.{true, false}
 use mathlib.Core.List.{List, [], _∷_}
-use Prim.Native.Nat.{ℕ}
+use Prim.Native.Nat.{ℕ, _<_}
 use Rattle.words.specs.Tests.{Items, only}
 use Rattle.masks.specs.Mask.{testBit, withBit, maskBelow}
 use Rattle.sizes.specs.declared.Counts.{Counts}
 use Rattle.sizes.specs.Bounds.{masterAt, siteAt}
-use Rattle.model.specs.Algebra.{Place}
-use Rattle.model.specs.Version.{Version, held, versions}
+use Rattle.model.specs.Version.{held, versions}
 use Rattle.model.specs.Sets.{evictSet, evicted}
-use Rattle.model.specs.Store.{emptyPlace, withCache}
-use Rattle.model.specs.Outcome.{done, answer, unless}
+use Rattle.model.specs.Outcome.{answer, unless}
 use Rattle.model.specs.Caches.{evictCause, evictDone, evictRule}
 use Rattle.model.specs.Calls.{evict, ruleOf}
 use Rattle.layout.specs.Reading.{readPlace, storeOf}
-use Rattle.layout.specs.Calls.{on, callOn, leaves}
+use Rattle.layout.specs.Calls.{leaves}
 use Rattle.layout.proofs.Readings.{cache-in}
 use Rattle.layout.specs.Stored.{putPlace}
-use Rattle.layout.proofs.Parts.{FitPlace, place-laws}
-use Rattle.layout.proofs.Fit.{fit-empty, fit-choice}
 use Rattle.version.specs.Places.{putMark}
 use Rattle.form.specs.Parts.{FormWith}
-use Rattle.form.proofs.Known.{form-counts, cache-stored, Ends, ends}
+use Rattle.form.proofs.Known.{form-counts, Ends, ends}
+use Rattle.form.proofs.Leaving.{gone-found, gone-stored}
 use Rattle.caches.specs.Range.{outOfRange}
 use Rattle.caches.proofs.Known.{inside, range-cause, keyCause, keyed-out, keyed-lacks, keyed-free, one-key}
-
--- E of one key, and the cache without it, as the code reads them.
-abbrev goneOf : Counts → List ℕ → ℕ → Items → ℕ
-goneOf z l at start =
-    maskBelow (z .keys) (evictSet (versions (z .writers)) (z .keys) (readPlace z l at) start)
-
-abbrev cacheOf : Counts → List ℕ → ℕ → Items → Place Version
-cacheOf z l at start = evicted (versions (z .writers)) (z .keys) (readPlace z l at) start
-
-cache-fits : (z : Counts) (l : List ℕ) (at : ℕ) (start : Items) → FitPlace z (cacheOf z l at start)
-unfolding evicted
-cache-fits z l at start =
-    let p = readPlace z l at in
-    fit-choice z (evictSet (versions (z .writers)) (z .keys) p start) emptyPlace p (fit-empty z)
-    (place-laws z .fits l at)
 
 module _ (l : List ℕ) (z : Counts) (H : FormWith l z) (o k : ℕ) where
   -- The rule, with its cause as the code tests it.
@@ -64,26 +46,21 @@ module _ (l : List ℕ) (z : Counts) (H : FormWith l z) (o k at : ℕ) (a : at �
   evict-lacks q =
       keyed-lacks (evict o k) l (H .form) _ _ 7 _ (evict-rule l z H o k) in-range (rw (← a) q)
 
-  gone-as : held (readPlace z l (siteAt z o) k) ≡ true
-      → callOn (on (evict o k)) l
-      ≡ done (goneOf z l (siteAt z o) (only k) ∷ [])
-      (withCache (storeOf l) o (cacheOf z l (siteAt z o) (only k)))
-  unfolding evictDone
-  gone-as q =
-      keyed-free (evict o k) l (H .form) _ _ 7 _ (evict-rule l z H o k) in-range q
-      ∙ rw (form-counts l z H, cache-in l z (H .counts) o (inside z o k in-range .0))
-
+  -- From its key.
   pub evict-done : held (readPlace z l at k) ≡ true → (master start E : ℕ) (m : List ℕ)
       → master ≡ masterAt z → start ≡ withBit 0 k
-      → E ≡ goneOf z l at (testBit start)
-      → m ≡ putMark z (putPlace z l at (cacheOf z l at (testBit start))) master at
+      → E ≡ maskBelow (z .keys)
+      (evictSet (versions (z .writers)) (z .keys) (readPlace z l at) (testBit start))
+      → m ≡ putMark z (putPlace z l at
+      (evicted (versions (z .writers)) (z .keys) (readPlace z l at) (testBit start))) master at
       → Ends (evict o k) l (0 ∷ E ∷ []) m
-  unfolding answer leaves
+  unfolding answer leaves evictDone
   evict-done has master start E m b d p q =
-      let g : E ≡ goneOf z l (siteAt z o) (only k) = rw (← a, ← one-key k, ← d) p in
-      let p = cacheOf z l (siteAt z o) (only k) in
-      let n : m ≡ putMark z (putPlace z l (siteAt z o) p) (masterAt z) (siteAt z o) =
-      rw (← a, ← b, ← one-key k, ← d) q in
-      ends (evict o k) l _ (0 ∷ E ∷ []) m (gone-as (rw (← a) has)) (ap (λ (E : ℕ). 0 ∷ E ∷ []) g)
-      (n ∙ cache-stored l z H o p (inside z o k in-range .0)
-      (cache-fits z l (siteAt z o) (only k)))
+      let h = inside z o k in-range .0 in
+      let same : (j : ℕ) → j < z .keys → testBit start j ≡ only k j =
+      λ j _. rw d (ap (λ (S : Items). S j) (one-key k)) in
+      let found = gone-found l z H o at start (only k) h a same E p in
+      let stored = gone-stored l z H o at start (only k) h a same master m b q in
+      ends (evict o k) l (evictDone (storeOf l) o k) (0 ∷ E ∷ []) m
+      (keyed-free (evict o k) l (H .form) _ _ 7 _ (evict-rule l z H o k) in-range (rw (← a) has))
+      (ap (λ (E : ℕ). 0 ∷ E ∷ []) found) stored

@@ -4,4 +4,5 @@ pub mod Masks
 pub mod Snapshots
 pub mod Stores
 pub mod Known
+pub mod Leaving
 pub mod Flat

@@ -1,6 +1,6 @@
 -- What every rule keeps: a fine store stays fine, with the same counts.
 -- Kept: of an outcome. kept-..: by how a rule ends; kept-replied: of each call that only answers.
--- drop-kept, fetch-kept, evict-kept: of these rules.
+-- drop-kept, fetch-kept, evict-kept: of these rules. evicted-kept: E leaves, from any start.
 -- Assumes nothing.
 use mathlib.Core.Path.{_≡_, refl}
 use mathlib.Core.List.{List}
@@ -94,7 +94,7 @@ fetched-formed z master cache start F G =
     let T = fetchSet (versions (z .writers)) (z .keys) master cache start in
     formed-choice z T master cache F G
 
-evicted-fits : (z : Counts) (cache : Place Version) (start : Items) → FitPlace z cache
+pub evicted-fits : (z : Counts) (cache : Place Version) (start : Items) → FitPlace z cache
     → FitPlace z (evicted (versions (z .writers)) (z .keys) cache start)
 unfolding evicted
 evicted-fits z cache start F =
@@ -135,15 +135,24 @@ fetch-kept o k s F =
     (fetched-formed z (s .master) (s .site o .cache) (only k) (G .master) (G .cache o h))
     (over-no z (s .site o) p (d .0)))
 
+-- E leaves a cache, from any start.
+pub evicted-kept : (o : ℕ) (start : Items) (a : List ℕ) (s : Store) → Fine s
+    → o < s .counts .sites
+    → Kept s (done a (withCache s o
+    (evicted (versions (s .counts .writers)) (s .counts .keys) (s .site o .cache) start)))
+evicted-kept o start a s F h =
+    let z = s .counts in
+    let G = well-out s (F .formed) in
+    let cache = s .site o .cache in
+    let left = evicted (versions (z .writers)) (z .keys) cache start in
+    let less = held-evicted (z .writers) (z .keys) cache start in
+    cache-kept s o left a F h (evicted-fits z cache start (F .fits .site .each o h .cache))
+    (evicted-formed z cache start (G .cache o h)) (omega (arith, G .room o h .1))
+
+-- Evict: from its key.
 pub evict-kept : (o k : ℕ) (s : Store) → Fine s → Kept s (evictRule o k s)
 unfolding evictRule evictDone evictCause
 evict-kept o k s F =
     kept-unless s (evictCause s o k) (evictDone s o k) F (λ e.
-    let z = s .counts in
-    let G = well-out s (F .formed) in
-    let cache = s .site o .cache in
-    let left = evicted (versions (z .writers)) (z .keys) cache (only k) in
-    let h : o < z .sites = leb-gt _ _ (no-cause _ 3 _ (omega arith) e .0) in
-    let less = held-evicted (z .writers) (z .keys) cache (only k) in
-    cache-kept s o left _ F h (evicted-fits z cache (only k) (F .fits .site .each o h .cache))
-    (evicted-formed z cache (only k) (G .cache o h)) (omega (arith, G .room o h .1)))
+    let h : o < s .counts .sites = leb-gt _ _ (no-cause _ 3 _ (omega arith) e .0) in
+    evicted-kept o (only k) _ s F h)

@@ -1,10 +1,11 @@
 -- The laws of fetch and evict: they keep the invariant of demand 3, and leave every run.
+-- evicted-next: E leaves a cache, from any start.
 -- Assumes nothing.
 use mathlib.Core.Path.{refl}
 use mathlib.Core.List.{List}
 use Prim.Native.Nat.{ℕ, _<_}
 use native.Mathlib.Omega.{arith}
-use Rattle.words.specs.Tests.{only}
+use Rattle.words.specs.Tests.{Items, only}
 use Rattle.words.specs.Lists.{putAt}
 use Rattle.words.proofs.Bools.{leb-gt}
 use Rattle.sizes.specs.declared.Counts.{Counts}
@@ -20,7 +21,7 @@ use Rattle.history.specs.Listing.{BookCopy, bookCopies}
 use Rattle.history.specs.Book.{Book, bookFetch, bookEvict, bookRule, withBookCaches}
 use Rattle.consistency.specs.Roles.{roleOf}
 use Rattle.consistency.specs.Trace.{ReadSet, finishBy, finish}
-use Rattle.consistency.proofs.Simulation.{Related, fetched-rel, evicted-rel}
+use Rattle.consistency.proofs.Simulation.{Agree, Related, fetched-rel, evicted-rel}
 use Rattle.consistency.proofs.Closing.{ClosedAll}
 use Rattle.consistency.proofs.ClosingSets.{fetched-closed, evicted-closed}
 use Rattle.consistency.proofs.Invariant.{Inv}
@@ -59,20 +60,33 @@ fetch-laws o k s _ =
       turns = refl;
     })
 
+-- E leaves cache o, from any start; in the book from one that takes the counts.
+pub evicted-next : {s : Store} {b : Book} {f : ℕ → List ReadSet} (o : ℕ) (start : Items)
+    (start′ : Counts → Items) → Inv s b f → o < s .counts .sites
+    → Agree (s .counts .keys) start (start′ (s .counts))
+    → let z = s .counts in
+    let y = b .counts in
+    Inv (withCache s o (evicted (versions (z .writers)) (z .keys) (s .site o .cache) start))
+    (withBookCaches b (putAt (b .cache) o (evicted
+    (bookCopies (y .keys) (y .writers) (b .history)) (y .keys) (b .cache o) (start′ y)))) f
+evicted-next {s} {b} o start start′ v l same =
+    let F = v .follows in
+    let z = s .counts in
+    cache-next o (evicted (versions (z .writers)) (z .keys) (s .site o .cache) start)
+    (λ y. evicted (bookCopies (y .keys) (y .writers) (b .history)) (y .keys) (b .cache o)
+    (start′ y)) v
+    (evicted-rel (now-simulates F) (s .site o .cache) (b .cache o) start (start′ z)
+    (cache-related F o l) same)
+    (evicted-closed (now-laws F) (z .keys) (b .cache o) (start′ z) (F .closed o l))
+
+-- Evict: from its key.
 pub evict-laws : (o k : ℕ) (s : Store) → Fine s → Laws (evict o k) s (evictRule o k s)
 unfolding evictRule evictDone evictCause bookRule bookEvict finish finishBy roleOf withCache
     withSites
 evict-laws o k s _ =
     laws-unless (evict o k) s (evictCause s o k) (evictDone s o k) (λ e.
-    let K = s .counts .keys in
     let l : o < s .counts .sites = leb-gt _ _ (no-cause _ 3 _ (omega arith) e .0) in
     record {
-      moves = λ b f v. let F = v .follows in
-          cache-next o (evicted (versions (s .counts .writers)) K (s .site o .cache) (only k))
-          (λ z. evicted (bookCopies (z .keys) (z .writers) (b .history)) (z .keys) (b .cache o)
-          (only k)) v
-          (evicted-rel (now-simulates F) (s .site o .cache) (b .cache o) (only k) (only k)
-          (cache-related F o l) (λ _ _. refl))
-          (evicted-closed (now-laws F) K (b .cache o) (only k) (F .closed o l));
+      moves = λ b f v. evicted-next o (only k) (λ _. only k) v l (λ _ _. refl);
       turns = refl;
     })
