@@ -1,5 +1,5 @@
-/* Case A of the specification, an explained break with stale marks, rival saves and a desk that is
- * read back through the C header; ends with 1 if an answer is not as written. */
+/* Case A of the specification, an explained break with stale marks, rival saves, rights and a desk
+ * that is read back through the C header; ends with 1 if an answer is not as written. */
 #include <stdio.h>
 #include <string.h>
 
@@ -31,7 +31,7 @@ static void case_a(void)
     static const uint32_t reader[] = {0, 1, 0};
     static const uint32_t two[] = {0, 1, 0, 1, 2, 1};
 
-    DUE("new 2 2 2 1", sheetdesk_new(DESK, 2, 2, 2, 1, ANSWER), SHEETDESK_OK, 101);
+    DUE("new 2 2 2 1", sheetdesk_new(DESK, 2, 2, 2, 1, ANSWER), SHEETDESK_OK, 105);
     DUE("open 0 0 0 0", sheetdesk_open(DESK, 0, empty, LEN(empty), ANSWER), SHEETDESK_OK, 1);
     DUE("step 0 0", sheetdesk_step(DESK, 0, 0, ANSWER), SHEETDESK_OK, 0, 0, 0);
     DUE("issue 0 0 3", sheetdesk_issue(DESK, 0, 0, 3, ANSWER), SHEETDESK_OK, 1);
@@ -127,6 +127,33 @@ static void rivals(void)
     }
 }
 
+/* Sheets 0 and 1 are saved together, so each needs the other: office 0 loses both with the right to
+ * hold sheet 0. Then the writer loses the right to save sheet 1. */
+static void rights(void)
+{
+    static uint32_t other[SHEETDESK_WORDS(2, 1, 1, 1)];
+    static const uint32_t empty[] = {0, 0, 0};
+
+    DUE("new 2 1 1 1", sheetdesk_new(other, LEN(other), 2, 1, 1, 1, ANSWER), SHEETDESK_OK, 70);
+    sheetdesk_open(other, LEN(other), 0, empty, LEN(empty), ANSWER);
+    sheetdesk_step(other, LEN(other), 0, 0, ANSWER);
+    sheetdesk_issue(other, LEN(other), 0, 0, 3, ANSWER);
+    DUE("fetch 0 1", sheetdesk_fetch(other, LEN(other), 0, 1, ANSWER), SHEETDESK_OK, 3);
+    DUE("mayhold 0 2", sheetdesk_mayhold(other, LEN(other), 0, 2, ANSWER), SHEETDESK_OK, 0);
+    DUE("look 1 0 1", sheetdesk_look(other, LEN(other), 1, 0, 1, ANSWER), SHEETDESK_REFUSED,
+        SHEETDESK_NOT_HELD);
+    DUE("fetch 0 1", sheetdesk_fetch(other, LEN(other), 0, 1, ANSWER), SHEETDESK_REFUSED,
+        SHEETDESK_NO_RIGHT);
+    DUE("mayhold 0 3", sheetdesk_mayhold(other, LEN(other), 0, 3, ANSWER), SHEETDESK_OK, 0);
+    DUE("fetch 0 1", sheetdesk_fetch(other, LEN(other), 0, 1, ANSWER), SHEETDESK_OK, 3);
+    DUE("maysave 0 1", sheetdesk_maysave(other, LEN(other), 0, 1, ANSWER), SHEETDESK_OK, 0);
+    sheetdesk_open(other, LEN(other), 0, empty, LEN(empty), ANSWER);
+    sheetdesk_step(other, LEN(other), 0, 0, ANSWER);
+    DUE("issue 0 0 2", sheetdesk_issue(other, LEN(other), 0, 0, 2, ANSWER), SHEETDESK_REFUSED,
+        SHEETDESK_NO_RIGHT);
+    DUE("issue 0 0 1", sheetdesk_issue(other, LEN(other), 0, 0, 1, ANSWER), SHEETDESK_OK, 2);
+}
+
 /* A desk that is copied, as to a file and back, is admitted; one whose last issue number is behind
  * isn't, though it is in form and other calls work on it. */
 static void read_back(void)
@@ -152,6 +179,7 @@ int main(void)
     read_back();
     explained();
     rivals();
+    rights();
     puts(wrong ? "example.c: wrong answers" : "example.c: case A answered as written");
     return wrong;
 }

@@ -1,5 +1,5 @@
-"""Case A of the specification, an explained break with stale marks, and rival saves through the Python module; ends with 1
-if an answer is not as written."""
+"""Case A of the specification, an explained break with stale marks, rival saves and rights through the Python module; ends
+with 1 if an answer is not as written."""
 import sys
 
 import sheetdesk
@@ -9,7 +9,7 @@ from sheetdesk import Desk, Job, Look, Refusal, Standing, card, compare, covers,
 def case_a(desk):
     """The calls of case A and their answers, a line each."""
     return [
-        (desk.new(2, 2, 2, 1), "ok 101"),
+        (desk.new(2, 2, 2, 1), "ok 105"),
         (desk.open(0, [Job(0, 0, 0)]), "ok 1"),
         (desk.step(0, 0), "ok 0 0 0"),
         (desk.issue(0, 0, 3), "ok 1"),
@@ -36,7 +36,7 @@ def explained(desk):
     """A run has read sheet 0, both sheets are saved together, and its next job reads sheet 1. Then office 0 has an older
     sheet 0, and office 1 has none."""
     return [
-        (desk.new(2, 2, 2, 2), "ok 141"),
+        (desk.new(2, 2, 2, 2), "ok 145"),
         (desk.open(1, [Job(0, 0, 0)]), "ok 1"),
         (desk.step(1, 0), "ok 0 0 0"),
         (desk.issue(1, 0, 1), "ok 1"),
@@ -65,7 +65,7 @@ def explained(desk):
 def rivals(desk):
     """A writer saves a sheet without having read the other's: both lead, until one has read both."""
     return [
-        (desk.new(1, 2, 1, 1), "ok 59"),
+        (desk.new(1, 2, 1, 1), "ok 62"),
         (desk.open(0, [Job(0, 0, 0)]), "ok 1"),
         (desk.step(0, 0), "ok 0 0 0"),
         (desk.issue(0, 0, 1), "ok 1"),
@@ -78,6 +78,28 @@ def rivals(desk):
         (desk.step(0, 0), "ok 0 0 1"),
         (desk.issue(0, 0, 1), "ok 3"),
         (desk.look(MASTER, 0), "ok 3 1 2 1 0"),
+    ]
+
+
+def rights(desk):
+    """Sheets 0 and 1 are saved together, so each needs the other: office 0 loses both with the right to hold sheet 0. Then
+    the writer loses the right to save sheet 1."""
+    return [
+        (desk.new(2, 1, 1, 1), "ok 70"),
+        (desk.open(0, [Job(0, 0, 0)]), "ok 1"),
+        (desk.step(0, 0), "ok 0 0 0"),
+        (desk.issue(0, 0, 3), "ok 1"),
+        (desk.fetch(0, 1), "ok 3"),
+        (desk.mayhold(0, 2), "ok 0"),
+        (desk.look(shelf(0), 1), "refused 8"),
+        (desk.fetch(0, 1), "refused 13"),
+        (desk.mayhold(0, 3), "ok 0"),
+        (desk.fetch(0, 1), "ok 3"),
+        (desk.maysave(0, 1), "ok 0"),
+        (desk.open(0, [Job(0, 0, 0)]), "ok 1"),
+        (desk.step(0, 0), "ok 0 0 0"),
+        (desk.issue(0, 0, 2), "refused 13"),
+        (desk.issue(0, 0, 1), "ok 2"),
     ]
 
 
@@ -94,6 +116,7 @@ def main():
     desk = Desk(words(2, 2, 2, 1))
     good = desk.look(MASTER, 0).refusal is Refusal.NOT_IN_FORM
     scripts = case_a(desk) + explained(Desk(words(2, 2, 2, 2))) + rivals(Desk(words(1, 2, 1, 1)))
+    scripts += rights(Desk(words(2, 1, 1, 1)))
     for answer, due in scripts:
         if str(answer) != due:
             print("wrong: %s for %s" % (answer, due))

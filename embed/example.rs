@@ -1,5 +1,5 @@
-//! Case A of the specification, an explained break with stale marks, and rival saves through the
-//! Rust wrapper; ends with 1 if an answer is not as written.
+//! Case A of the specification, an explained break with stale marks, rival saves and rights through
+//! the Rust wrapper; ends with 1 if an answer is not as written.
 
 mod sheetdesk;
 
@@ -13,7 +13,7 @@ fn job(office: u32, reads: u32, upstream: u32) -> Job {
 /// The calls of case A and their answers, a line each.
 fn case_a(desk: &mut Desk) -> Vec<(Answer, &'static str)> {
     vec![
-        (desk.new(2, 2, 2, 1), "ok 101"),
+        (desk.new(2, 2, 2, 1), "ok 105"),
         (desk.open(0, &[job(0, 0, 0)]), "ok 1"),
         (desk.step(0, 0), "ok 0 0 0"),
         (desk.issue(0, 0, 3), "ok 1"),
@@ -40,7 +40,7 @@ fn case_a(desk: &mut Desk) -> Vec<(Answer, &'static str)> {
 /// office 0 has an older sheet 0, and office 1 has none.
 fn explained(desk: &mut Desk) -> Vec<(Answer, &'static str)> {
     vec![
-        (desk.new(2, 2, 2, 2), "ok 141"),
+        (desk.new(2, 2, 2, 2), "ok 145"),
         (desk.open(1, &[job(0, 0, 0)]), "ok 1"),
         (desk.step(1, 0), "ok 0 0 0"),
         (desk.issue(1, 0, 1), "ok 1"),
@@ -69,7 +69,7 @@ fn explained(desk: &mut Desk) -> Vec<(Answer, &'static str)> {
 /// A writer saves a sheet without having read the other's: both lead, until one has read both.
 fn rivals(desk: &mut Desk) -> Vec<(Answer, &'static str)> {
     vec![
-        (desk.new(1, 2, 1, 1), "ok 59"),
+        (desk.new(1, 2, 1, 1), "ok 62"),
         (desk.open(0, &[job(0, 0, 0)]), "ok 1"),
         (desk.step(0, 0), "ok 0 0 0"),
         (desk.issue(0, 0, 1), "ok 1"),
@@ -82,6 +82,28 @@ fn rivals(desk: &mut Desk) -> Vec<(Answer, &'static str)> {
         (desk.step(0, 0), "ok 0 0 1"),
         (desk.issue(0, 0, 1), "ok 3"),
         (desk.look(Place::Master, 0), "ok 3 1 2 1 0"),
+    ]
+}
+
+/// Sheets 0 and 1 are saved together, so each needs the other: office 0 loses both with the right to
+/// hold sheet 0. Then the writer loses the right to save sheet 1.
+fn rights(desk: &mut Desk) -> Vec<(Answer, &'static str)> {
+    vec![
+        (desk.new(2, 1, 1, 1), "ok 70"),
+        (desk.open(0, &[job(0, 0, 0)]), "ok 1"),
+        (desk.step(0, 0), "ok 0 0 0"),
+        (desk.issue(0, 0, 3), "ok 1"),
+        (desk.fetch(0, 1), "ok 3"),
+        (desk.mayhold(0, 2), "ok 0"),
+        (desk.look(Place::Shelf(0), 1), "refused 8"),
+        (desk.fetch(0, 1), "refused 13"),
+        (desk.mayhold(0, 3), "ok 0"),
+        (desk.fetch(0, 1), "ok 3"),
+        (desk.maysave(0, 1), "ok 0"),
+        (desk.open(0, &[job(0, 0, 0)]), "ok 1"),
+        (desk.step(0, 0), "ok 0 0 0"),
+        (desk.issue(0, 0, 2), "refused 13"),
+        (desk.issue(0, 0, 1), "ok 2"),
     ]
 }
 
@@ -129,6 +151,7 @@ fn main() {
     good &= Desk::lend(&mut back).admit() == Answer::Refused(Refusal::NotAdmitted);
     good &= as_written(explained(&mut Desk::lend(&mut [0; words(2, 2, 2, 2)])));
     good &= as_written(rivals(&mut Desk::lend(&mut [0; words(1, 2, 1, 1)])));
+    good &= as_written(rights(&mut Desk::lend(&mut [0; words(2, 1, 1, 1)])));
     println!("example.rs: {}", if good { "case A answered as written" } else { "wrong answers" });
     std::process::exit(if good { 0 } else { 1 });
 }

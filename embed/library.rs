@@ -28,6 +28,8 @@ pub fn call(desk: &mut [u32], call: &Call, answer: &mut [u32]) -> u32 {
             Call::Admit => sheetdesk_admit(d, dn, a, an),
             Call::Allow(office, number) => sheetdesk_allow(d, dn, *office, *number, a, an),
             Call::Pick => sheetdesk_pick(d, dn, a, an),
+            Call::MayHold(office, mask) => sheetdesk_mayhold(d, dn, *office, *mask, a, an),
+            Call::MaySave(writer, mask) => sheetdesk_maysave(d, dn, *writer, *mask, a, an),
             Call::Issue(run, writer, mask) => {
                 sheetdesk_issue(d, dn, *run, *writer, *mask, a, an)
             }

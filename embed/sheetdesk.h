@@ -39,9 +39,9 @@ extern "C" {
 #endif
 
 /* The version of the calls: rises when one is added or changes what it takes, does or answers. */
-#define SHEETDESK_VERSION 8
+#define SHEETDESK_VERSION 9
 /* The version of the desk's words: rises when a desk of the same counts has other words. */
-#define SHEETDESK_LAYOUT 5
+#define SHEETDESK_LAYOUT 6
 /* The same two of the library that is linked: compare them with these. */
 uint32_t sheetdesk_version(void);
 uint32_t sheetdesk_layout(void);
@@ -49,7 +49,7 @@ uint32_t sheetdesk_layout(void);
 /* The length of a slice that holds any answer. */
 #define SHEETDESK_ANSWER_WORDS 40
 /* The words of the largest desk (32 sheets, 16 writers, 8 offices, 8 runs). */
-#define SHEETDESK_MOST_WORDS 288075
+#define SHEETDESK_MOST_WORDS 288099
 
 /* The words of a desk of k sheets, w writers, n offices and p runs, to be lent before new; 0 if
  * new refuses the counts. A constant if they are. */
@@ -59,9 +59,10 @@ uint32_t sheetdesk_layout(void);
          : 0)
 /* The same for counts in range: header, then master, shelves and cards of k versions each, a
  * mark and an allowance for each shelf, a count and a past for each writer, 28 words more for
- * each run, and the last picked run. */
+ * each run, the last picked run, and a mask of sheets for each office and each writer. */
 #define SHEETDESK_WORDS_OF(k, w, n, p) \
-    (10 + (k) * (2 + (k) * (w)) * (1 + (n) + (p)) + 2 * (n) + (w) * (1 + (k) * (w)) + 28 * (p) + 1)
+    (10 + (k) * (2 + (k) * (w)) * (1 + (n) + (p)) + 2 * (n) + (w) * (1 + (k) * (w)) + 28 * (p) + 1 \
+     + (n) + (w))
 
 /* The answer's first word. */
 enum sheetdesk_outcome {
@@ -86,7 +87,8 @@ enum sheetdesk_refusal {
     SHEETDESK_ISSUES_SPENT = 9,  /* the last issue number is 4294967295 */
     SHEETDESK_WRITER_SPENT = 10, /* the writer's count is 4294967295 */
     SHEETDESK_NOT_ADMITTED = 11, /* admit: in form, but no desk that the calls can have left */
-    SHEETDESK_OVER_ALLOWANCE = 12 /* a shelf would hold more sheets than its allowance */
+    SHEETDESK_OVER_ALLOWANCE = 12, /* a shelf would hold more sheets than its allowance */
+    SHEETDESK_NO_RIGHT = 13 /* the office may not hold a sheet, or the writer not save it */
 };
 
 /* How one clock stands against another: all counts are equal; some are smaller and none larger;
@@ -183,6 +185,20 @@ uint32_t sheetdesk_allow(uint32_t *desk, size_t desk_len, uint32_t office, uint3
  * job; returns 1 word, and no word is changed. A run that stays open and has such a job is picked
  * within as many picks as the desk has runs. */
 uint32_t sheetdesk_pick(uint32_t *desk, size_t desk_len, uint32_t *answer, size_t answer_len);
+
+/* Sets the mask of the sheets that the office may hold; all of them on a new desk. A sheet on its
+ * shelf that isn't in the mask is evicted there, with all that needs it there; a sheet that is
+ * given back isn't fetched. From then on a fetch that would take a barred sheet is refused with
+ * 13, and so is a step, explain or prepare of a job that reads or would fetch one at this office,
+ * even if the card has it; cards keep what they carry. Ok: 0. Returns 2 words. */
+uint32_t sheetdesk_mayhold(uint32_t *desk, size_t desk_len, uint32_t office, uint32_t mask,
+                           uint32_t *answer, size_t answer_len);
+
+/* Sets the mask of the sheets that the writer may save; all of them on a new desk. From then on
+ * an issue by the writer of a sheet that isn't in it is refused with 13. What was saved before
+ * stays. Ok: 0. Returns 2 words. */
+uint32_t sheetdesk_maysave(uint32_t *desk, size_t desk_len, uint32_t writer, uint32_t mask,
+                           uint32_t *answer, size_t answer_len);
 
 /* How clock p stands against clock q. Returns an enum sheetdesk_standing; two empty clocks (both
  * lengths 0) are equal. */

@@ -1,7 +1,7 @@
 """The sheet desk for Python: the library's calls by ctypes alone, with the names of the Rust wrapper.
 
     desk = sheetdesk.Desk(sheetdesk.words(2, 2, 2, 1))
-    print(desk.new(2, 2, 2, 1))                # ok 101
+    print(desk.new(2, 2, 2, 1))                # ok 105
     print(desk.open(0, [sheetdesk.Job(0, 0, 0)]))
 
 A Desk owns its words; each call gives an Answer, which prints as the program prints it. sheetdesk.h says what each
@@ -16,10 +16,10 @@ import enum
 import os
 from typing import NamedTuple
 
-VERSION = 8
-LAYOUT = 5
+VERSION = 9
+LAYOUT = 6
 ANSWER_WORDS = 40
-MOST_WORDS = 288075
+MOST_WORDS = 288099
 
 
 class Refusal(enum.IntEnum):
@@ -37,6 +37,7 @@ class Refusal(enum.IntEnum):
     WRITER_SPENT = 10
     NOT_ADMITTED = 11
     OVER_ALLOWANCE = 12
+    NO_RIGHT = 13
 
 
 class Standing(enum.IntEnum):
@@ -118,7 +119,8 @@ def words(sheets, writers, offices, runs):
         if not 1 <= _word(count) <= most:
             return 0
     version, writer = 2 + sheets * writers, 1 + sheets * writers
-    return 10 + sheets * version * (1 + offices + runs) + 2 * offices + writers * writer + 28 * runs + 1
+    tail = 1 + offices + writers
+    return 10 + sheets * version * (1 + offices + runs) + 2 * offices + writers * writer + 28 * runs + tail
 
 
 def _word(number):
@@ -151,8 +153,8 @@ def _library():
     places = [os.path.join(here, "..", "..", "lib", name), os.path.join(here, "..", "target", "shared", name)]
     path = os.environ.get("SHEETDESK_LIBRARY") or next(filter(os.path.exists, places), name)
     library = ctypes.CDLL(path)
-    calls = "new open fetch evict prepare step explain issue drop look stale admit allow pick compare covers merge version layout"
-    for call in calls.split():
+    calls = "new open fetch evict prepare step explain issue drop look stale admit allow pick mayhold maysave"
+    for call in (calls + " compare covers merge version layout").split():
         getattr(library, "sheetdesk_" + call).restype = ctypes.c_uint32
     if (library.sheetdesk_version(), library.sheetdesk_layout()) != (VERSION, LAYOUT):
         raise ImportError("%s has other calls or another layout than this module" % path)
@@ -237,6 +239,14 @@ class Desk:
     def pick(self):
         """Which job to step next: run and job, or nothing."""
         return self._call("pick")
+
+    def mayhold(self, office, mask):
+        """Sets which sheets the office may hold; what it holds of the others is evicted there."""
+        return self._call("mayhold", office, mask)
+
+    def maysave(self, writer, mask):
+        """Sets which sheets the writer may save."""
+        return self._call("maysave", writer, mask)
 
 
 def compare(p, q):

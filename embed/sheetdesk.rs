@@ -9,16 +9,16 @@
 use std::fmt::{self, Write};
 
 /// The version of the calls: `SHEETDESK_VERSION` of the header.
-pub const VERSION: u32 = 8;
+pub const VERSION: u32 = 9;
 
 /// The version of the desk's words: `SHEETDESK_LAYOUT` of the header. Save it with the words.
-pub const LAYOUT: u32 = 5;
+pub const LAYOUT: u32 = 6;
 
 /// Words of a slice that holds any answer.
 pub const ANSWER_WORDS: usize = 40;
 
 /// The words of the largest desk (32 sheets, 16 writers, 8 offices, 8 runs).
-pub const MOST_WORDS: usize = 288_075;
+pub const MOST_WORDS: usize = 288_099;
 
 /// The words to lend for a desk of so many sheets, writers, offices and runs; 0 if new refuses
 /// the counts.
@@ -28,7 +28,7 @@ pub const fn words(sheets: u32, writers: u32, offices: u32, runs: u32) -> usize 
         return 0;
     }
     let (version, writer) = (2 + k * w, 1 + k * w);
-    10 + k * version * (1 + n + p) + 2 * n + w * writer + 28 * p + 1
+    10 + k * version * (1 + n + p) + 2 * n + w * writer + 28 * p + 1 + n + w
 }
 
 /// The exports as C has them: a slice is a pointer and a length in words.
@@ -59,6 +59,8 @@ pub mod exports {
         sheetdesk_admit(*const u32);
         sheetdesk_allow(*mut u32, office, number);
         sheetdesk_pick(*mut u32);
+        sheetdesk_mayhold(*mut u32, office, mask);
+        sheetdesk_maysave(*mut u32, writer, mask);
     }
 
     extern "C" {
@@ -136,12 +138,14 @@ pub enum Refusal {
     NotAdmitted,
     /// 12: a shelf would hold more sheets than its allowance.
     OverAllowance,
+    /// 13: the office may not hold a sheet, or the writer not save it.
+    NoRight,
     /// A number that this wrapper has no name for: the library is newer.
     Other(u32),
 }
 
 impl Refusal {
-    const NAMED: [Refusal; 12] = [
+    const NAMED: [Refusal; 13] = [
         Refusal::NotInForm,
         Refusal::BadCount,
         Refusal::OutOfRange,
@@ -154,6 +158,7 @@ impl Refusal {
         Refusal::WriterSpent,
         Refusal::NotAdmitted,
         Refusal::OverAllowance,
+        Refusal::NoRight,
     ];
 
     /// The refusal of a number.
@@ -399,6 +404,10 @@ impl<'a> Desk<'a> {
         allow(office, number) = sheetdesk_allow;
         /// Which job to step next: run and job, or nothing.
         pick() = sheetdesk_pick;
+        /// Sets which sheets the office may hold; what it holds of the others is evicted there.
+        mayhold(office, mask) = sheetdesk_mayhold;
+        /// Sets which sheets the writer may save.
+        maysave(writer, mask) = sheetdesk_maysave;
     }
 
     tells! {

@@ -52,6 +52,8 @@ static inline const char *sheetdesk_reason(const char *call, uint32_t number)
         {3, "fetch,evict", "there is no such office or sheet"},
         {3, "stale", "there is no such office"},
         {3, "allow", "there is no such office, or the allowance is over the number of sheets"},
+        {3, "mayhold", "there is no such office, or the mask names a sheet that there isn't"},
+        {3, "maysave", "there is no such writer, or the mask names a sheet that there isn't"},
         {3, "step,explain", "there is no such run or job"},
         {3, "issue", "there is no such run or writer, or the mask names a sheet that there isn't"},
         {3, "look", "there is no such place, number or sheet (the master's number is 0)"},
@@ -78,6 +80,10 @@ static inline const char *sheetdesk_reason(const char *call, uint32_t number)
         {12, "allow", "the shelf holds more sheets than that: evict some first"},
         {12, "*", "a shelf would hold more than its allowance: evict there, or allow more"},
         {12, "", "a shelf would hold more sheets than its allowance"},
+        {13, "issue", "the writer may not save a sheet of the mask: maysave gives the right"},
+        {13, "fetch", "the office may not hold a sheet to be fetched: mayhold gives the right"},
+        {13, "*", "an office may not hold what a job reads or fetches: mayhold gives the right"},
+        {13, "", "the office may not hold a sheet, or the writer may not save it"},
     };
     size_t row;
 

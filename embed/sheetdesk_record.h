@@ -135,6 +135,8 @@ SHEETDESK_RECORDED(stale, const uint32_t, 1, office)
 SHEETDESK_RECORDED_ALONE(admit, const uint32_t)
 SHEETDESK_RECORDED(allow, uint32_t, 2, office, number)
 SHEETDESK_RECORDED_ALONE(pick, uint32_t)
+SHEETDESK_RECORDED(mayhold, uint32_t, 2, office, mask)
+SHEETDESK_RECORDED(maysave, uint32_t, 2, writer, mask)
 
 static inline uint32_t sheetdesk_open_recorded(const struct sheetdesk_record *record,
                                                uint32_t *desk, size_t desk_len, uint32_t run,

@@ -10,9 +10,11 @@ pub mod checks;
 pub mod follow;
 pub mod ledger;
 mod paths;
+mod rights;
 pub mod rows;
 pub mod runs;
 pub mod saves;
+mod steps;
 mod turns;
 
 use crate::text::Call;
@@ -31,17 +33,11 @@ pub struct Book {
     pub shelves: Vec<Vec<Saves>>,
     /// How many sheets each shelf may hold, by the calls that set it.
     pub allowances: Vec<u32>,
+    /// Which sheets each office may hold and each writer may save, by the calls that set it.
+    pub may_hold: Vec<u32>,
+    pub may_save: Vec<u32>,
     pub runs: Vec<Run>,
     pub turns: Turns,
-}
-
-/// What a step finds: its reads that the card lacks, T of its fetch, C, and the shelf after the
-/// fetch.
-pub struct StepFound {
-    pub off_card: u32,
-    pub fetched: u32,
-    pub set: u32,
-    pub shelf: Vec<Saves>,
 }
 
 pub fn has(mask: u32, k: usize) -> bool {
@@ -57,6 +53,7 @@ impl Book {
     /// "New: all empty."
     pub fn new([k, w, n, p]: [u32; 4]) -> Book {
         let k = k as usize;
+        let all = (0..k).fold(0, |mask, sheet| mask | 1 << sheet);
         Book {
             k,
             w: w as usize,
@@ -65,6 +62,8 @@ impl Book {
             master: empty(k),
             shelves: vec![empty(k); n as usize],
             allowances: vec![k as u32; n as usize],
+            may_hold: vec![all; n as usize],
+            may_save: vec![all; w as usize],
             runs: (0..p).map(|_| Run::fresh(k)).collect(),
             turns: Turns::after(p as usize - 1, p as usize),
         }
@@ -82,7 +81,7 @@ impl Book {
             }
             Call::Open(run, list) => self.open(*run as usize, list),
             Call::Fetch(office, sheet) => vec![self.fetch(*office as usize, 1 << sheet)],
-            Call::Evict(office, sheet) => self.evict(*office as usize, *sheet as usize),
+            Call::Evict(office, sheet) => vec![self.let_go(*office as usize, 1 << sheet)],
             Call::Prepare(run) => self.prepare(*run as usize),
             Call::Step(run, job) => self.step(*run as usize, *job as usize),
             Call::Issue(run, writer, mask) => {
@@ -105,6 +104,8 @@ impl Book {
             }
             // Nothing changes; whose turn it is goes by the desk's runs (`check_pick`).
             Call::Pick => Vec::new(),
+            Call::MayHold(office, mask) => self.set_may_hold(*office as usize, *mask),
+            Call::MaySave(writer, mask) => self.set_may_save(*writer as usize, *mask),
         }
     }
 
@@ -160,15 +161,16 @@ impl Book {
         set
     }
 
-    fn evict(&mut self, office: usize, sheet: usize) -> Vec<u32> {
+    /// The evict rule: E of these sheets leaves the shelf. Answers E.
+    fn let_go(&mut self, office: usize, leaving: u32) -> u32 {
         let shelf = &self.shelves[office];
-        let set = self.least(1 << sheet, |member, u| {
+        let set = self.least(leaving, |member, u| {
             !shelf[u].is_empty() && !self.ledger.need(&shelf[u], member).is_empty()
         });
         for k in (0..self.k).filter(|k| has(set, *k)) {
             self.shelves[office][k] = Saves::default();
         }
-        vec![set]
+        set
     }
 
     /// Those of the sheets whose copy is empty.
@@ -199,44 +201,6 @@ impl Book {
         }
         self.runs[run].card = card;
         vec![plan & !self.lacking(&self.runs[run].card, plan)]
-    }
-
-    /// T and C on copies; nothing is changed.
-    pub fn find_step(&self, run: usize, job: usize) -> StepFound {
-        let (run, job) = (&self.runs[run], &self.runs[run].jobs[job]);
-        let off_card = self.lacking(&run.card, job.reads);
-        let mut shelf = self.shelves[job.office].clone();
-        let missing = self.lacking(&shelf, off_card);
-        let fetched = self.fetch_to(&mut shelf, missing);
-        let set = self.least(off_card, |c, d| self.leads(run, &shelf, c, d));
-        StepFound { off_card, fetched, set, shelf }
-    }
-
-    /// C's rule on copies: "d is a plan's sheet needed by the shelf's c, the card doesn't meet
-    /// that need and the shelf holds d".
-    pub fn leads(&self, run: &Run, shelf: &[Saves], c: usize, d: usize) -> bool {
-        let need = self.ledger.need(&shelf[c], d);
-        has(run.plan(), d)
-            && !need.is_empty()
-            && !run.card[d].includes(&need)
-            && !shelf[d].is_empty()
-    }
-
-    /// A step that was answered `ok`.
-    fn step(&mut self, run: usize, job: usize) -> Vec<u32> {
-        let found = self.find_step(run, job);
-        let Job { office, reads } = self.runs[run].jobs[job].clone();
-        let card = &mut self.runs[run].card;
-        for k in (0..self.k).filter(|k| has(found.set, *k)) {
-            card[k].join(&found.shelf[k]);
-        }
-        let sheets = (0..self.k).filter(|k| has(reads, *k));
-        let read = sheets.map(|k| (k, card[k].clone())).collect();
-        self.runs[run].finished.push(Finished { job, read });
-        self.runs[run].read |= reads;
-        self.shelves[office] = found.shelf;
-        let (set, fetched) = (found.set, found.fetched);
-        vec![reads & !set, reads & set & !fetched, reads & set & fetched]
     }
 
     /// "If S isn't empty it is entered, and for each k in S the master's copy takes in what

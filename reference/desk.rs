@@ -7,11 +7,13 @@
 mod admit;
 pub mod allowance;
 mod calls;
+mod evict;
 pub mod explain;
 mod form;
 pub mod layout;
 mod pick;
 pub mod reads;
+pub mod rights;
 pub mod sets;
 pub mod stale;
 pub mod version;
@@ -21,13 +23,15 @@ pub use allowance::allow;
 // Not every program that is built from this file calls all of them.
 #[allow(unused_imports)]
 pub use calls::{drop_run, issue, look, new, open};
+pub use evict::evict;
 pub use explain::explain;
 #[allow(unused_imports)]
 pub use form::in_form;
 #[allow(unused_imports)]
 pub use layout::Sizes;
 pub use pick::pick;
-pub use reads::{evict, fetch, prepare, step};
+pub use reads::{fetch, prepare, step};
+pub use rights::{mayhold, maysave};
 pub use stale::stale;
 
 /// What a call gives back.
@@ -57,6 +61,7 @@ pub const ISSUES_SPENT: u32 = 9;
 pub const WRITER_SPENT: u32 = 10;
 pub const NOT_ADMITTED: u32 = 11;
 pub const OVER_ALLOWANCE: u32 = 12;
+pub const NO_RIGHT: u32 = 13;
 
 // A run's states.
 pub const FREE: u32 = 0;

@@ -18,6 +18,8 @@ mod odd;
 mod plots;
 #[path = "generate/random.rs"]
 mod random;
+#[path = "generate/rights.rs"]
+mod rights;
 #[path = "generate/rivals.rs"]
 mod rivals;
 #[path = "generate/rounds.rs"]
@@ -27,6 +29,8 @@ mod small;
 #[path = "generate/teller.rs"]
 mod teller;
 mod text;
+#[path = "generate/unread.rs"]
+mod unread;
 
 use std::io::{self, Write};
 use teller::Teller;
@@ -59,13 +63,14 @@ fn main() -> io::Result<()> {
 fn one_plot(teller: &mut Teller) {
     match teller.below(100) {
         number @ 0..=57 => plots::of_runs(teller, number),
-        58..=62 => everyday::fetch_and_evict(teller),
-        63..=65 => small::small_shelf(teller),
-        66..=68 => rounds::dispatch(teller),
-        69..=77 => everyday::any_call(teller),
-        78..=89 => odd::refused(teller),
-        90..=94 => odd::unread(teller),
-        95 => odd::long_line(teller),
+        58..=61 => everyday::fetch_and_evict(teller),
+        62..=64 => small::small_shelf(teller),
+        65..=67 => rounds::dispatch(teller),
+        68..=72 => rights::joint_project(teller),
+        73..=78 => everyday::any_call(teller),
+        79..=88 => odd::refused(teller),
+        89..=94 => unread::line(teller),
+        95 => unread::long_line(teller),
         _ => plots::fresh_desk(teller),
     }
 }

@@ -19,6 +19,8 @@ mod odd;
 mod plots;
 #[path = "generate/random.rs"]
 mod random;
+#[path = "generate/rights.rs"]
+mod rights;
 #[path = "generate/rivals.rs"]
 mod rivals;
 #[path = "generate/rounds.rs"]

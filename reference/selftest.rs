@@ -1,6 +1,7 @@
 //! Checks on lent buffers: the paper's numbers, the ten marked readings, the form, refusals
 //! 9 and 10, how clocks stand, paths behind a break, leading writers, stale marks, admission,
-//! allowances, picks, other layouts, what stands behind a save, and random buffers. Panics at the first check that fails.
+//! allowances, picks, rights, other layouts, what stands behind a save, and random buffers. Panics
+//! at the first check that fails.
 #![allow(dead_code)]
 
 #[path = "selftest/admitted.rs"]
@@ -31,6 +32,8 @@ mod paths;
 mod picked;
 #[path = "selftest/random.rs"]
 mod random;
+#[path = "selftest/rights.rs"]
+mod rights;
 #[path = "selftest/rivals.rs"]
 mod rivals;
 #[path = "selftest/stale.rs"]
@@ -76,6 +79,13 @@ fn fixed_checks() {
     explained::over_carried();
     explained::refusals();
     explained::all_sheets();
+    of_versions_and_marks();
+    of_the_later_calls();
+    layouts::none_agree();
+}
+
+/// Leading writers, stale marks and admission.
+fn of_versions_and_marks() {
     leading::visible();
     leading::over_offices();
     leading::by_a_chain();
@@ -91,6 +101,10 @@ fn fixed_checks() {
     admitted::one_change_each();
     admitted::not_chained();
     admitted::behind_the_next_issue();
+}
+
+/// Allowances, picks and rights.
+fn of_the_later_calls() {
     allowances::before_a_break();
     allowances::held_sheets();
     allowances::of_all_jobs();
@@ -103,5 +117,14 @@ fn fixed_checks() {
     picked::behind_all_upstreams();
     picked::asked_by_form();
     picked::within_as_many_picks();
-    layouts::none_agree();
+    rights::taken_from_a_shelf();
+    rights::before_the_master();
+    rights::of_sheets_in_t();
+    rights::of_any_office();
+    rights::even_from_the_card();
+    rights::to_save();
+    rights::of_all_sheets();
+    rights::of_held_sheets_alone();
+    rights::after_the_turn();
+    rights::asked_by_form();
 }

@@ -6,7 +6,7 @@ use crate::desk::{self, Answer};
 pub const LENT: usize = 16_384;
 const LONGEST: usize = 400;
 
-/// One of the fourteen calls with its numbers.
+/// One of the sixteen calls with its numbers.
 #[derive(Clone, PartialEq, Eq, Debug)]
 pub enum Call {
     New([u32; 4]),
@@ -23,6 +23,8 @@ pub enum Call {
     Admit,
     Allow(u32, u32),
     Pick,
+    MayHold(u32, u32),
+    MaySave(u32, u32),
 }
 
 impl Call {
@@ -43,6 +45,8 @@ impl Call {
             Call::Admit => ("admit", Vec::new()),
             Call::Allow(office, number) => ("allow", vec![*office, *number]),
             Call::Pick => ("pick", Vec::new()),
+            Call::MayHold(office, mask) => ("mayhold", vec![*office, *mask]),
+            Call::MaySave(writer, mask) => ("maysave", vec![*writer, *mask]),
         }
     }
 
@@ -98,6 +102,8 @@ pub fn read_line(line: &[u8]) -> Option<Call> {
         (b"admit", []) => Some(Call::Admit),
         (b"allow", [office, number]) => Some(Call::Allow(*office, *number)),
         (b"pick", []) => Some(Call::Pick),
+        (b"mayhold", [office, mask]) => Some(Call::MayHold(*office, *mask)),
+        (b"maysave", [writer, mask]) => Some(Call::MaySave(*writer, *mask)),
         _ => None,
     }
 }
@@ -134,6 +140,8 @@ pub fn run(words: &mut [u32], call: &Call) -> Answer {
         Call::Admit => desk::admit(words),
         Call::Allow(office, number) => desk::allow(words, *office, *number),
         Call::Pick => desk::pick(words),
+        Call::MayHold(office, mask) => desk::mayhold(words, *office, *mask),
+        Call::MaySave(writer, mask) => desk::maysave(words, *writer, *mask),
     }
 }
 

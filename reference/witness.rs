@@ -1,7 +1,7 @@
 //! Runs a script through the desk and the book, and tests demand 3 after each call, that no copy
-//! is ahead of the master, whom each version names as leading writers, the shelves' marks, and that
-//! the desk would be admitted. From each admission on a second book is kept that began there.
-//! Ends with 1, and prints the script up to there, if a claim fails.
+//! is ahead of the master, whom each version names as leading writers, the shelves' marks, who may
+//! hold and save, and that the desk would be admitted. From each admission on a second book is kept
+//! that began there. Ends with 1, and prints the script up to there, if a claim fails.
 #![allow(dead_code)]
 
 mod book;

@@ -25,6 +25,8 @@ pub fn call(desk: &mut Desk, line: &str) -> Option<Answer> {
         ("admit", &[]) => desk.admit(),
         ("pick", &[]) => desk.pick(),
         ("allow", &[office, number]) => desk.allow(office, number),
+        ("mayhold", &[office, mask]) => desk.mayhold(office, mask),
+        ("maysave", &[writer, mask]) => desk.maysave(writer, mask),
         ("look", &[0, 0, sheet]) => desk.look(Place::Master, sheet),
         ("look", &[1, office, sheet]) => desk.look(Place::Shelf(office), sheet),
         ("look", &[2, run, sheet]) => desk.look(Place::Card(run), sheet),

@@ -136,7 +136,7 @@ trial_speed() {
 
 # Each line of --echo is its number, the script's line, and the answer, with words behind what isn't ok.
 trial_echo() {
-  for script in case-a refused-1 refused-2 refused-3 refused-4 refused-5 refused-6 refused-7 refused-8 break-several explain-path explain-refused stale-refused admit allow-refused allow-counts-held pick-refused pick-goes-round; do
+  for script in case-a refused-1 refused-2 refused-3 refused-4 refused-5 refused-6 refused-7 refused-8 break-several explain-path explain-refused stale-refused admit allow-refused allow-counts-held pick-refused pick-goes-round refused-13 rights-refused mayhold-before-7; do
     want 0 "--echo $script" ./sheetdesk --echo "scripts/$script.txt"
     sed -E 's/((refused|broken) [0-9]+|unread|clear|nothing|path [0-9 ]+): .*/\1/' "$work/out" >"$work/plain"
     paste -d '|' "scripts/$script.txt" "scripts/$script.out" | sed 's/|/ -> /' | awk '{ print NR ": " $0 }' |
@@ -233,10 +233,18 @@ trial_explained() {
 
 # And of allowances.
 trial_allowances() {
-  { head -n 13 scripts/allow-counts-held.txt; sed -n '/^## ALLOWANCES/,/^## PICKING/s/^    //p' "$page"; } >"$work/allowed"
+  { head -n 13 scripts/allow-counts-held.txt; sed -n '/^## ALLOWANCES/,/^## RIGHTS/s/^    //p' "$page"; } >"$work/allowed"
   want 0 "the page's allowances" ./sheetdesk "$work/allowed"
   tail -n +14 "$work/out" | paste -sd ',' | sed 's/,/` and `/; s/^/`/; s/$/`/' >"$work/due"
   grep -qF -f "$work/due" "$page" || bad "the page's allowances answer $(cat "$work/due"), the page says otherwise"
+}
+
+# And of rights.
+trial_rights() {
+  { head -n 10 scripts/mayhold-takes-needs.txt; sed -n '/^## RIGHTS/,/^## PICKING/s/^    //p' "$page"; } >"$work/rights"
+  want 0 "the page's rights" ./sheetdesk "$work/rights"
+  tail -n +11 "$work/out" | paste -sd ',' | sed 's/,/`, `/g; s/^/`/; s/$/`/' >"$work/due"
+  grep -qF -f "$work/due" "$page" || bad "the page's rights answer $(cat "$work/due"), the page says otherwise"
 }
 
 # And of picks.
@@ -290,7 +298,7 @@ trial_readme() {
 }
 
 trials=("$@")
-[ $# -gt 0 ] || trials=(files options histories installed_histories lost strict speed echo prompt terminal signal broken explained allowances picks leading refusals line_ends examples readme)
+[ $# -gt 0 ] || trials=(files options histories installed_histories lost strict speed echo prompt terminal signal broken explained allowances rights picks leading refusals line_ends examples readme)
 for trial in "${trials[@]}"; do
   (trial_"$trial") || exit 1
 done

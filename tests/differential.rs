@@ -30,6 +30,7 @@ mod generate {
     pub mod odd;
     pub mod plots;
     pub mod random;
+    pub mod rights;
     pub mod rivals;
     pub mod rounds;
     pub mod small;
@@ -50,7 +51,7 @@ mod parts {
     pub mod stories;
 }
 
-use generate::{bent, chains, counts, everyday, odd, plots, rivals, rounds, small, teller};
+use generate::{bent, chains, counts, everyday, odd, plots, rights, rivals, rounds, small, teller};
 use parts::{admitted, arguments, built, clocks, damaged, met, pair, random, script, stories};
 use reference::{book, desk, text};
 

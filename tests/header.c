@@ -71,6 +71,8 @@ static int layout_refused(const uint32_t offsets[HEADER - OFFSETS])
         && NOT_TAKEN(sheetdesk_look, 0, 0, 0)
         && NOT_TAKEN(sheetdesk_stale, 0)
         && NOT_TAKEN(sheetdesk_allow, 0, 0)
+        && NOT_TAKEN(sheetdesk_mayhold, 0, 0)
+        && NOT_TAKEN(sheetdesk_maysave, 0, 0)
         && refused(sheetdesk_pick(other, LENT, ANSWER), SHEETDESK_NOT_IN_FORM)
         && refused(sheetdesk_admit(other, LENT, ANSWER), SHEETDESK_NOT_IN_FORM);
     return good && memcmp(before, other, sizeof other) == 0;
@@ -84,7 +86,8 @@ static int other_layouts_refused(void)
         {10, 22, 34, 44, 84}, /* layout 2 */
         {10, 22, 35, 45, 85}, /* layout 3 */
         {10, 22, 36, 46, 86}, /* layout 4 */
-        {10, 22, 36, 48, 89}, /* long writers */
+        {10, 22, 36, 46, 87}, /* layout 5 */
+        {10, 22, 36, 48, 92}, /* long writers */
     };
     size_t each;
 
@@ -109,7 +112,7 @@ static int says(const char *call, uint32_t number, const char *text)
 }
 
 /* The largest number of a refusal. */
-enum { LAST = SHEETDESK_OVER_ALLOWANCE };
+enum { LAST = SHEETDESK_NO_RIGHT };
 
 /* Each refusal has words, for a call that isn't known too, and no other number has. */
 static int reasons_fit(void)

@@ -56,6 +56,15 @@ FACTS = [
     ("stale-break", STALE, [[10, 0, 1], [10, 1, 1], [16, 1, 0]]),
     ("stale-break", SENTENCES,
      ["Sheet 1 of issue 2 needs sheet 0 of issue 2; run 0 had read the older sheet 0 of issue 1."]),
+    # Line 13 takes the right to sheet 0, and all three sheets leave the shelf.
+    ("mayhold-takes-needs", ARROWS, [
+        [4, "issue", "run 0", "master", 1], [6, "fetch", "master", "office 0", 1], [6, "read", "office 0", "run 0", 1],
+        [7, "issue", "run 0", "master", 2], [10, "issue", "run 0", "master", 4], [11, "fetch", "master", "office 0", 6],
+        [12, "fetch", "master", "office 1", 1], [13, "evict", "office 0", "office 0", 7],
+        [24, "fetch", "master", "office 0", 3]]),
+    ("mayhold-takes-needs", "document.querySelector('#line13 .words').textContent",
+     "13Office 0 may hold sheets 1 and 2. It evicts sheet 0 of issue 1, and with it what needs it: sheet 1 of issue 2, sheet 2 of"
+     " issue 3."),
 ]
 
 # What is wider than its place.

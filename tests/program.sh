@@ -82,7 +82,8 @@ BEGIN {
         "hidden-breaks 5 breaks-marked 15 clear 500 " \
         "paths 100 paths-of-3 30 paths-tied 15 paths-carried 10 refused-1 10 refused-2 10 " \
         "refused-3 20 refused-4 100 refused-5 10 refused-6 50 refused-7 10 refused-8 50 " \
-        "refused-12 50", word, " ")
+        "refused-12 50 refused-13 100 mayholds 150 mayholds-evicting 50 mayholds-evicting-more 40 " \
+        "maysaves 30 rights-before-7 10 rights-before-12 3 rights-before-a-break 8", word, " ")
     for (i = 1; i < n; i += 2) least[word[i]] = word[i + 1]
 }
 { for (i = 1; i < NF; i += 2) { if (!($i in sum)) order[++k] = $i; sum[$i] += $(i + 1) } }

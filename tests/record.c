@@ -67,6 +67,10 @@ static void make(const struct sheetdesk_record *record, const char *name, int co
         sheetdesk_allow_recorded(DESK, x[0], x[1], ANSWER);
     else if (strcmp(name, "pick") == 0 && count == 0)
         sheetdesk_pick_recorded(DESK, ANSWER);
+    else if (strcmp(name, "mayhold") == 0 && count == 2)
+        sheetdesk_mayhold_recorded(DESK, x[0], x[1], ANSWER);
+    else if (strcmp(name, "maysave") == 0 && count == 2)
+        sheetdesk_maysave_recorded(DESK, x[0], x[1], ANSWER);
 }
 
 int main(int argc, char **argv)

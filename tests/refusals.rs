@@ -1,5 +1,5 @@
-// Every refusal that new, open, drop, look, explain, stale, admit, allow, pick, fetch and evict can give, tried on lent buffers through the
-// exported library: answer as expected, every word as it was, guard words untouched. Besides them: the largest store;
+// Every refusal that new, open, drop, look, explain, stale, admit, allow, pick, mayhold, maysave, fetch and evict can give, tried on
+// lent buffers through the exported library: answer as expected, every word as it was, guard words untouched. Besides them: the largest store;
 // looks, leading writers and stale marks on desks that no list of calls from new leaves; the longest path; clocks compared.
 // Usage: refusals. Prints what went wrong and exits 1, or how many trials there were.
 
@@ -18,6 +18,8 @@ mod reference {
     pub mod desk;
     pub mod text;
 }
+#[path = "refusals/rights.rs"]
+mod rights;
 #[path = "refusals/trials.rs"]
 mod trials;
 
@@ -48,11 +50,12 @@ fn of_new(t: &mut Trials) {
     let counts = [2, 2, 1, 1];
     t.refused("new 1, a word short", &mut Desk::of(total(counts) - 1, 7), Call::New(counts), 1);
     t.refused("new 1, empty", &mut Desk::of(0, 7), Call::New([1, 1, 1, 1]), 1);
-    let mut desk = Desk::of(89, 7);
-    t.ok("new", &mut desk, Call::New(counts), &[87]);
-    t.check("offsets", desk.words[..HEADER] == [2, 2, 1, 1, 0, 10, 22, 36, 46, 87]);
+    let mut desk = Desk::of(92, 7);
+    t.ok("new", &mut desk, Call::New(counts), &[90]);
+    t.check("offsets", desk.words[..HEADER] == [2, 2, 1, 1, 0, 10, 22, 36, 46, 90]);
     t.check("the allowance is all sheets", std::mem::take(&mut desk.words[35]) == 2);
-    t.check("fresh, and past the total as it was", desk.words[HEADER..87].iter().all(|&w| w == 0) && desk.words[87..89] == [7, 7]);
+    t.check("the rights are all sheets", desk.words[87..90] == [3; 3]);
+    t.check("fresh, and past the total as it was", desk.words[HEADER..87].iter().all(|&w| w == 0) && desk.words[90..92] == [7, 7]);
 }
 
 // One word of a new desk 2 2 2 1 changed, such that it isn't in form any more.
@@ -69,8 +72,9 @@ fn spoiled(fresh: &Desk) -> Vec<(usize, u32)> {
         (s.shelf_at(0, 0) + NUMBER, 5), (s.shelf_at(0, 1) + LEADERS, 1), (s.card_at(0, 0) + LEADERS, 1), (s.round_at() - 1, 1),
         // Stale marks of what isn't held, and an allowance over the number of sheets.
         (s.stale_at(0), 1), (s.stale_at(1), 2), (s.allowance_at(0), 3), (s.allowance_at(1), u32::MAX),
-        // The last picked run: none that there is.
+        // The last picked run: none that there is. Rights to a sheet that there isn't.
         (s.round_at(), 1), (s.round_at(), u32::MAX),
+        (s.mayhold_at(0), 4), (s.mayhold_at(1), u32::MAX), (s.maysave_at(0), 7), (s.maysave_at(1), 1 << 31),
         // A run: a state that there isn't, an open one without jobs, a free one with words.
         (run + STATE, 3), (run + STATE, 1), (run + JOBS, 9), (run + DONE, 1), (run + READ, 1), (run + JOB_LIST + 6, 1),
     ]
@@ -97,8 +101,8 @@ fn of_form(t: &mut Trials) {
 pub fn calls_but_new() -> Vec<Call> {
     vec![
         Call::Open(9, vec![]), Call::Fetch(9, 9), Call::Evict(9, 9), Call::Prepare(9), Call::Step(9, 9), Call::Issue(9, 9, 9),
-        Call::Drop(9), Call::Look(9, 9, 9), Call::Explain(9, 9), Call::Stale(9), Call::Admit,
-        Call::Allow(9, 99), Call::Pick,
+        Call::Drop(9), Call::Look(9, 9, 9), Call::Explain(9, 9), Call::Stale(9), Call::Admit, Call::Allow(9, 99), Call::Pick,
+        Call::MayHold(9, 9), Call::MaySave(99, 9),
     ]
 }
 
@@ -173,9 +177,9 @@ fn of_explain(t: &mut Trials) {
 }
 
 fn of_the_largest(t: &mut Trials) {
-    t.refused("largest, a word short", &mut Desk::of(288_074, 7), Call::New([32, 16, 8, 8]), 1);
-    let mut d = Desk::of(288_075, 7);
-    t.ok("largest", &mut d, Call::New([32, 16, 8, 8]), &[288_075]);
+    t.refused("largest, a word short", &mut Desk::of(288_098, 7), Call::New([32, 16, 8, 8]), 1);
+    let mut d = Desk::of(288_099, 7);
+    t.ok("largest", &mut d, Call::New([32, 16, 8, 8]), &[288_099]);
     t.refused("largest, fetch 7", &mut d, Call::Fetch(7, 31), 7);
     t.ok("largest, open", &mut d, Call::Open(7, [7, u32::MAX, 0].repeat(8)), &[8]);
     chain(&mut d);
@@ -233,6 +237,7 @@ fn main() {
     lent::of_allowances(&mut t);
     lent::of_allowances_in_form(&mut t);
     lent::of_rounds(&mut t);
+    rights::of_all(&mut t);
     admitted::of_conditions(&mut t);
     admitted::of_words(&mut t);
     admitted::of_lists(&mut t);

@@ -81,7 +81,7 @@ fn eight_jobs(k: u32, n: u32) -> Vec<u32> {
 }
 
 pub fn cases(sizes: [u32; 4]) -> Vec<Case> {
-    let [k, _, n, _] = sizes;
+    let [k, w, n, _] = sizes;
     let full = full(sizes);
     let open = Call::Open(0, eight_jobs(k, n));
     let reader = [Call::Open(0, vec![0, all(k), 0]), Call::Step(0, 0)];
@@ -103,5 +103,8 @@ pub fn cases(sizes: [u32; 4]) -> Vec<Case> {
         case(full.clone(), Call::Allow(n - 1, k)),
         // Run 0 alone has a job to step, and was picked last: all runs are asked.
         case(after(&full, &[open, Call::Pick]), Call::Pick),
+        // Every other sheet on the shelf needs sheet 0: all leave.
+        case(after(&full, &filled), Call::MayHold(0, all(k) & !1)),
+        case(full.clone(), Call::MaySave(w - 1, all(k))),
     ]
 }

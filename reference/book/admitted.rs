@@ -25,6 +25,8 @@ impl Book {
             master: copies(desk, s, |k| s.master_at(k)),
             shelves: (0..s.n).map(|o| copies(desk, s, |k| s.shelf_at(o, k))).collect(),
             allowances: (0..s.n).map(|office| desk[s.allowance_at(office)]).collect(),
+            may_hold: (0..s.n).map(|office| desk[s.mayhold_at(office)]).collect(),
+            may_save: (0..s.w).map(|writer| desk[s.maysave_at(writer)]).collect(),
             runs: (0..s.p).map(|run| admitted_run(desk, s, run)).collect(),
             turns: Turns::after(desk[s.round_at()] as usize, s.p),
         }

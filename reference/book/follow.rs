@@ -26,6 +26,7 @@ impl Book {
     ) -> Result<(), String> {
         seen.calls += 1;
         let refused = matches!(answer, Answer::Refused(_));
+        self.check_right(call, answer)?;
         self.check_over(call, answer)?;
         if let (Call::Step(run, job), false) = (call, refused) {
             self.check_step(*run as usize, *job as usize, answer, seen)?;
@@ -52,6 +53,7 @@ impl Book {
         self.check_named()?;
         self.check_marks(words, s)?;
         self.check_within(words, s)?;
+        self.check_unbarred(words, s)?;
         self.check_round(words, s)?;
         self.check_lists()?;
         if admit(words) != Answer::Ok(vec![0]) {

@@ -2,6 +2,7 @@
 
 use super::form::{in_form, valid_job};
 use super::layout::*;
+use super::rights::may_save;
 use super::stale::set_mark;
 use super::version::{compare, held, merge, row, standing_number, take_larger};
 use super::*;
@@ -21,6 +22,8 @@ pub fn new(desk: &mut [u32], k: u32, w: u32, n: u32, p: u32) -> Answer {
     (0..s.n).for_each(|office| desk[s.allowance_at(office)] = k);
     // The last picked run is "P - 1 on a new desk".
     desk[s.round_at()] = p - 1;
+    // Offices and writers have the right to "all sheets on a new desk".
+    desk[s.mayhold_at(0)..s.total()].fill(s.all_sheets());
     Answer::Ok(vec![s.total() as u32])
 }
 
@@ -79,6 +82,9 @@ fn issue_refusal(desk: &[u32], run: u32, writer: u32, mask: u32) -> Result<Sizes
     }
     if (0..head[JOBS] as usize).any(|job| !has(head[DONE], job)) {
         return Err(WRONG_TURN);
+    }
+    if !may_save(desk, s, writer as usize, mask) {
+        return Err(NO_RIGHT);
     }
     if mask != 0 && desk[LAST_ISSUE] == u32::MAX {
         return Err(ISSUES_SPENT);

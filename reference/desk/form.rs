@@ -3,6 +3,7 @@
 use super::allowance::allowance_in_form;
 use super::layout::*;
 use super::pick::round_in_form;
+use super::rights::rights_in_form;
 use super::stale::stale_mask;
 use super::version::{all_zero, held, row};
 use super::{BROKEN, FREE, OPEN};
@@ -20,7 +21,8 @@ pub fn in_form(desk: &[u32]) -> Option<Sizes> {
     let allowances_stand = (0..s.n).all(|office| allowance_in_form(desk, s, office));
     let shelves_stand = marks_stand && allowances_stand;
     let runs_stand = (0..s.p).all(|run| run_in_form(desk, s, run));
-    if versions_stand && shelves_stand && runs_stand && round_in_form(desk, s) {
+    let tail_stands = round_in_form(desk, s) && rights_in_form(desk, s);
+    if versions_stand && shelves_stand && runs_stand && tail_stands {
         Some(s)
     } else {
         None

@@ -82,13 +82,29 @@ impl Sizes {
         RUN_HEAD + self.k * self.version()
     }
 
-    /// Where the last picked run is: "one stored word at the desk's end".
+    /// Where the last picked run is: behind the runs.
     pub fn round_at(&self) -> usize {
         self.runs() + self.p * self.run_words()
     }
 
+    /// Where the mask of sheets that an office may hold is: "the words follow the round's, offices
+    /// first".
+    pub fn mayhold_at(&self, office: usize) -> usize {
+        self.round_at() + 1 + office
+    }
+
+    /// Where the mask of sheets that a writer may save is.
+    pub fn maysave_at(&self, writer: usize) -> usize {
+        self.mayhold_at(self.n) + writer
+    }
+
     pub fn total(&self) -> usize {
-        self.round_at() + 1
+        self.maysave_at(self.w)
+    }
+
+    /// The mask of all K sheets.
+    pub fn all_sheets(&self) -> u32 {
+        u32::MAX >> (32 - self.k)
     }
 
     /// The header's last five words: four offsets, then the total.

@@ -1,8 +1,9 @@
-//! Fetch, evict, prepare and step.
+//! Fetch, prepare and step.
 
 use super::allowance::over_with;
 use super::form::{carried, in_form};
 use super::layout::*;
+use super::rights::barred;
 use super::sets::*;
 use super::stale::set_mark;
 use super::version::{held, merge};
@@ -16,10 +17,13 @@ pub fn fetch(desk: &mut [u32], office: u32, sheet: u32) -> Answer {
     if u64::from(office) >= s.n as u64 || u64::from(sheet) >= s.k as u64 {
         return Answer::Refused(OUT_OF_RANGE);
     }
+    let set = fetch_set(desk, s, office as usize, 1 << sheet);
+    if barred(desk, s, office as usize, set) {
+        return Answer::Refused(NO_RIGHT);
+    }
     if !held(s.words(desk, s.master_at(sheet as usize))) {
         return Answer::Refused(NOT_ON_MASTER);
     }
-    let set = fetch_set(desk, s, office as usize, 1 << sheet);
     if over_with(desk, s, office as usize, set) {
         return Answer::Refused(OVER_ALLOWANCE);
     }
@@ -36,29 +40,6 @@ fn take(desk: &mut [u32], s: Sizes, office: usize, set: u32) {
         }
     }
     set_mark(desk, s, office);
-}
-
-/// Evict: "E leaves the shelf. Answers E."
-pub fn evict(desk: &mut [u32], office: u32, sheet: u32) -> Answer {
-    let Some(s) = in_form(desk) else {
-        return Answer::Refused(NOT_IN_FORM);
-    };
-    if u64::from(office) >= s.n as u64 || u64::from(sheet) >= s.k as u64 {
-        return Answer::Refused(OUT_OF_RANGE);
-    }
-    let (office, sheet) = (office as usize, sheet as usize);
-    if !held(s.words(desk, s.shelf_at(office, sheet))) {
-        return Answer::Refused(NOT_HELD);
-    }
-    let set = evict_set(desk, s, office, sheet);
-    for k in 0..s.k {
-        if has(set, k) {
-            let at = s.shelf_at(office, k);
-            desk[at..at + s.version()].fill(0);
-        }
-    }
-    set_mark(desk, s, office);
-    Answer::Ok(vec![set])
 }
 
 /// Prepare: each job's missing reads are fetched, then the card is made of the shelves.
@@ -78,18 +59,24 @@ pub fn prepare(desk: &mut [u32], run: u32) -> Answer {
     Answer::Ok(vec![carried(desk, s, run)])
 }
 
-/// "For each job in number order, its reads that its shelf lacks are fetched together."
-fn fetch_for_jobs(desk: &mut [u32], s: Sizes, run: usize) {
+/// "For each job in number order, its reads that its shelf lacks are fetched together." Answers
+/// whether some fetch would bring a sheet that is barred to its office. "A read that the master
+/// lacks counts as one to fetch and stays unheld."
+fn fetch_for_jobs(desk: &mut [u32], s: Sizes, run: usize) -> bool {
+    let mut stopped = false;
     for job in 0..desk[s.run_at(run) + JOBS] as usize {
         let (office, reads, _) = job_words(desk, s, run, job);
         let missing = lacking(desk, s, office, reads);
         let set = fetch_set(desk, s, office, missing);
+        stopped |= barred(desk, s, office, reads | set);
         take(desk, s, office, set);
     }
+    stopped
 }
 
-/// A fetch brings only sheets that the master holds, so a sheet that is on neither the shelf
-/// nor the master before the first fetch is on neither later: 7 is tested before all fetches.
+/// 13 of any job comes before 7 of any other, so all fetches are tried first, on a copy. A fetch
+/// brings only sheets that the master holds, so a sheet that is on neither the shelf nor the
+/// master before the first fetch is on neither later: 7 is tested on the desk as it stands.
 fn prepare_refusal(desk: &[u32], run: u32) -> Result<Sizes, u32> {
     let s = in_form(desk).ok_or(NOT_IN_FORM)?;
     if u64::from(run) >= s.p as u64 {
@@ -102,6 +89,9 @@ fn prepare_refusal(desk: &[u32], run: u32) -> Result<Sizes, u32> {
     }
     if head[DONE] != 0 {
         return Err(WRONG_TURN);
+    }
+    if fetch_for_jobs(&mut desk.to_vec(), s, run) {
+        return Err(NO_RIGHT);
     }
     for job in 0..head[JOBS] as usize {
         let (office, reads, _) = job_words(desk, s, run, job);
@@ -159,8 +149,7 @@ pub fn step(desk: &mut [u32], run: u32, job: u32) -> Answer {
     Answer::Ok(vec![reads & !set, reads & set & !fetched, reads & set & fetched])
 }
 
-/// Of a step that isn't refused: "reads R that the card lacks and the shelf lacks are fetched
-/// together".
+/// "Reads R that the card lacks and the shelf lacks are fetched together."
 pub fn step_view(desk: &[u32], s: Sizes, run: usize, job: usize) -> StepView {
     let (office, reads, _) = job_words(desk, s, run, job);
     let off_card = reads & !carried(desk, s, run);
@@ -186,6 +175,10 @@ pub fn step_refusal(desk: &[u32], run: u32, job: u32) -> Result<Sizes, u32> {
     let (office, reads, upstream) = job_words(desk, s, run, job);
     if has(head[DONE], job) || upstream & !head[DONE] != 0 {
         return Err(WRONG_TURN);
+    }
+    // "A job may not read it at that office, even from the card", and T may have further sheets.
+    if barred(desk, s, office, reads | step_view(desk, s, run, job).fetched) {
+        return Err(NO_RIGHT);
     }
     let off_card = reads & !carried(desk, s, run);
     if lacking(desk, s, office, off_card) & !on_master(desk, s) != 0 {

@@ -34,9 +34,10 @@ pub fn fetch_set(desk: &[u32], s: Sizes, office: usize, asked: u32) -> u32 {
     })
 }
 
-/// E: "a sheet held on the shelf that needs a member is a member".
-pub fn evict_set(desk: &[u32], s: Sizes, office: usize, sheet: usize) -> u32 {
-    least(s.k, 1 << sheet, |member, u| {
+/// E: "a sheet held on the shelf that needs a member is a member". It starts with the sheets that
+/// are to leave.
+pub fn evict_set(desk: &[u32], s: Sizes, office: usize, leaving: u32) -> u32 {
+    least(s.k, leaving, |member, u| {
         let version = s.words(desk, s.shelf_at(office, u));
         held(version) && needs(version, s.w, u, member)
     })

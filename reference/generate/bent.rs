@@ -4,12 +4,13 @@
 use crate::desk::allowance::held_count;
 use crate::desk::layout::{has, Sizes, COUNT, LAST_ISSUE, NUMBER, PAST};
 use crate::desk::reads::plan;
+use crate::desk::rights::held_mask;
 use crate::desk::stale::stale_mask;
 use crate::desk::version::{all_zero, row};
 use crate::random::Random;
 
 /// Bends a desk in form. In most cases it is mended, so that admit takes it; of these some are
-/// spoiled in one place. The marks follow, and some shelves have little room.
+/// spoiled in one place. The marks follow, and some shelves have little room and few rights.
 pub fn bend(random: &mut Random, words: &mut [u32], s: Sizes) {
     if random.chance(15) {
         lift(random, words, s);
@@ -30,6 +31,27 @@ pub fn bend(random: &mut Random, words: &mut [u32], s: Sizes) {
             let held = held_count(words, s, office);
             words[s.allowance_at(office)] = held + random.below(s.k + 1 - held as usize) as u32;
         }
+    }
+    bend_rights(random, words, s);
+}
+
+/// Some offices may hold little more than they do, some writers not save all; seldom a mask has a
+/// bit at K, or lacks a sheet that is held.
+fn bend_rights(random: &mut Random, words: &mut [u32], s: Sizes) {
+    let any = random.next() as u32 & s.all_sheets();
+    for office in (0..s.n).filter(|_| random.chance(20)) {
+        words[s.mayhold_at(office)] = held_mask(words, s, office) | any;
+    }
+    for writer in (0..s.w).filter(|_| random.chance(20)) {
+        words[s.maysave_at(writer)] = any.rotate_left(1) & s.all_sheets();
+    }
+    let office = random.below(s.n);
+    let held = held_mask(words, s, office);
+    match random.below(50) {
+        0 if s.k < 32 => words[s.mayhold_at(office)] |= 1 << s.k,
+        1 if s.k < 32 => words[s.maysave_at(random.below(s.w))] |= 1 << s.k,
+        2 if held != 0 => words[s.mayhold_at(office)] &= !(1 << held.trailing_zeros()),
+        _ => {}
     }
 }
 

@@ -5,6 +5,7 @@ use crate::desk::layout::{has, JOBS, JOB_LIST, LEADERS};
 use crate::desk::reads::step_view;
 use crate::desk::version::{covers, held, row};
 use crate::desk::{in_form, Answer};
+use crate::rights;
 use crate::text::{run, Call};
 
 #[derive(Default)]
@@ -35,7 +36,8 @@ pub struct Counts {
     long_paths: u64,
     tied_paths: u64,
     carried_paths: u64,
-    refused: [u64; 13],
+    rights: rights::Met,
+    refused: [u64; 14],
 }
 
 impl Counts {
@@ -69,14 +71,17 @@ impl Counts {
             ("paths-tied".into(), self.tied_paths),
             ("paths-carried".into(), self.carried_paths),
         ];
-        let refused = (1..=8).chain([12]);
+        names.extend(self.rights.names());
+        let refused = (1..=8).chain([12, 13]);
         names.extend(refused.map(|number| (format!("refused-{number}"), self.refused[number])));
         names.iter().map(|(name, count)| format!("{name} {count}")).collect::<Vec<_>>().join(" ")
     }
 
     /// Takes in a call on a desk, and its answer.
     pub fn enter(&mut self, before: &[u32], after: &[u32], call: &Call, answer: &Answer) {
+        self.rights.enter(before, after, call, answer);
         match (call, answer) {
+            (_, Answer::Ok(numbers)) => self.enter_ok(before, after, call, numbers),
             (_, Answer::Refused(number)) => {
                 self.refused[*number as usize] += 1;
                 self.hidden_breaks += u64::from(*number == 12 && hides_break(before, call));
@@ -85,38 +90,42 @@ impl Counts {
                 self.breaks += 1;
                 self.breaks_marked += u64::from(fetches_stale(before, *run, *job));
             }
-            (Call::Fetch(..), Answer::Ok(set)) => {
-                self.fetches_of_more += u64::from(set[0].count_ones() > 1);
-            }
-            (Call::Evict(..), Answer::Ok(set)) => {
-                self.evicts_of_more += u64::from(set[0].count_ones() > 1);
-            }
-            (Call::Prepare(run), Answer::Ok(_)) => {
-                self.prepares += 1;
-                self.prepares_unlike += u64::from(merges_unlike(after, *run as usize));
-            }
-            (Call::Step(..), Answer::Ok(_)) => self.steps += 1,
-            (Call::Issue(_, writer, mask), Answer::Ok(_)) => {
-                self.issues += u64::from(*mask != 0);
-                self.rivals += rivals_met(before, after, *writer as usize, *mask);
-            }
-            (Call::Look(..), Answer::Ok(numbers)) => {
-                self.looks += 1;
-                self.looks_older += u64::from(numbers.last() == Some(&1));
-                self.looks_several += u64::from(numbers[1].count_ones() > 1);
-            }
-            (Call::Stale(_), Answer::Ok(mask)) => {
-                self.stales += 1;
-                self.stales_marked += u64::from(mask[0] != 0);
-            }
-            (Call::Admit, Answer::Ok(_)) => self.admits += 1,
-            (Call::Allow(..), Answer::Ok(_)) => self.allows += 1,
-            (Call::Pick, Answer::Ok(_)) => self.picks += 1,
             (_, Answer::Nothing) => self.nothing += 1,
             (_, Answer::Clear) => self.clear += 1,
             (Call::Explain(run, job), Answer::Path(path)) => {
                 self.enter_path(before, [*run, *job], path);
             }
+            _ => {}
+        }
+    }
+
+    /// Takes in a call that was answered `ok` with these numbers.
+    fn enter_ok(&mut self, before: &[u32], after: &[u32], call: &Call, numbers: &[u32]) {
+        let several = u64::from(numbers[0].count_ones() > 1);
+        match call {
+            Call::Fetch(..) => self.fetches_of_more += several,
+            Call::Evict(..) => self.evicts_of_more += several,
+            Call::Prepare(run) => {
+                self.prepares += 1;
+                self.prepares_unlike += u64::from(merges_unlike(after, *run as usize));
+            }
+            Call::Step(..) => self.steps += 1,
+            Call::Issue(_, writer, mask) => {
+                self.issues += u64::from(*mask != 0);
+                self.rivals += rivals_met(before, after, *writer as usize, *mask);
+            }
+            Call::Look(..) => {
+                self.looks += 1;
+                self.looks_older += u64::from(numbers.last() == Some(&1));
+                self.looks_several += u64::from(numbers[1].count_ones() > 1);
+            }
+            Call::Stale(_) => {
+                self.stales += 1;
+                self.stales_marked += u64::from(numbers[0] != 0);
+            }
+            Call::Admit => self.admits += 1,
+            Call::Allow(..) => self.allows += 1,
+            Call::Pick => self.picks += 1,
             _ => {}
         }
     }

@@ -2,6 +2,7 @@
 
 use crate::desk::OPEN;
 use crate::plots::{end_run, free_run, pair_elsewhere, publish, some_sheets, untied_pair};
+use crate::rights;
 use crate::teller::Teller;
 
 /// Opens a run of some jobs whose reads the master holds, mostly.
@@ -69,15 +70,18 @@ fn work_through(t: &mut Teller, run: usize) {
         }
     }
     end_run(t, run);
+    rights::give_back_all(t, 30);
 }
 
-/// Something that changes master or shelves under a run.
+/// Something that changes master, shelves or rights under a run.
 fn disturb(t: &mut Teller, run: usize) {
-    if t.chance(50) {
-        let (a, b) = untied_pair(t);
-        pair_elsewhere(t, run, a, b);
-    } else {
-        fetch_and_evict(t);
+    match t.below(10) {
+        0..=4 => {
+            let (a, b) = untied_pair(t);
+            pair_elsewhere(t, run, a, b);
+        }
+        5 => rights::change(t),
+        _ => fetch_and_evict(t),
     }
 }
 
@@ -110,7 +114,7 @@ pub fn any_call(t: &mut Teller) {
     let sheets = some_sheets(t, 30);
     let job = t.below(4) as u32;
     let place = t.below(3) as u32;
-    match t.below(14) {
+    match t.below(16) {
         0 => t.tell("open", &[run, office, sheets, 0, office, 1 << (sheet & 31), 1]),
         1 => t.tell("fetch", &[office, sheet]),
         2 => t.tell("evict", &[office, sheet]),
@@ -125,6 +129,11 @@ pub fn any_call(t: &mut Teller) {
         11 => {
             let number = if t.chance(70) { s.k } else { t.below(s.k + 2) };
             t.tell("allow", &[office, number as u32])
+        }
+        12 | 13 => {
+            let (name, number) = [("mayhold", office), ("maysave", writer)][t.below(2)];
+            let lost = if t.chance(70) { 0 } else { sheets };
+            t.tell(name, &[number, s.all_sheets() & !lost])
         }
         _ => t.tell("step", &[run, job]),
     };

@@ -1,4 +1,4 @@
-//! Refused calls of every number that text can reach, unread lines and long ones.
+//! Refused calls of every number that text can reach.
 
 use crate::desk::{FREE, OPEN};
 use crate::teller::Teller;
@@ -6,7 +6,7 @@ use crate::teller::Teller;
 /// "Before any new, the buffer is all zero": every call but new is refused.
 pub fn before_new(t: &mut Teller) {
     for _ in 0..t.below(3) {
-        match t.below(9) {
+        match t.below(11) {
             0 => t.tell("fetch", &[0, 0]),
             1 => t.tell("open", &[0]),
             2 => t.tell("explain", &[0, 0]),
@@ -15,6 +15,8 @@ pub fn before_new(t: &mut Teller) {
             5 => t.tell("admit", &[]),
             6 => t.tell("allow", &[0, 0]),
             7 => t.tell("pick", &[]),
+            8 => t.tell("mayhold", &[0, 0]),
+            9 => t.tell("maysave", &[0, 0]),
             _ => t.tell("new", &[32, 16, 8, 8]),
         };
     }
@@ -52,7 +54,9 @@ fn out_of_range(t: &mut Teller) {
     let far = if t.chance(30) { u32::MAX } else { 0 };
     let [k, w, n, p] = [s.k, s.w, s.n, s.p].map(|count| far.max(count as u32));
     let place = t.below(3) as u32;
-    match t.below(17) {
+    // K = 32: all sheets, in range.
+    let past_last = s.all_sheets().saturating_add(1);
+    match t.below(21) {
         0 => t.tell("open", &[p]),
         1 => t.tell("fetch", &[n, 0]),
         2 => t.tell("fetch", &[0, k]),
@@ -69,6 +73,10 @@ fn out_of_range(t: &mut Teller) {
         13 => t.tell("stale", &[n]),
         14 => t.tell("allow", &[n, 0]),
         15 => t.tell("allow", &[0, k.saturating_add(1)]),
+        16 => t.tell("mayhold", &[n, 0]),
+        17 => t.tell("mayhold", &[0, past_last.max(far)]),
+        18 => t.tell("maysave", &[w, 0]),
+        19 => t.tell("maysave", &[0, past_last.max(far)]),
         _ => t.tell("look", &[place, p.max(n), 0]),
     };
 }
@@ -156,82 +164,4 @@ fn not_held(t: &mut Teller) {
     if let Some(run) = run_in(t, |state| state == FREE) {
         t.tell("look", &[2, run, 0]);
     }
-}
-
-/// Lines that are none of the forms.
-pub fn unread(t: &mut Teller) {
-    if t.chance(80) {
-        near_miss(t);
-        return;
-    }
-    let length = t.below(40);
-    let line = (0..length).map(|_| t.next() as u8).filter(|byte| *byte != b'\n');
-    let line = line.collect::<Vec<u8>>();
-    t.say(&line);
-}
-
-/// A line of the list; most of them only just miss a form.
-fn near_miss(t: &mut Teller) {
-    const LINES: [&[u8]; 40] = [
-        b"",
-        b" ",
-        b"new",
-        b"new 2 2 2",
-        b"new 2 2 2 1 0",
-        b"open",
-        b"open ",
-        b" open 0",
-        b"fetch 0 0 ",
-        b"fetch  0 0",
-        b"fetch 0\t0",
-        b"fetch 0 0\r",
-        b"fetch 0 -1",
-        b"fetch 0 +1",
-        b"fetch 0 0x1",
-        b"Fetch 0 0",
-        b"look 0 0",
-        b"drop 4294967296",
-        b"drop 9999999999999999999",
-        b"issue 0 0 \xff",
-        b"step 0 \xc2\xb2",
-        b"step 0 0\0",
-        b"\0",
-        b"\xef\xbb\xbfdrop 0",
-        b"prepare 0,0",
-        b"evict 0 1e1",
-        b"explain",
-        b"explain 0",
-        b"explain 0 0 0",
-        b"stale",
-        b"stale 0 0",
-        b"stale -0",
-        b"admit 0",
-        b"admit ",
-        b" admit",
-        b"allow",
-        b"allow 0",
-        b"allow 0 0 0",
-        b"pick 0",
-        b"pick ",
-    ];
-    let line = LINES[t.below(LINES.len())];
-    t.say(line);
-}
-
-/// A line of about 400 bytes: leading zeros, or an open with many numbers.
-pub fn long_line(t: &mut Teller) {
-    let length = [399, 400, 401, 1000, 70_000][t.below(5)];
-    let mut line = b"fetch 0 ".to_vec();
-    if t.chance(50) {
-        line = b"open 0".to_vec();
-        while line.len() + 2 <= length {
-            line.extend_from_slice(b" 0");
-        }
-    }
-    let last = t.below(2) as u8;
-    while line.len() + 1 < length {
-        line.push(b'0');
-    }
-    line.push(b'0' + last);
-    t.say(&line);
 }

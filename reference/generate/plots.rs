@@ -6,6 +6,7 @@ use crate::desk::version::needs;
 use crate::desk::{Answer, FREE};
 use crate::everyday;
 use crate::odd;
+use crate::rights;
 use crate::rivals;
 use crate::rounds;
 use crate::small;
@@ -14,11 +15,11 @@ use crate::teller::Teller;
 /// A plot of runs, by a number below 58.
 pub fn of_runs(t: &mut Teller, number: usize) {
     match number {
-        0..=21 => break_a_run(t),
+        0..=20 => break_a_run(t),
         22..=24 => chains::explain_a_break(t),
         25..=36 => rivals::issue_rivals(t),
         37..=41 => rivals::rounds_of_rivals(t),
-        42..=52 => everyday::prepared_run(t),
+        21 | 42..=52 => everyday::prepared_run(t),
         53..=55 => everyday::prepare_again(t),
         _ => everyday::plain_run(t),
     }
@@ -29,10 +30,11 @@ pub fn without_new(t: &mut Teller) {
     match t.below(100) {
         22..=24 => break_a_run(t),
         number @ 0..=57 => of_runs(t, number),
-        58..=64 => everyday::fetch_and_evict(t),
-        65..=68 => small::small_shelf(t),
-        69..=72 => rounds::dispatch(t),
-        73..=89 => everyday::any_call(t),
+        58..=62 => everyday::fetch_and_evict(t),
+        63..=66 => small::small_shelf(t),
+        67..=70 => rounds::dispatch(t),
+        71..=75 => rights::joint_project(t),
+        76..=89 => everyday::any_call(t),
         _ => odd::refused(t),
     }
 }
@@ -40,7 +42,7 @@ pub fn without_new(t: &mut Teller) {
 /// A new desk, mostly small, so that sheets and writers meet often.
 pub fn fresh_desk(t: &mut Teller) {
     let sizes = if t.chance(8) {
-        const WIDE: [[u32; 4]; 4] = [[10, 13, 5, 5], [22, 4, 1, 6], [32, 1, 8, 5], [32, 2, 2, 2]];
+        const WIDE: [[u32; 4]; 4] = [[16, 6, 6, 3], [22, 4, 1, 6], [32, 1, 8, 5], [32, 2, 2, 2]];
         WIDE[t.below(4)]
     } else {
         [2 + t.below(6), 1 + t.below(6), 1 + t.below(4), 2 + t.below(3)].map(|n| n as u32)
@@ -117,6 +119,7 @@ pub fn untied_pair(t: &mut Teller) -> (usize, usize) {
 /// there."
 pub fn break_a_run(t: &mut Teller) {
     let s = t.sizes();
+    rights::give_back_all(t, 80);
     let (a, b) = untied_pair(t);
     let (here, there) = (t.below(s.n) as u32, t.below(s.n) as u32);
     if !t.on_master(a) {
@@ -141,11 +144,8 @@ pub fn break_a_run(t: &mut Teller) {
     pair_elsewhere(t, run as usize, a, b);
     if t.chance(60) {
         t.tell("fetch", &[there, b as u32]);
-    } else if t.chance(40) {
-        // A step whose fetch doesn't fit is refused before it breaks.
-        small::tighten(t, there as usize);
-        t.tell("step", &[run, 1]);
-        small::loosen(t, there as usize);
+    } else {
+        hide_a_break(t, run, there as usize, b);
     }
     for job in 1..jobs as u32 {
         if t.chance(40) {
@@ -154,6 +154,17 @@ pub fn break_a_run(t: &mut Teller) {
         t.tell("step", &[run, job]);
     }
     end_run(t, run as usize);
+}
+
+/// A step whose fetch doesn't fit, or may not be, is refused before it breaks.
+fn hide_a_break(t: &mut Teller, run: u32, office: usize, sheet: usize) {
+    if t.chance(40) {
+        small::tighten(t, office);
+        t.tell("step", &[run, 1]);
+        small::loosen(t, office);
+    } else if t.chance(40) {
+        rights::step_without(t, run, office, sheet);
+    }
 }
 
 /// Through another run than this one: a new version of one sheet, and the other drawn

@@ -85,7 +85,7 @@ impl Teller {
     /// A shelf's mark where the call may have changed it.
     fn ask_stale(&mut self, name: &str, numbers: &[u32]) {
         let office = match name {
-            "fetch" | "evict" => numbers[0] as usize,
+            "fetch" | "evict" | "mayhold" => numbers[0] as usize,
             "prepare" => self.job(numbers[0] as usize, 0)[0] as usize,
             "step" => self.job(numbers[0] as usize, numbers[1] as usize)[0] as usize,
             "issue" => self.below(self.sizes().n),
@@ -100,7 +100,7 @@ impl Teller {
         let s = self.sizes();
         let (place, number) = match name {
             "prepare" | "step" => (2, numbers[0] as usize),
-            "fetch" | "evict" => (1, numbers[0] as usize),
+            "fetch" | "evict" | "mayhold" => (1, numbers[0] as usize),
             "issue" => (0, 0),
             _ => return,
         };

@@ -22,6 +22,9 @@ pub fn free_words() {
     words[s.writers()..s.runs()].fill(9);
     words[s.master_at(0)] = 1_000_000;
     words[s.run_at(0) + STATE] = BROKEN;
+    // What is on a card may be barred, and what was saved too.
+    words[s.mayhold_at(1)] = 0;
+    words[s.maysave_at(0)] = 0;
     assert_eq!(in_form(&words), Some(s));
     // A writer may lead without a count.
     for mask in [1, 2, 3] {
@@ -95,6 +98,8 @@ pub fn all_refuse(words: &mut [u32], number: u32) {
         assert_eq!(admit(words), Answer::Refused(number));
         assert_eq!(allow(words, x, x), Answer::Refused(number));
         assert_eq!(pick(words), Answer::Refused(number));
+        assert_eq!(mayhold(words, x, x), Answer::Refused(number));
+        assert_eq!(maysave(words, x, x), Answer::Refused(number));
     }
     assert_eq!(words, before);
 }

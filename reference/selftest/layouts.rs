@@ -5,22 +5,25 @@ use crate::desk::*;
 use crate::forms::all_refuse;
 use crate::marked::fresh;
 
-/// A layout by the words of a version before its rows, those of a shelf behind its versions, and
-/// those behind the runs.
+/// A layout by the words of a version before its rows, those of a shelf behind its versions, those
+/// behind the runs, and how many of each office and writer follow.
 #[derive(Clone, Copy)]
 struct Layout {
     version: usize,
     shelf: usize,
     tail: usize,
+    rights: usize,
 }
 
-/// Document 01's, with leading writers, with stale marks, with allowances, with the last picked run.
-const LAYOUTS: [Layout; 5] = [
-    Layout { version: 1, shelf: 0, tail: 0 },
-    Layout { version: 2, shelf: 0, tail: 0 },
-    Layout { version: 2, shelf: 1, tail: 0 },
-    Layout { version: 2, shelf: 2, tail: 0 },
-    Layout { version: 2, shelf: 2, tail: 1 },
+/// Document 01's, with leading writers, with stale marks, with allowances, with the last picked
+/// run, with rights.
+const LAYOUTS: [Layout; 6] = [
+    Layout { version: 1, shelf: 0, tail: 0, rights: 0 },
+    Layout { version: 2, shelf: 0, tail: 0, rights: 0 },
+    Layout { version: 2, shelf: 1, tail: 0, rights: 0 },
+    Layout { version: 2, shelf: 2, tail: 0, rights: 0 },
+    Layout { version: 2, shelf: 2, tail: 1, rights: 0 },
+    Layout { version: 2, shelf: 2, tail: 1, rights: 1 },
 ];
 
 /// The layout's offsets and total.
@@ -29,7 +32,8 @@ fn offsets(layout: Layout, [k, w, n, p]: [usize; 4]) -> [u32; 5] {
     let shelves = HEADER + k * version;
     let writers = shelves + n * (k * version + layout.shelf);
     let runs = writers + w * writer;
-    let total = runs + p * (RUN_HEAD + k * version) + layout.tail;
+    let tail = layout.tail + layout.rights * (n + w);
+    let total = runs + p * (RUN_HEAD + k * version) + tail;
     [HEADER, shelves, writers, runs, total].map(|place| place as u32)
 }
 
@@ -50,6 +54,7 @@ pub fn none_agree() {
         [10, 22, 34, 44, 84],
         [10, 22, 35, 45, 85],
         [10, 22, 36, 46, 86],
+        [10, 22, 36, 46, 87],
     ];
     for (layout, due) in LAYOUTS.iter().zip(older) {
         let (mut words, _) = fresh(2, 2, 1, 1);

@@ -32,15 +32,15 @@ pub fn put_marks(words: &mut [u32], s: Sizes) {
 
 pub fn sizes() {
     let (words, _) = fresh(2, 2, 1, 1);
-    assert_eq!(words[..10], [2, 2, 1, 1, 0, 10, 22, 36, 46, 87]);
-    assert_eq!(Sizes::of(32, 16, 8, 8).unwrap().total(), 288_075);
+    assert_eq!(words[..10], [2, 2, 1, 1, 0, 10, 22, 36, 46, 90]);
+    assert_eq!(Sizes::of(32, 16, 8, 8).unwrap().total(), 288_099);
     let total = |k, w, n, p| Sizes::of(k, w, n, p).unwrap().total();
-    assert_eq!(total(2, 2, 2, 1), 101);
-    assert_eq!(total(2, 1, 1, 1), 68);
-    // One desk takes all that the program lends; the next larger ones aren't taken.
-    assert_eq!(total(10, 13, 5, 5), 16_384);
-    assert_eq!(total(10, 14, 2, 7), 16_385);
-    works(&["new 10 13 5 5 -> ok 16384", "new 10 14 2 7 -> refused 1"]);
+    assert_eq!(total(2, 2, 2, 1), 105);
+    assert_eq!(total(2, 1, 1, 1), 70);
+    // No desk takes all that the program lends: the largest that fits, and the next larger one.
+    assert_eq!(total(22, 4, 1, 6), 16_382);
+    assert_eq!(total(19, 7, 4, 1), 16_386);
+    works(&["new 22 4 1 6 -> ok 16382", "new 19 7 4 1 -> refused 1"]);
     assert!(total(32, 1, 8, 5) <= 16_384 && total(32, 1, 8, 6) > 16_384);
 }
 
@@ -153,10 +153,10 @@ pub fn new_and_open() {
         assert_eq!(new(&mut [], k, w, n, p), Answer::Refused(2)); // 2 before 1
     }
     assert!(words.iter().all(|word| *word == 7));
-    assert_eq!(new(&mut words, 1, 1, 1, 1), Answer::Ok(vec![52]));
-    assert_eq!(new(&mut words, 32, 16, 8, 8), Answer::Ok(vec![288_075]));
-    assert!(words[288_075..].iter().all(|word| *word == 7));
-    assert_eq!(new(&mut words[..288_074], 32, 16, 8, 8), Answer::Refused(1));
+    assert_eq!(new(&mut words, 1, 1, 1, 1), Answer::Ok(vec![54]));
+    assert_eq!(new(&mut words, 32, 16, 8, 8), Answer::Ok(vec![288_099]));
+    assert!(words[288_099..].iter().all(|word| *word == 7));
+    assert_eq!(new(&mut words[..288_098], 32, 16, 8, 8), Answer::Refused(1));
     assert_eq!(step(&mut words, 0, 0), Answer::Refused(4));
     assert_eq!(open(&mut words, 0, &[0; 27]), Answer::Refused(5));
     assert_eq!(open(&mut words, 0, &[0; 24]), Answer::Ok(vec![8]));

@@ -31,8 +31,8 @@ pub fn any_call(random: &mut Random, words: &[u32]) -> Call {
     let run = random.near(s.p);
     let office = random.near(s.n);
     let sheet = random.near(s.k);
-    match random.below(34) {
-        0 => Call::New(new_counts(random, words.len())),
+    match random.below(39) {
+        0 | 38 => Call::New(new_counts(random, words.len())),
         1 | 2 | 28 => Call::Open(run, jobs(random, s)),
         3..=5 => Call::Fetch(office, sheet),
         6..=8 => Call::Evict(office, sheet),
@@ -55,6 +55,8 @@ pub fn any_call(random: &mut Random, words: &[u32]) -> Call {
         22 | 23 => Call::Admit,
         24 | 25 => Call::Allow(office, random.near(s.k + 1)),
         26 | 27 => Call::Pick,
+        34 | 35 => Call::MayHold(office, right(random, s)),
+        36 | 37 => Call::MaySave(random.near(s.w), right(random, s)),
         _ => {
             let place = random.near(3);
             let number = match place {
@@ -65,6 +67,16 @@ pub fn any_call(random: &mut Random, words: &[u32]) -> Call {
             };
             Call::Look(place, number, sheet)
         }
+    }
+}
+
+/// A right: all sheets, most of them, with a bit more than there are, or any word.
+fn right(random: &mut Random, s: Sizes) -> u32 {
+    match random.below(10) {
+        0..=3 => random.mask(s.k, 100),
+        4..=7 => random.mask(s.k, 75),
+        8 => random.mask(s.k, 75) | (1u64 << s.k) as u32,
+        _ => random.word(),
     }
 }
 

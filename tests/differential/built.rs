@@ -1,7 +1,7 @@
 //! Desks that no list of calls leads to: built in form, or random words.
 
 use crate::damaged::{
-    spoiled_allowance, spoiled_mark, spoiled_mask, spoiled_round, version_place,
+    spoiled_allowance, spoiled_mark, spoiled_mask, spoiled_right, spoiled_round, version_place,
 };
 use crate::desk::allowance::held_count;
 use crate::desk::layout::{has, HEADER, LAST_ISSUE, OFFSETS};
@@ -12,8 +12,8 @@ use crate::desk::{Sizes, BROKEN, OPEN};
 use crate::random::Random;
 
 /// A desk in form: pasts, cards, leading writers and done jobs of any kind, needs that nobody
-/// meets too. Now and then leading writers, a shelf's mark, its allowance or the last picked run aren't
-/// as form asks.
+/// meets too. Now and then leading writers, a shelf's mark, its allowance, the last picked run or a
+/// right aren't as form asks.
 pub fn desk(random: &mut Random, [k, w, n, p]: [u32; 4], spare: usize) -> Option<Vec<u32>> {
     let s = Sizes::of(k, w, n, p)?;
     let mut words = vec![0; s.total()];
@@ -43,6 +43,7 @@ pub fn desk(random: &mut Random, [k, w, n, p]: [u32; 4], spare: usize) -> Option
         words[s.allowance_at(office)] = allowance(random, s, held_count(&words, s, office));
     }
     words[s.round_at()] = random.below(s.p) as u32;
+    put_rights(random, s, &mut words);
     spoil(random, s, &mut words);
     words.extend((0..spare).map(|_| random.word()));
     Some(words)
@@ -57,8 +58,19 @@ fn allowance(random: &mut Random, s: Sizes, held: u32) -> u32 {
     }
 }
 
-/// Seldom: leading writers or a last picked run that there can't be, or a mark or an allowance that
-/// isn't the shelf's.
+/// Rights to all sheets in most cases; else to some, of an office with what its shelf holds.
+fn put_rights(random: &mut Random, s: Sizes, words: &mut [u32]) {
+    let most = random.one_of(&[1, 1, 4]);
+    for right in 0..s.n + s.w {
+        let held = |k: usize| right < s.n && words[s.shelf_at(right, k) + NUMBER] != 0;
+        let held = (0..s.k).fold(0, |mask, k| mask | u32::from(held(k)) << k);
+        let percent = random.one_of(&[100, 40, 80, 100][..most]);
+        words[s.mayhold_at(0) + right] = held | random.mask(s.k, percent);
+    }
+}
+
+/// Seldom: leading writers, a last picked run or a right that there can't be, or a mark or an
+/// allowance that isn't the shelf's.
 fn spoil(random: &mut Random, s: Sizes, words: &mut [u32]) {
     match random.below(40) {
         0 | 1 => {
@@ -74,6 +86,10 @@ fn spoil(random: &mut Random, s: Sizes, words: &mut [u32]) {
             words[s.allowance_at(office)] = spoiled_allowance(random, words, s, office);
         }
         4 => words[s.round_at()] = spoiled_round(random, s),
+        5 => {
+            let (at, right) = spoiled_right(random, words, s);
+            words[at] = right;
+        }
         _ => {}
     }
 }

@@ -9,20 +9,24 @@ use crate::pair::Pair;
 use crate::random::Random;
 
 /// Changes one to ten words, or a whole version, a version's mask, a shelf's mark or allowance, the
-/// last picked run, or the first words of a run. In half of the cases of words only counts, issue numbers and jobs; and in most
+/// last picked run, a right, or the first words of a run. In half of the cases of words only counts, issue numbers and jobs; and in most
 /// cases the shelves' marks follow, so that the desk often stays in form.
 pub fn damage(random: &mut Random, pair: &mut Pair) {
     let [k, w, n, p] = [0, 1, 2, 3].map(|at| pair.words()[at]);
     let Some(s) = Sizes::of(k, w, n, p) else {
         return damage_words(random, pair);
     };
-    match random.below(13) {
+    match random.below(14) {
         0 | 1 => replace_version(random, pair, s),
         2 | 3 => damage_run(random, pair, s),
         4 => damage_mask(random, pair, s),
         5 => return damage_mark(random, pair, s),
         6 => return damage_allowance(random, pair, s),
         7 => return pair.set(s.round_at(), spoiled_round(random, s)),
+        8 => {
+            let (at, right) = spoiled_right(random, pair.words(), s);
+            return pair.set(at, right);
+        }
         _ => damage_words(random, pair),
     }
     if random.chance(85) {
@@ -74,6 +78,20 @@ pub fn spoiled_round(random: &mut Random, s: Sizes) -> u32 {
         1 => s.p as u32,
         _ => random.word(),
     }
+}
+
+/// A right of an office or a writer, and where it stands: a sheet less, a bit more than there are
+/// sheets, a sheet more or less, or any word.
+pub fn spoiled_right(random: &mut Random, words: &[u32], s: Sizes) -> (usize, u32) {
+    let at = s.mayhold_at(0) + random.below(s.n + s.w);
+    let right = words[at];
+    let spoiled = match random.below(4) {
+        0 => right & right.wrapping_sub(1),
+        1 => right | (1u64 << s.k) as u32,
+        2 => right ^ 1 << random.below(s.k),
+        _ => random.word(),
+    };
+    (at, spoiled)
 }
 
 /// A mark that isn't this one: a sheet more or less, or any word.

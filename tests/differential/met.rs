@@ -22,10 +22,12 @@ pub enum Source {
 const SOURCES: [&str; 8] =
     ["story", "reached", "damaged", "short", "bent", "admitted", "built", "noise"];
 /// The calls that are answered `ok`: explain never is.
-const CALLS: [&str; 13] = [
+const CALLS: [&str; 15] = [
     "new", "open", "fetch", "evict", "prepare", "step", "issue", "drop", "look", "stale", "admit",
-    "allow", "pick",
+    "allow", "pick", "mayhold", "maysave",
 ];
+/// The calls that a missing right turns down.
+const BARRED: [&str; 5] = ["fetch", "prepare", "step", "explain", "issue"];
 
 #[derive(Default)]
 pub struct Met {
@@ -47,8 +49,10 @@ pub struct Met {
     /// Calls answered ok, by source.
     by_source: [u64; 8],
     /// Answered ok, by call.
-    ok: [u64; 13],
-    refused: [u64; 13],
+    ok: [u64; 15],
+    refused: [u64; 14],
+    /// Refused for a missing right, by call.
+    barred: [u64; 5],
     breaks: u64,
     clear: u64,
     nothing: u64,
@@ -73,7 +77,11 @@ impl Met {
                 self.paths += 1;
                 self.long_paths += u64::from(sheets.len() > 2);
             }
-            Some(Answer::Refused(number)) => self.refused[*number as usize] += 1,
+            Some(Answer::Refused(number)) => {
+                self.refused[*number as usize] += 1;
+                let place = BARRED.iter().position(|name| *number == 13 && *name == call.name());
+                place.into_iter().for_each(|place| self.barred[place] += 1);
+            }
             Some(Answer::Ok(numbers)) => {
                 self.by_source[source as usize] += 1;
                 let place = CALLS.iter().position(|name| *name == call.name());
@@ -122,6 +130,9 @@ impl Met {
             let least = if matches!(number, 9 | 10) { 20 } else { 500 };
             table.push((format!("refused {number}"), *count, least));
         }
+        for (name, count) in BARRED.iter().zip(self.barred) {
+            table.push((format!("{name} refused 13"), count, 50));
+        }
         // Short buffers are all refused.
         let kinds = SOURCES.iter().zip(self.by_source).filter(|(name, _)| **name != "short");
         for (name, count) in kinds {
@@ -157,7 +168,7 @@ impl Met {
                 few.push(format!("{name}: {count} of {least}"));
             }
         }
-        if self.largest < 288_075 {
+        if self.largest < 288_099 {
             few.push(format!("the largest desk: {} words", self.largest));
         }
         few

@@ -11,7 +11,7 @@ use crate::pair::{Pair, ANSWER, MARK};
 use crate::random::Random;
 use crate::teller::Teller;
 use crate::text::{self, Call};
-use crate::{everyday, odd, plots, rounds, small};
+use crate::{everyday, odd, plots, rights, rounds, small};
 
 /// Desks over so many words get shorter stories and fewer single calls.
 const LARGE: usize = 20_000;
@@ -64,7 +64,7 @@ fn tell(
         odd::before_new(&mut teller);
     }
     teller.tell("new", &counts);
-    let lines = if total > LARGE { 30 } else { 20 + random.below(140) as u64 };
+    let lines = if total > LARGE { 30 } else { 20 + random.below(155) as u64 };
     for k in 0..counts[0] as usize {
         if random.chance(if total > LARGE { 20 } else { 60 }) {
             plots::publish(&mut teller, k, 0);
@@ -91,7 +91,8 @@ fn plot(teller: &mut Teller) {
         58..=64 => everyday::fetch_and_evict(teller),
         65..=68 => small::small_shelf(teller),
         69..=72 => rounds::dispatch(teller),
-        73..=85 => everyday::any_call(teller),
+        73..=76 => rights::joint_project(teller),
+        77..=85 => everyday::any_call(teller),
         _ => odd::refused(teller),
     }
 }

@@ -47,6 +47,8 @@ export!(sheetdesk_stale, desk::stale, office);
 export!(sheetdesk_admit, desk::admit);
 export!(sheetdesk_allow, desk::allow, office, number);
 export!(sheetdesk_pick, desk::pick);
+export!(sheetdesk_mayhold, desk::mayhold, office, mask);
+export!(sheetdesk_maysave, desk::maysave, writer, mask);
 
 #[no_mangle]
 pub unsafe extern "C" fn sheetdesk_open(

@@ -35,7 +35,7 @@ pub fn of_conditions(t: &mut Trials) {
     let (shelf, writer, run) = (s.shelf_at(0, 0), s.writer_at(0), s.run_at(0));
     let (card, mark, own) = (s.card_at(0, 1), s.stale_at(0), s.master_at(0) + PAST);
     let reads = run + JOB_LIST + 1;
-    let cases: [(&str, &[(usize, u32)], u32); 15] = [
+    let cases: [(&str, &[(usize, u32)], u32); 16] = [
         ("as it is", &[], 0),
         ("a number over the last one", &[(LAST_ISSUE, 1)], 11),
         ("a last number that no version has", &[(LAST_ISSUE, 3)], 0),
@@ -49,6 +49,7 @@ pub fn of_conditions(t: &mut Trials) {
         ("a card's row over the master's", &[(card + PAST, 2)], 11),
         ("a shelf's number that isn't the master's", &[(shelf + NUMBER, 2)], 0),
         ("a mark that isn't the shelf's", &[(mark, 1)], 1),
+        ("a right that bars a held sheet", &[(s.mayhold_at(0), 1)], 1),
         ("a master ahead of the shelf", &[(own, 2), (mark, 1)], 0),
         ("a master over its writer's count", &[(own, 3), (mark, 1)], 11),
     ];
@@ -67,10 +68,10 @@ pub fn of_conditions(t: &mut Trials) {
 
 // The desk is lent word by word, as it is written down.
 pub fn of_words(t: &mut Trials) {
-    let mut words = vec![2, 1, 1, 1, 2, 10, 18, 28, 31, 68];
+    let mut words = vec![2, 1, 1, 1, 2, 10, 18, 28, 31, 70];
     words.extend([1, 1, 1, 0, 2, 1, 1, 2, 1, 1, 1, 0, 2, 1, 1, 2, 0, 2, 2, 1, 2, 1, 1, 0, 0, 0, 2, 0]);
     words.extend([0; 21]);
-    words.extend([0, 0, 0, 0, 2, 1, 1, 2, 0]);
+    words.extend([0, 0, 0, 0, 2, 1, 1, 2, 0, 3, 3]);
     t.check("admit, the words as written down", saved().words[..words.len()] == words);
 }
 

@@ -13,7 +13,7 @@ impl Told {
         row.versions = self.versions(&self.book.master, set);
         row.words = format!(
             "Office {office} fetches {}.",
-            self.with_others(&self.book.master, sheet, set, "what it needs")
+            self.with_others(&self.book.master, 1 << sheet, set, "it what it needs")
         );
     }
 
@@ -23,17 +23,38 @@ impl Told {
         row.versions = self.versions(&self.book.shelves[office], set);
         row.words = format!(
             "Office {office} evicts {}.",
-            self.with_others(&self.book.shelves[office], sheet, set, "what needs it")
+            self.with_others(&self.book.shelves[office], 1 << sheet, set, "it what needs it")
         );
     }
 
-    /// The sheet that was asked for, and the others of the set.
-    fn with_others(&self, copies: &[Saves], sheet: u32, set: u32, others: &str) -> String {
-        let asked = version_list(&self.versions(copies, 1 << sheet));
-        let more = self.versions(copies, set & !(1 << sheet));
+    /// An office's right: what it holds and may hold no more leaves its shelf, by the evict rule.
+    pub fn mayhold(&mut self, row: &mut Row, call: &Call, office: usize, right: u32) {
+        let before = self.book.shelves[office].clone();
+        self.book.feed(call, true);
+        row.words = format!("Office {office} may hold {}.", words::right(right, self.book.k));
+        let (barred, left) = (held(&before) & !right, held(&self.book.shelves[office]));
+        let gone = held(&before) & !left;
+        if gone == 0 {
+            return;
+        }
+        let (from, to) = (Lane::Office(office), Lane::Office(office));
+        row.arrows.push(Arrow { kind: Kind::Evict, from, to, sheets: gone });
+        row.versions = self.versions(&before, gone);
+        let others = match barred.count_ones() {
+            1 => "it what needs it",
+            _ => "them what needs them",
+        };
+        let evicted = self.with_others(&before, barred, gone, others);
+        row.words.push_str(&format!(" It evicts {evicted}."));
+    }
+
+    /// The sheets that it is about, and the others of the set.
+    fn with_others(&self, copies: &[Saves], about: u32, set: u32, others: &str) -> String {
+        let asked = version_list(&self.versions(copies, about));
+        let more = self.versions(copies, set & !about);
         match more.len() {
             0 => asked,
-            _ => format!("{asked}, and with it {others}: {}", version_list(&more)),
+            _ => format!("{asked}, and with {others}: {}", version_list(&more)),
         }
     }
 

@@ -65,6 +65,7 @@ impl Told {
             Call::Look(2, run, _) => (None, Some(*run)),
             Call::Fetch(office, _) | Call::Evict(office, _) => (Some(*office), None),
             Call::Stale(office) | Call::Allow(office, _) => (Some(*office), None),
+            Call::MayHold(office, _) => (Some(*office), None),
             _ => (None, call.run()),
         };
         let office = office.map(|office| office as usize);
@@ -89,6 +90,9 @@ impl Told {
             Call::Issue(run, writer, mask) => {
                 return self.issue(row, call, *run as usize, *writer as usize, *mask)
             }
+            Call::MayHold(office, right) => {
+                return self.mayhold(row, call, *office as usize, *right)
+            }
             Call::Fetch(office, sheet) => self.fetch(row, *office as usize, *sheet, numbers[0]),
             Call::Evict(office, sheet) => self.evict(row, *office as usize, *sheet, numbers[0]),
             Call::Look(place, number, sheet) => {
@@ -102,19 +106,29 @@ impl Told {
                 self.set_run(*run as usize, State::Free);
                 row.words = format!("Run {run} is dropped: it ends and saves nothing.");
             }
-            Call::Stale(office) => row.words = words::stale(*office, numbers[0]),
-            Call::Admit => row.words = String::from("The desk is admitted."),
+            _ => self.said(row, call, numbers),
+        }
+        self.book.feed(call, true);
+    }
+
+    /// A call that moves no sheet and neither opens nor ends a run.
+    fn said(&self, row: &mut Row, call: &Call, numbers: &[u32]) {
+        row.words = match call {
+            Call::Stale(office) => words::stale(*office, numbers[0]),
+            Call::Admit => String::from("The desk is admitted."),
             Call::Pick => {
                 row.lane = Some(Lane::Run(numbers[0] as usize));
-                row.words = format!("Job {} of run {} is next.", numbers[1], numbers[0]);
+                format!("Job {} of run {} is next.", numbers[1], numbers[0])
             }
             Call::Allow(office, number) => {
                 let sheets = words::counted(*number as usize, "sheet");
-                row.words = format!("The shelf of office {office} may hold {sheets}.");
+                format!("The shelf of office {office} may hold {sheets}.")
             }
-            Call::Explain(..) => {}
-        }
-        self.book.feed(call, true);
+            Call::MaySave(writer, right) => {
+                format!("Writer {writer} may save {}.", words::right(*right, self.book.k))
+            }
+            _ => return,
+        };
     }
 
     pub fn set_run(&mut self, run: usize, state: State) {

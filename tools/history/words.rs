@@ -45,6 +45,15 @@ pub fn stale(office: u32, sheets: u32) -> String {
     }
 }
 
+/// What an office may hold or a writer may save, of so many sheets.
+pub fn right(mask: u32, count: usize) -> String {
+    match mask.count_ones() as usize {
+        0 => String::from("no sheet"),
+        all if all == count => String::from("all sheets"),
+        _ => sheet_list(mask),
+    }
+}
+
 /// "1 and 2".
 pub fn numbers(issues: &[u32]) -> String {
     listed(&issues.iter().map(u32::to_string).collect::<Vec<String>>())

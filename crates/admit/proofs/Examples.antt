@@ -14,28 +14,29 @@ use Rattle.clock.specs.Clock.{exceeds, standing, dominates, present}
 use Rattle.sizes.specs.Bounds.{between, ranged, pastSize, versionSize, placeSize, siteSize, writerSize, runSize, masterAt, sitesAt, writersAt, runsAt, tailSize, tailAt, totalOf}
 use Rattle.model.specs.Algebra.{needsMet, causalCut, overlappingCut}
 use Rattle.model.specs.Version.{held, dependency, supersedes}
+use Rattle.model.specs.Tail.{barred}
 use Rattle.model.specs.Store.{planned, doneReads}
 use Rattle.model.specs.Allowance.{heldCount, over}
 use Rattle.model.specs.Marks.{isStale, staleMask}
-use Rattle.model.specs.Form.{zeroRows, zeroVersion, leadersFormed, versionFormed, placeFormed, validJob, zeroJob, jobsFormed, masksFormed, snapshotFormed, runFormed, siteFormed, wellFormed}
+use Rattle.model.specs.Form.{zeroRows, zeroVersion, leadersFormed, versionFormed, placeFormed, validJob, zeroJob, jobsFormed, masksFormed, snapshotFormed, runFormed, siteFormed, rightsFormed, tailFormed, wellFormed}
 use Rattle.model.specs.Allowance.{heldCount, over}
 use Rattle.model.specs.Outcome.{answer, refuse, unless, replied}
 use Rattle.model.specs.Calls.Admit.{everyPlace, everyVersion, everyPast, causalCuts, overlappingCuts, masterCovers, countsWithin, numberWithin, admissible, admitCause, admitReply}
 use Rattle.model.specs.Calls.{admit, ask, replyOf, ruleOf}
 use Rattle.model.proofs.Scripts.{ok₁, not-taken}
-use Rattle.layout.specs.Reading.{readClock, readPast, readVersion, readPlace, readSite, readWriter, readJob, readJobs, readRun, readTail, countsIn, storeOf}
+use Rattle.layout.specs.Reading.{readClock, readPast, readVersion, readPlace, readSite, readWriter, readJob, readJobs, readRun, readMasks, readTail, countsIn, storeOf}
 use Rattle.layout.specs.Buffer.{headerRight, shaped, inForm}
 use Rattle.layout.specs.Calls.{on, onStore, callOn}
 
 -- Two sheets, one writer, one office, one run. Sheet 1 needs sheet 0; the card has 1 alone.
 abbrev desk : List ℕ
 desk =
-    2 ∷ 1 ∷ 1 ∷ 1 ∷ 2 ∷ 10 ∷ 18 ∷ 28 ∷ 31 ∷ 68
+    2 ∷ 1 ∷ 1 ∷ 1 ∷ 2 ∷ 10 ∷ 18 ∷ 28 ∷ 31 ∷ 70
     ∷ 1 ∷ 1 ∷ 1 ∷ 0 ∷ 2 ∷ 1 ∷ 1 ∷ 2
     ∷ 1 ∷ 1 ∷ 1 ∷ 0 ∷ 2 ∷ 1 ∷ 1 ∷ 2 ∷ 0 ∷ 2
     ∷ 2 ∷ 1 ∷ 2
     ∷ 1 ∷ 1 ∷ 0 ∷ 0 ∷ 0 ∷ 2 ∷ 0
-    ∷ (replicate 21 0 ++ 0 ∷ 0 ∷ 0 ∷ 0 ∷ 2 ∷ 1 ∷ 1 ∷ 2 ∷ 0 ∷ [])
+    ∷ (replicate 21 0 ++ 0 ∷ 0 ∷ 0 ∷ 0 ∷ 2 ∷ 1 ∷ 1 ∷ 2 ∷ 0 ∷ 3 ∷ 3 ∷ [])
 
 abbrev put : ℕ → ℕ → List ℕ
 put i x = sets desk i (x ∷ [])
@@ -68,5 +69,5 @@ unfolding anyBelow allBelow when countBelow upto testBit withBit withIf maskBelo
     everyPlace everyVersion everyPast causalCuts overlappingCuts masterCovers countsWithin
     numberWithin admissible admitCause admitReply replyOf ruleOf readClock readPast readVersion
     readPlace readSite readWriter readJob readJobs readRun readTail countsIn storeOf
-    headerRight shaped inForm onStore callOn
+    headerRight shaped inForm onStore callOn readMasks rightsFormed tailFormed barred
 admitted = record { taken = refl; refused = refl; not-in-form = refl }

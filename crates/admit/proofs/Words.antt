@@ -17,7 +17,8 @@ use Rattle.masks.specs.Mask.{testBit}
 use Rattle.clock.specs.Clock.{Clock, standing, covering, dominates, clockAt}
 use Rattle.clock.proofs.Standings.{standing-same}
 use Rattle.sizes.specs.declared.Counts.{Counts}
-use Rattle.sizes.specs.Bounds.{maxKeys, maxJobs, pastOffset, writerPastOffset, jobsOffset, planOffset, snapshotOffset, Ranged, pastSize, versionSize, writerSize, writerAt, runAt, keyAt, rowAt, pastRowAt}
+use Rattle.sizes.specs.Bounds.{maxKeys, pastOffset, writerPastOffset, Ranged, pastSize, versionSize, writerSize, writerAt, runAt, keyAt, rowAt, pastRowAt}
+use Rattle.sizes.specs.Runs.{maxJobs, jobsOffset, planOffset, snapshotOffset}
 use Rattle.sizes.proofs.Offsets.{largest, ordered, writer-lies, key-lies, past-row-lies}
 use Rattle.model.specs.Algebra.{Place, everything, needsMet}
 use Rattle.model.specs.Version.{Version, versions}

@@ -22,7 +22,7 @@ ghost use lib.ListN.{length};
 ghost use Rattle.words.specs.Tests.{allBelow};
 ghost use Rattle.answers.specs.Answers.{answeredWords};
 ghost use Rattle.clock.specs.Clock.{clockAt};
-ghost use Rattle.sizes.specs.Bounds.{maxJobs};
+ghost use Rattle.sizes.specs.Runs.{maxJobs};
 ghost use Rattle.model.specs.Outcome.{answer};
 ghost use Rattle.model.specs.Calls.Admit.{admissible};
 ghost use Rattle.model.specs.Calls.{admit, ask};

@@ -9,12 +9,14 @@ use mathlib.Core.Logic.{_≢_}
 use Prim.Native.Nat.{ℕ}
 use lib.Dec.{leb}
 use native.Mathlib.Omega.{arith}
-use Rattle.words.specs.Tests.{only}
+use Rattle.words.specs.Tests.{Items, only}
 use Rattle.masks.specs.Mask.{testBit, withBit, maskBelow}
+use Rattle.masks.proofs.Sets.{item-of}
 use Rattle.sizes.specs.declared.Counts.{Counts}
 use Rattle.model.specs.Algebra.{Place}
 use Rattle.model.specs.Version.{Version, versions}
 use Rattle.model.specs.Sets.{fetchSet, fetched, unfetchable}
+use Rattle.model.specs.Tail.{barred}
 use Rattle.model.specs.Store.{Store, withCache}
 use Rattle.model.specs.Allowance.{over}
 use Rattle.model.specs.Outcome.{answer, refuse, unless}
@@ -41,9 +43,11 @@ module _ (l : List ℕ) (z : Counts) (H : FormWith l z) (o k : ℕ) where
   rows y =
       let alg = versions (y .writers) in
       let x = s .site o in
-      refuse (unfetchable alg (y .keys) (s .master) (only k)) 7
+      refuse (barred (y .keys) (s .tail .mayHold o)
+      (fetchSet alg (y .keys) (s .master) (x .cache) (only k))) 13
+      (refuse (unfetchable alg (y .keys) (s .master) (only k)) 7
       (refuse (over y x (fetched alg (y .keys) (s .master) (x .cache) (only k))) 12
-      0)
+      0))
 
   range-rule : ruleOf (fetch o k) s
       ≡ unless (refuse (outOfRange z o k) 3 (rows z)) (fetchDone s o k)
@@ -62,25 +66,29 @@ module _ (l : List ℕ) (z : Counts) (H : FormWith l z) (o k : ℕ) where
   module _ (in-range : outOfRange z o k ≡ false) (start T : ℕ) (d : start ≡ withBit 0 k)
       (e : T ≡ maskBelow (z .keys) (fetchSet (versions (z .writers)) (z .keys) (s .master)
       (s .site o .cache) (testBit start))) where
-    taken : T ≡ maskBelow (z .keys) (fetchSet (versions (z .writers)) (z .keys) (s .master)
-        (s .site o .cache) (only k))
+    abbrev found : Items
+    found = fetchSet (versions (z .writers)) (z .keys) (s .master) (s .site o .cache) (only k)
+
+    taken : T ≡ maskBelow (z .keys) found
     taken = rw (← one-key k, ← d) e
 
-    fetch-rule : ruleOf (fetch o k) s ≡ unless (takesCause z s o T) (fetchDone s o k)
+    -- The right is asked for all of T.
+    fetch-rule : ruleOf (fetch o k) s ≡ unless (takesCause z s o T T) (fetchDone s o k)
     unfolding refuse
     fetch-rule =
         let rule : ruleOf (fetch o k) s ≡ unless (rows z) (fetchDone s o k) =
         rw in-range at range-rule in
         rule
-        ∙ ap (λ (n : ℕ). unless n (fetchDone s o k)) (sym (taken-cause z s o (only k) T taken))
+        ∙ ap (λ (n : ℕ). unless n (fetchDone s o k))
+        (sym (taken-cause z s o (only k) found T T (item-of (z .keys) T found taken) taken))
 
-    pub fetch-refused : (n : ℕ) → n ≡ takesCause z s o T → n ≢ 0
+    pub fetch-refused : (n : ℕ) → n ≡ takesCause z s o T T → n ≢ 0
         → Ends (fetch o k) l (2 ∷ n ∷ []) l
     fetch-refused n p h =
         ends-refused (fetch o k) l n (fetchDone s o k) (H .form)
         (fetch-rule ∙ ap (λ (n : ℕ). unless n (fetchDone s o k)) (sym p)) h
 
-    pub fetch-done : takesCause z s o T ≡ 0 → (m : List ℕ)
+    pub fetch-done : takesCause z s o T T ≡ 0 → (m : List ℕ)
         → m ≡ written (withCache s o (choice (testBit T) (s .master) (s .site o .cache))) l
         → Ends (fetch o k) l (0 ∷ T ∷ []) m
     unfolding answer leaves fetchDone

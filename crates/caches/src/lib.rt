@@ -41,7 +41,7 @@ pub fn fetch(words: &mut [u32], site: u32, key: u32) -> Answered
     }
     let wanted = with_item(0, key);
     let taken = find_taken(words, z, o, wanted);
-    let cause = taking_cause(words, z, o, taken);
+    let cause = taking_cause(words, z, o, taken, taken);
     if cause != 0 {
         return Answered::Refused(cause);
     }

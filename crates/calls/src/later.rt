@@ -6,7 +6,7 @@ use crate::laying::turn_down;
 use explain::put::put_explained;
 use pick::put_picked;
 ghost use mathlib.Core.Path.{_≡_};
-ghost use Rattle.model.specs.Calls.{explain, stale, admit, allow, pick, ask};
+ghost use Rattle.model.specs.Calls.{explain, stale, admit, allow, pick, mayhold, maysave, ask};
 ghost use Rattle.layout.specs.Buffer.{inForm};
 ghost use Rattle.layout.specs.Calls.{on};
 ghost use Rattle.calls.specs.Performs.{Exported};
@@ -71,4 +71,28 @@ pub fn pick(store: &mut [u32], ready: bool, out: &mut [u32]) -> u32
     let r = pick::pick(store);
     let n = put_picked(out, r);
     narrow(n)
+}
+
+pub fn mayhold(store: &mut [u32], ready: bool, site: u32, mask: u32, out: &mut [u32]) -> u32
+    requires { ⌜ ready ≡ inForm (now store) ⌝ }
+    ensures { λ n. ⌜ Exported (on (mayhold site mask))
+        (now (store .entry)) (now (store .exit)) (now (out .entry)) (now (out .exit)) n ⌝ }
+{
+    if !can_make(ready, out) {
+        return turn_down(out);
+    }
+    let r = rights::mayhold(store, site, mask);
+    lay(out, r)
+}
+
+pub fn maysave(store: &mut [u32], ready: bool, writer: u32, mask: u32, out: &mut [u32]) -> u32
+    requires { ⌜ ready ≡ inForm (now store) ⌝ }
+    ensures { λ n. ⌜ Exported (on (maysave writer mask))
+        (now (store .entry)) (now (store .exit)) (now (out .entry)) (now (out .exit)) n ⌝ }
+{
+    if !can_make(ready, out) {
+        return turn_down(out);
+    }
+    let r = rights::maysave(store, writer, mask);
+    lay(out, r)
 }

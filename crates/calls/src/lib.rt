@@ -17,6 +17,8 @@ use first::step;
 use later::admit;
 use later::allow;
 use later::explain;
+use later::mayhold;
+use later::maysave;
 use later::pick;
 use later::stale;
 use words::wide;
@@ -58,6 +60,8 @@ fn make(store: &mut [u32], ready: bool, command: Command, numbers: &[u32], out: 
         Command::Admit => admit(store, ready, out),
         Command::Allow(o, n) => allow(store, ready, o, n, out),
         Command::Pick => pick(store, ready, out),
+        Command::Mayhold(o, m) => mayhold(store, ready, o, m, out),
+        Command::Maysave(w, m) => maysave(store, ready, w, m, out),
     }
 }
 

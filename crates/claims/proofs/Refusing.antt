@@ -16,12 +16,13 @@ use Rattle.model.specs.Prepare.{prepareCause, prepareDone, prepareRule}
 use Rattle.model.specs.Step.{jobCause, stepCause, stepMoved, stepBroken, stepDone, stepRule}
 use Rattle.model.specs.Issue.{raiseCause, issueCause, issueDone, issueRule}
 use Rattle.model.specs.Calls.Allow.{allowCause, allowDone, allowRule}
+use Rattle.model.specs.Calls.Rights.{rightCause, mayholdDone, mayholdRule, maysaveRule}
 use Rattle.model.specs.Calls.Pick.{pickTurn, pickedRun, pickDone, pickRule}
 use Rattle.model.specs.Calls.Look.{lookCause, lookReply}
 use Rattle.model.specs.Calls.Explain.{explainReply}
 use Rattle.model.specs.Calls.Stale.{staleCause, staleReply}
 use Rattle.model.specs.Calls.Admit.{admitCause, admitReply}
-use Rattle.model.specs.Calls.{Query, look, explain, stale, admit, StoreCall, openRun, fetch, evict, prepare, step, issue, dropRun, allow, pick, ask, replyOf, ruleOf}
+use Rattle.model.specs.Calls.{Query, look, explain, stale, admit, StoreCall, openRun, fetch, evict, prepare, step, issue, dropRun, allow, pick, mayhold, maysave, ask, replyOf, ruleOf}
 use Rattle.layout.specs.Reading.{storeOf}
 use Rattle.layout.specs.Buffer.{inForm}
 use Rattle.layout.specs.Calls.{Call, new, on, newCause, newOn, onStore, callOn}
@@ -86,14 +87,14 @@ unfolding stepBroken stepDone
 step-taken s r j true = taken _ refl
 step-taken s r j false = taken _ refl
 
-step-listed : (s : Store) (r j : ℕ) → In (0 ∷ 3 ∷ 4 ∷ 6 ∷ 7 ∷ 12 ∷ []) (stepCause s r j)
+step-listed : (s : Store) (r j : ℕ) → In (0 ∷ 3 ∷ 4 ∷ 6 ∷ 13 ∷ 7 ∷ 12 ∷ []) (stepCause s r j)
 unfolding stepCause jobCause
 step-listed s r j =
     row _ _ _ refl (row _ _ _ refl (row _ _ _ refl (row _ _ _ refl (row _ _ _ refl
-    (row _ _ _ refl none)))))
+    (row _ _ _ refl (row _ _ _ refl none))))))
 
 abbrev issuing : List ℕ
-issuing = 0 ∷ 3 ∷ 4 ∷ 6 ∷ 9 ∷ 10 ∷ []
+issuing = 0 ∷ 3 ∷ 4 ∷ 6 ∷ 13 ∷ 9 ∷ 10 ∷ []
 
 raise-listed : (s : Store) (w : ℕ) → In issuing (raiseCause s w)
 unfolding raiseCause
@@ -103,7 +104,7 @@ issue-listed : (s : Store) (r w S : ℕ) → In issuing (issueCause s r w S)
 unfolding issueCause runCause
 issue-listed s r w S =
     row _ _ _ refl (row _ _ _ refl (row _ _ _ refl (row _ _ _ refl (row _ _ _ refl
-    (choice (eqb S 0) 0 (raiseCause s w) none (raise-listed s w))))))
+    (row _ _ _ refl (choice (eqb S 0) 0 (raiseCause s w) none (raise-listed s w)))))))
 
 -- Pick is refused by nothing.
 pick-taken : (s : Store) → Taken (pickRule s)
@@ -124,19 +125,21 @@ rule-listed : (c : StoreCall) (s : Store) (n : ℕ) → ruleOf c s ≡ refused n
     → In (storeRefusals c) n
 unfolding ruleOf storeRefusals openRule openCause openDone runCause fetchRule fetchCause fetchDone
     evictRule evictCause evictDone prepareRule prepareCause prepareDone stepRule issueRule
-    issueDone dropRule dropCause dropDone allowRule allowCause allowDone replied
+    issueDone dropRule dropCause dropDone allowRule allowCause allowDone mayholdRule mayholdDone
+    maysaveRule rightCause replied
 rule-listed (openRun r l) s n e =
     by-cause _ n _ _ (taken _ refl)
     (row _ _ _ refl (row _ _ _ refl (row _ _ _ refl none))) e
 rule-listed (fetch o k) s n e =
     by-cause _ n _ _ (taken _ refl)
-    (row _ _ _ refl (row _ _ _ refl (row _ _ _ refl (row _ _ _ refl none)))) e
+    (row _ _ _ refl (row _ _ _ refl (row _ _ _ refl (row _ _ _ refl (row _ _ _ refl none))))) e
 rule-listed (evict o k) s n e =
     by-cause _ n _ _ (taken _ refl)
     (row _ _ _ refl (row _ _ _ refl (row _ _ _ refl none))) e
 rule-listed (prepare r) s n e =
     by-cause _ n _ _ (taken _ refl)
-    (row _ _ _ refl (row _ _ _ refl (row _ _ _ refl (row _ _ _ refl (row _ _ _ refl none))))) e
+    (row _ _ _ refl (row _ _ _ refl (row _ _ _ refl (row _ _ _ refl (row _ _ _ refl
+    (row _ _ _ refl none)))))) e
 rule-listed (step r j) s n e =
     by-cause _ n _ _ (step-taken s r j (anyBelow (s .counts .keys) (stepMoved s r j)))
     (step-listed s r j) e
@@ -147,6 +150,10 @@ rule-listed (allow o k) s n e =
     by-cause _ n _ _ (taken _ refl)
     (row _ _ _ refl (row _ _ _ refl (row _ _ _ refl none))) e
 rule-listed pick s n e = absurd (pick-taken s n e)
+rule-listed (mayhold o m) s n e =
+    by-cause _ n _ _ (taken _ refl) (row _ _ _ refl (row _ _ _ refl none)) e
+rule-listed (maysave w m) s n e =
+    by-cause _ n _ _ (taken _ refl) (row _ _ _ refl (row _ _ _ refl none)) e
 rule-listed (ask q) s n e = by-cause _ n _ _ (taken _ refl) (asked q s) e
 
 -- ---- on any buffer
@@ -179,6 +186,8 @@ eleven-alone (on (issue r w S)) l e = clash (refused-as-listed (on (issue r w S)
 eleven-alone (on (dropRun r)) l e = clash (refused-as-listed (on (dropRun r)) l 11 e) refl
 eleven-alone (on (allow o n)) l e = clash (refused-as-listed (on (allow o n)) l 11 e) refl
 eleven-alone (on pick) l e = clash (refused-as-listed (on pick) l 11 e) refl
+eleven-alone (on (mayhold o m)) l e = clash (refused-as-listed (on (mayhold o m)) l 11 e) refl
+eleven-alone (on (maysave w m)) l e = clash (refused-as-listed (on (maysave w m)) l 11 e) refl
 eleven-alone (on (ask (look p i k))) l e =
     clash (refused-as-listed (on (ask (look p i k))) l 11 e) refl
 eleven-alone (on (ask (explain r j))) l e =

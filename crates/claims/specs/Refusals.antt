@@ -8,7 +8,7 @@ use mathlib.Core.List.{List, [], _∷_}
 use Prim.Native.Nat.{ℕ}
 use lib.Dec.{eqb}
 use Rattle.model.specs.Outcome.{refused}
-use Rattle.model.specs.Calls.{Query, look, explain, stale, admit, StoreCall, openRun, fetch, evict, prepare, step, issue, dropRun, allow, pick, ask}
+use Rattle.model.specs.Calls.{Query, look, explain, stale, admit, StoreCall, openRun, fetch, evict, prepare, step, issue, dropRun, allow, pick, mayhold, maysave, ask}
 use Rattle.layout.specs.Calls.{Call, new, on, callOn}
 
 abbrev pub isOneOf : ℕ → List ℕ → Bool
@@ -18,20 +18,22 @@ isOneOf n (x ∷ xs) = eqb n x || isOneOf n xs
 -- After 1, which every call on a desk has.
 unfoldable pub askedRefusals : Query → List ℕ
 askedRefusals (look p i k) = 3 ∷ 8 ∷ []
-askedRefusals (explain r j) = 3 ∷ 4 ∷ 6 ∷ 7 ∷ 12 ∷ []
+askedRefusals (explain r j) = 3 ∷ 4 ∷ 6 ∷ 13 ∷ 7 ∷ 12 ∷ []
 askedRefusals (stale o) = 3 ∷ []
 askedRefusals admit = 11 ∷ []
 
 unfoldable pub storeRefusals : StoreCall → List ℕ
 storeRefusals (openRun r l) = 3 ∷ 4 ∷ 5 ∷ []
-storeRefusals (fetch o k) = 3 ∷ 7 ∷ 12 ∷ []
+storeRefusals (fetch o k) = 3 ∷ 13 ∷ 7 ∷ 12 ∷ []
 storeRefusals (evict o k) = 3 ∷ 8 ∷ []
-storeRefusals (prepare r) = 3 ∷ 4 ∷ 6 ∷ 7 ∷ 12 ∷ []
-storeRefusals (step r j) = 3 ∷ 4 ∷ 6 ∷ 7 ∷ 12 ∷ []
-storeRefusals (issue r w S) = 3 ∷ 4 ∷ 6 ∷ 9 ∷ 10 ∷ []
+storeRefusals (prepare r) = 3 ∷ 4 ∷ 6 ∷ 13 ∷ 7 ∷ 12 ∷ []
+storeRefusals (step r j) = 3 ∷ 4 ∷ 6 ∷ 13 ∷ 7 ∷ 12 ∷ []
+storeRefusals (issue r w S) = 3 ∷ 4 ∷ 6 ∷ 13 ∷ 9 ∷ 10 ∷ []
 storeRefusals (dropRun r) = 3 ∷ 4 ∷ []
 storeRefusals (allow o n) = 3 ∷ 12 ∷ []
 storeRefusals pick = []
+storeRefusals (mayhold o m) = 3 ∷ []
+storeRefusals (maysave w m) = 3 ∷ []
 storeRefusals (ask q) = askedRefusals q
 
 unfoldable pub refusalsOf : Call → List ℕ

@@ -5,10 +5,10 @@ use mathlib.Core.List.{List}
 use mathlib.Core.Option.{Option, none, some}
 use Prim.Native.Nat.{ℕ, _+_}
 use lib.ListN.{take, drop}
-use Rattle.model.specs.Calls.{look, explain, stale, admit, openRun, fetch, evict, prepare, step, issue, dropRun, allow, pick, ask}
+use Rattle.model.specs.Calls.{look, explain, stale, admit, openRun, fetch, evict, prepare, step, issue, dropRun, allow, pick, mayhold, maysave, ask}
 use Rattle.layout.specs.Calls.{Call, new, on}
 use Rattle.command.specs.declared.Command.{Command}
-use Rattle.command.specs.declared.Command.the-variants.{Unread, New, Open, Fetch, Evict, Prepare, Step, Issue, Drop, Look, Explain, Stale, Admit, Allow, Pick}
+use Rattle.command.specs.declared.Command.the-variants.{Unread, New, Open, Fetch, Evict, Prepare, Step, Issue, Drop, Look, Explain, Stale, Admit, Allow, Pick, Mayhold, Maysave}
 
 -- Open's job words are the n from index i on.
 abbrev pub spelled : Command → List ℕ → Option Call
@@ -27,6 +27,8 @@ spelled (Stale o) l = some (on (ask (stale o)))
 spelled Admit l = some (on (ask admit))
 spelled (Allow o n) l = some (on (allow o n))
 spelled Pick l = some (on pick)
+spelled (Mayhold o m) l = some (on (mayhold o m))
+spelled (Maysave w m) l = some (on (maysave w m))
 
 -- Open alone uses any.
 abbrev pub numbersEnd : Command → ℕ
@@ -45,3 +47,5 @@ numbersEnd (Stale o) = 0
 numbersEnd Admit = 0
 numbersEnd (Allow o n) = 0
 numbersEnd Pick = 0
+numbersEnd (Mayhold o m) = 0
+numbersEnd (Maysave w m) = 0

@@ -18,4 +18,6 @@ pub enum Command {
     Admit,
     Allow(u32, u32),
     Pick,
+    Mayhold(u32, u32),
+    Maysave(u32, u32),
 }

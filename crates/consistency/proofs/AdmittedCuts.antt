@@ -15,7 +15,7 @@ use Rattle.sizes.specs.declared.Counts.{Counts}
 use Rattle.model.specs.Algebra.{Place}
 use Rattle.model.specs.Version.{Version, held, versions}
 use Rattle.model.proofs.Needs.{dependency-iff, supersedes-iff}
-use Rattle.model.proofs.Formed.{PlaceFormed, version-zero}
+use Rattle.model.proofs.FormedPlaces.{PlaceFormed, version-zero}
 use Rattle.history.specs.Listing.{Base}
 use Rattle.history.specs.Admission.{admittedPlace}
 use Rattle.history.proofs.Reached.{reaches-some}

@@ -22,7 +22,8 @@ use Rattle.model.specs.Outcome.{refuse, unless, replied}
 use Rattle.model.specs.Calls.Admit.{admissible, admitCause, admitReply}
 use Rattle.model.specs.Calls.{admit, ask, replyOf, ruleOf}
 use Rattle.model.proofs.Cuts.{overlappingCut-within, overlappingCut-at, causalCut-at}
-use Rattle.model.proofs.Formed.{PlaceFormed, well-out}
+use Rattle.model.proofs.FormedPlaces.{PlaceFormed}
+use Rattle.model.proofs.Formed.{well-out}
 use Rattle.model.proofs.Plans.{free-out, free-or-plan, run-place}
 use Rattle.model.proofs.Admits.{Covered, Admissible}
 use Rattle.layout.specs.Reading.{storeOf}

@@ -1,7 +1,7 @@
 -- Every call has its laws: the one list of calls of the theorem, and a file for each.
 -- Assumes nothing.
 use Rattle.model.specs.Store.{Store}
-use Rattle.model.specs.Calls.{StoreCall, openRun, fetch, evict, prepare, step, issue, dropRun, allow, pick, ask, ruleOf}
+use Rattle.model.specs.Calls.{StoreCall, openRun, fetch, evict, prepare, step, issue, dropRun, allow, pick, mayhold, maysave, ask, ruleOf}
 use Rattle.layout.proofs.Follow.{Fine}
 use Rattle.consistency.proofs.Laws.{Laws}
 use Rattle.consistency.proofs.Calls.Caches.{fetch-laws, evict-laws}
@@ -11,6 +11,7 @@ use Rattle.consistency.proofs.Calls.Step.{step-laws}
 use Rattle.consistency.proofs.Calls.Issue.{issue-laws}
 use Rattle.consistency.proofs.Calls.Allow.{allow-laws}
 use Rattle.consistency.proofs.Calls.Pick.{pick-laws}
+use Rattle.consistency.proofs.Calls.Rights.{mayhold-laws, maysave-laws}
 pub mod Caches
 pub mod Runs
 pub mod Prepare
@@ -18,6 +19,7 @@ pub mod Step
 pub mod Issue
 pub mod Allow
 pub mod Pick
+pub mod Rights
 
 pub laws : (c : StoreCall) (s : Store) → Fine s → Laws c s (ruleOf c s)
 unfolding ruleOf
@@ -30,4 +32,6 @@ laws (issue r w S) = issue-laws r w S
 laws (dropRun r) = drop-laws r
 laws (allow o n) = allow-laws o n
 laws pick = pick-laws
+laws (mayhold o m) = mayhold-laws o m
+laws (maysave w m) = maysave-laws w m
 laws (ask q) = ask-laws q

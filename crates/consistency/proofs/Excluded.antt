@@ -20,18 +20,19 @@ use Rattle.sizes.specs.Bounds.{countsOf, between, ranged, pastSize, versionSize
 use Rattle.model.specs.Algebra.{Place, lacking, needsMet}
 use Rattle.model.specs.Version.{Version, zeroPast, held, dependency, supersedes, leadsOn, mergedLeaders, larger, merge, versions}
 use Rattle.model.specs.Sets.{draws, drawSet, fetchSet, fetched, unfetchable, pullSet, pulled}
+use Rattle.model.specs.Tail.{barred}
 use Rattle.model.specs.Store.{Store, fresh, planned, doneReads, siteWith, withMaster, withLast, withMarks, withSites, withCache, withCaches, withWriter, withRun, withState, withJobDone}
-use Rattle.model.specs.Form.{zeroRows, zeroVersion, leadersFormed, versionFormed, placeFormed, validJob, zeroJob, freeFormed, jobsFormed, masksFormed, snapshotFormed, runFormed, siteFormed, wellFormed}
+use Rattle.model.specs.Form.{zeroRows, zeroVersion, leadersFormed, versionFormed, placeFormed, validJob, zeroJob, freeFormed, jobsFormed, masksFormed, snapshotFormed, runFormed, siteFormed, rightsFormed, tailFormed, wellFormed}
 use Rattle.model.specs.Allowance.{heldCount, over}
 use Rattle.model.specs.Marks.{isStale, staleMask}
 use Rattle.model.specs.Outcome.{answer, refuse, unless, allowed, runCause}
 use Rattle.model.specs.Runs.{listedJob, listedCount, listedJobs, listValid, openCause, openedRun, openDone, openRule, dropCause, dropDone, dropRule}
-use Rattle.model.specs.Step.{readStart, stepBranch, stepSite, stepReads, stepStart, stepFetch, stepCache, stepPlan, stepPull, stepSnapshot, stepMoved, jobLimit, notReady, jobCause, stepCause, stepBroken, stepDone, stepRule}
+use Rattle.model.specs.Step.{readStart, stepBranch, stepSite, stepReads, stepStart, stepFetch, stepCache, stepPlan, stepPull, stepSnapshot, stepMoved, stepBarred, jobLimit, notReady, jobCause, stepCause, stepBroken, stepDone, stepRule}
 use Rattle.model.specs.Issue.{raiseCause, issueCause, takenIn, rowsSet, newPast, newVersion, issuedMaster, issuedWriter, savedStore, issuedStore, issuedNumber, issueDone, issueRule}
 use Rattle.model.specs.Calls.{openRun, step, issue, dropRun, ruleOf}
 use Rattle.model.proofs.Cuts.{needsMet-at}
-use Rattle.layout.specs.Words.{clockWords, pastWords, versionWords, placeWords, siteWords, sitesWords, writerWords, writersWords, jobWords, jobsWords, runWords, runsWords, tailWords, headerWords, storeWords}
-use Rattle.layout.specs.Reading.{readClock, readPast, readVersion, readPlace, readSite, readWriter, readJob, readJobs, readRun, readTail, countsIn, storeOf}
+use Rattle.layout.specs.Words.{clockWords, pastWords, versionWords, placeWords, siteWords, sitesWords, writerWords, writersWords, jobWords, jobsWords, runWords, runsWords, masksWords, tailWords, headerWords, storeWords}
+use Rattle.layout.specs.Reading.{readClock, readPast, readVersion, readPlace, readSite, readWriter, readJob, readJobs, readRun, readMasks, readTail, countsIn, storeOf}
 use Rattle.layout.specs.Buffer.{written, headerRight, shaped, inForm}
 use Rattle.layout.specs.Calls.{Call, on, newCause, newOn, onStore, callOn, leaves, isOk}
 use Rattle.history.specs.History.{History, writerOf, saved, leads, inPast, HappensBefore.together}
@@ -140,7 +141,7 @@ unfolding anyBelow allBelow only foldBelow countBelow largest when putAt upto bl
     between ranged pastSize versionSize placeSize siteSize writerSize runSize masterAt sitesAt
     writersAt runsAt tailSize tailAt totalOf lacking held dependency supersedes leadsOn
     mergedLeaders larger merge draws drawSet fetchSet fetched unfetchable heldCount over
-    pullSet pulled fresh
+    pullSet pulled fresh barred stepBarred rightsFormed tailFormed masksWords readMasks
     planned doneReads withMaster withLast siteWith withMarks withCaches withSites withCache
     withWriter withRun withState isStale staleMask siteFormed withJobDone zeroRows zeroVersion
     leadersFormed versionFormed placeFormed validJob zeroJob freeFormed jobsFormed masksFormed

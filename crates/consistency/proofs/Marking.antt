@@ -1,5 +1,6 @@
 -- The stale marks of a store that follows its book (CR 4), and the allowances (CR 7).
--- marks-true: each is the mask. within: no shelf holds too much. marks-copies: it names the copies
+-- marks-true: each is the mask. within: no shelf holds too much. unbarred: nor a key that it may
+-- not (CR 9). marks-copies: it names the copies
 -- that are behind the master's. copies-equal: two copies of a key include the same exactly if
 -- their own rows are equal.
 -- Assumes nothing.
@@ -21,6 +22,7 @@ use Rattle.model.specs.Allowance.{heldCount}
 use Rattle.model.specs.Store.{Store}
 use Rattle.model.proofs.Formed.{well-out}
 use Rattle.model.proofs.Marked.{mark-stale}
+use Rattle.model.proofs.Rights.{unbarred-at}
 use Rattle.layout.proofs.Follow.{Fine}
 use Rattle.history.specs.History.{History, writerOf}
 use Rattle.history.specs.Listing.{Base, BookCopy, heldBook}
@@ -44,6 +46,13 @@ marks-true s fine = well-out s (fine .formed) .mark
 pub within : (s : Store) → Fine s → (o : ℕ) → o < s .counts .sites
     → heldCount (s .counts .keys) (s .site o .cache) ≤ s .site o .allowance
 within s fine o h = well-out s (fine .formed) .room o h .1
+
+-- Nor one that its office may not hold (CR 9).
+pub unbarred : (s : Store) → Fine s → (o k : ℕ) → o < s .counts .sites → k < s .counts .keys
+    → So (held (s .site o .cache k)) → So (testBit (s .tail .mayHold o) k)
+unbarred s fine o k h =
+    unbarred-at (s .counts .keys) (s .tail .mayHold o) (λ k. held (s .site o .cache k))
+    (well-out s (fine .formed) .right o h) k
 
 -- ---- two versions of key k and the copies that they stand for
 

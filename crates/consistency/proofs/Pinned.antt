@@ -12,7 +12,7 @@ use Rattle.words.proofs.Bools.{eqb-ne, lt-ltb, ge-ltb}
 use Rattle.words.proofs.Lists.{putAt-same, putAt-other}
 use Rattle.model.specs.Version.{Version, unheld, merge}
 use Rattle.model.specs.Store.{Store}
-use Rattle.model.specs.Calls.{StoreCall, Query, openRun, fetch, evict, prepare, step, issue, dropRun, allow, pick, ask}
+use Rattle.model.specs.Calls.{StoreCall, Query, openRun, fetch, evict, prepare, step, issue, dropRun, allow, pick, mayhold, maysave, ask}
 use Rattle.history.specs.Book.{Book}
 use Rattle.history.specs.Admission.{admittedPlace}
 use Rattle.consistency.specs.Roles.{Role, opening, working, freeing, elsewhere, roleOf, isOn}
@@ -38,9 +38,11 @@ pub roles : (r j w S o k : ℕ) (l : List ℕ) (q : Query) → (roleOf (openRun 
     × (roleOf (issue r w S) ≡ freeing r) × (roleOf (dropRun r) ≡ freeing r)
     × (roleOf (fetch o k) ≡ elsewhere) × (roleOf (evict o k) ≡ elsewhere)
     × (roleOf (allow o k) ≡ elsewhere) × (roleOf pick ≡ elsewhere)
+    × (roleOf (mayhold o k) ≡ elsewhere) × (roleOf (maysave w k) ≡ elsewhere)
     × (roleOf (ask q) ≡ elsewhere)
 unfolding roleOf
-roles r j w S o k l q = (refl, refl, refl, refl, refl, refl, refl, refl, refl, refl)
+roles r j w S o k l q =
+    (refl, refl, refl, refl, refl, refl, refl, refl, refl, refl, refl, refl)
 
 pub not-ok-finished : (c : Call) (t : Trace) → isOk (callOn c (t .buffer)) ≡ false
     → advance c t .finished ≡ t .finished

@@ -25,7 +25,7 @@ use Rattle.consistency.proofs.Invariant.{Inv}
 use Rattle.consistency.proofs.Following.{lists-copy, master-related, cache-related, cache-part, cache-admitted, snapshot-related}
 use Rattle.consistency.proofs.Leads.{led-place, named}
 use Rattle.consistency.proofs.Covering.{admissible-now, caches-behind, snapshots-behind}
-use Rattle.consistency.proofs.Marking.{marks-true, marks-copies, within}
+use Rattle.consistency.proofs.Marking.{marks-true, marks-copies, within, unbarred}
 use Rattle.consistency.proofs.Cutting.{cuts, overlaps, breaks}
 use Rattle.consistency.proofs.Finished.{read-counted, read-led, read-lists, shared}
 use Rattle.consistency.proofs.Points.{At, start-at, admitted-at, follow-at}
@@ -74,6 +74,7 @@ inv-holds s b f F I =
       caches-admitted = cache-admitted G;
       marks-true = marks-true s F;
       within = within s F;
+      unbarred = unbarred s F;
       marks-copies = marks-copies G F;
     }
 

@@ -1,6 +1,7 @@
--- What a reader takes out of the claim on stale marks (CR 4) and allowances (CR 7); nothing here
--- knows how it is proved.
--- mark-is: every mark is the mask. fits: no shelf holds more than it may. marked-..: what a set
+-- What a reader takes out of the claim on stale marks (CR 4), allowances (CR 7) and rights (CR 9);
+-- nothing here knows how it is proved.
+-- mark-is: every mark is the mask. fits: no shelf holds more than it may. bars: nor a sheet that
+-- is barred to it. marked-..: what a set
 -- bit says. behind-marked: a copy that is behind is marked. in-master, row-in-master: what a shelf
 -- has, the master has. look-marked: a bit is set exactly if the look there does not end in 0.
 -- empty-fails, same-fails: what is not behind.
@@ -10,9 +11,10 @@ use mathlib.Core.Bool.{false, So}
 use mathlib.Core.Logic.{_↔_, _≢_, _⊎_, inl, inr, ⊎-elim}
 use Prim.Native.Nat.{ℕ, _≤_, _<_}
 use native.Mathlib.Omega.{arith}
-use Rattle.words.proofs.Bools.{clash, and-right}
+use Rattle.words.proofs.Bools.{test, clash, and-right}
 use Rattle.masks.specs.Mask.{testBit}
 use Rattle.clock.specs.Clock.{standingNumber}
+use Rattle.model.specs.Version.{held}
 use Rattle.model.specs.Allowance.{heldCount}
 use Rattle.model.specs.Marks.{staleMask}
 use Rattle.model.specs.Form.{wellFormed}
@@ -48,6 +50,12 @@ module _ (t : Trace) (H : HoldsAt t) (o : ℕ) (ho : o < storeOf (t .buffer) .co
   -- CR 7: "No shelf ever holds more" than its own allowance.
   pub fits : heldCount (s .counts .keys) (s .site o .cache) ≤ s .site o .allowance
   fits = H .holds .within o ho
+
+  -- CR 9: "No shelf ever holds a sheet barred to its office".
+  pub bars : (k : ℕ) → k < s .counts .keys → testBit (s .tail .mayHold o) k ≡ false
+      → held (s .site o .cache k) ≡ false
+  bars k hk n =
+      test (held (s .site o .cache k)) (λ y. clash (H .holds .unbarred o k ho hk y) n) (λ e. e)
 
   abbrev W : ℕ
   W = s .counts .writers

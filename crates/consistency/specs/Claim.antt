@@ -191,6 +191,9 @@ pub record Holds (s : Store) (b : Book) (finished : ℕ → List ReadSet) : Type
   -- CR 7: "No shelf ever holds more".
   pub within : (o : ℕ) → o < s .counts .sites
       → heldCount (s .counts .keys) (s .site o .cache) ≤ s .site o .allowance
+  -- CR 9: "No shelf ever holds a sheet barred to its office".
+  pub unbarred : (o k : ℕ) → o < s .counts .sites → k < s .counts .keys
+      → So (held (s .site o .cache k)) → So (testBit (s .tail .mayHold o) k)
 
 -- At a point: the buffer is in form too, so that a store that spoils itself and then refuses all
 -- won't do. (d) is about the step as a call on that buffer.

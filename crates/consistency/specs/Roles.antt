@@ -5,7 +5,7 @@ use mathlib.Core.Bool.{Bool, false}
 use mathlib.Core.Option.{Option, none, some}
 use Prim.Native.Nat.{ℕ}
 use lib.Dec.{eqb}
-use Rattle.model.specs.Calls.{StoreCall, openRun, fetch, evict, prepare, step, issue, dropRun, allow, pick, ask}
+use Rattle.model.specs.Calls.{StoreCall, openRun, fetch, evict, prepare, step, issue, dropRun, allow, pick, mayhold, maysave, ask}
 
 -- An accepted call opens a run, works on it, frees it, or is on no run.
 pub data Role : Type 0 where
@@ -24,6 +24,8 @@ roleOf (issue r w S) = freeing r
 roleOf (dropRun r) = freeing r
 roleOf (allow o n) = elsewhere
 roleOf pick = elsewhere
+roleOf (mayhold o m) = elsewhere
+roleOf (maysave w m) = elsewhere
 roleOf (ask q) = elsewhere
 
 unfoldable pub isOn : ℕ → Role → Bool

@@ -1,7 +1,7 @@
--- The words of a fresh store: the header, zeros up to the total, the allowances and the round.
+-- The words of a fresh store: the header, zeros up to the total, the allowances and the tail.
 -- zero-blocks: rows of zeros are zeros. zeroed: the store of zeros; zero-words: its words.
 -- zero-stored: a buffer that was filled with zeros up to the total, and then got the header.
--- fresh-stored: with the allowances and the round it has the fresh store in it.
+-- fresh-stored: with the allowances and the tail it has the fresh store in it.
 -- Assumes nothing.
 use mathlib.Core.Path.{_≡_, refl, sym, ap, ap₂, _∙_, fun-ext}
 use mathlib.Core.Bool.{cond, false}
@@ -20,15 +20,18 @@ use Rattle.words.proofs.Bools.{test, eqb-eq, eqb-ne, lt-ltb, ge-ltb}
 use Rattle.words.proofs.Tests.{below-or-not}
 use Rattle.sizes.specs.declared.Counts.{Counts}
 use Rattle.sizes.specs.declared.Sizes.{Sizes}
-use Rattle.sizes.specs.Bounds.{headerSize, pastOffset, siteRest, writerPastOffset, snapshotOffset, pastSize, versionSize, placeSize, siteSize, writerSize, runSize, tailSize, masterAt, sitesAt, writersAt, runsAt, tailAt, totalOf, siteAt, allowanceAt}
+use Rattle.sizes.specs.Bounds.{headerSize, pastOffset, siteRest, writerPastOffset, pastSize, versionSize, placeSize, siteSize, writerSize, runSize, tailSize, masterAt, sitesAt, writersAt, runsAt, tailAt, totalOf, siteAt, allowanceAt}
+use Rattle.sizes.specs.Runs.{snapshotOffset}
 use Rattle.model.specs.Version.{zeroPast, unheld}
-use Rattle.model.specs.Store.{Site, Store, emptyPlace, noWriter, noSite, freeRun, noTail, siteAllowed, fresh, withSites, withTail, withRound}
+use Rattle.model.specs.Tail.{noTail, freshTail}
+use Rattle.model.specs.Store.{Site, Store, emptyPlace, noWriter, noSite, freeRun, siteAllowed, fresh, withSites, withTail}
 use Rattle.layout.specs.Words.{clockWords, pastWords, versionWords, placeWords, siteWords, sitesWords, writerWords, writersWords, jobWords, jobsWords, runWords, runsWords, tailWords, headerWords, storeWords}
 use Rattle.layout.specs.Buffer.{written}
 use Rattle.layout.proofs.Merges.{table, put-table}
-use Rattle.layout.proofs.Updates.{put-allowance, put-round}
+use Rattle.layout.proofs.Updates.{put-allowance}
 use Rattle.create.specs.Room.{Room, allowancesPut}
 use Rattle.create.proofs.Sized.{total-is, tail-is}
+use Rattle.create.proofs.Tails.{tail-zero, put-tail}
 
 -- n zeros.
 abbrev zeros : ℕ → List ℕ
@@ -101,10 +104,6 @@ module _ (z : Counts) where
   runs-zero : runsWords z (λ r. freeRun) ≡ zeros (z .runs * runSize z)
   unfolding runsWords
   runs-zero = zero-blocks (z .runs) (runSize z) (runWords z freeRun) run-zero
-
-  tail-zero : tailWords z noTail ≡ zeros (tailSize z)
-  unfolding tailWords tailSize
-  tail-zero = refl
 
 -- ---- the whole
 
@@ -214,25 +213,26 @@ allowances s l (suc n) h =
     ∙ put-allowance t l n (z .keys) (omega arith)
     ∙ ap (λ (f : ℕ → Site). written (withSites s f) l) (one-more s (z .keys) n)
 
--- All of them, and the round: a fresh store.
+-- All of them, and the tail: a fresh store.
 abbrev allAllowed : Counts → Store
 allAllowed z = withSites (zeroed z) (allowed (zeroed z) (z .keys) (z .sites))
 
-all-allowed : (z : Counts) → withRound (allAllowed z) (z .runs - 1) ≡ fresh z
+all-allowed : (z : Counts) → withTail (allAllowed z) (freshTail z) ≡ fresh z
 unfolding fresh withSites withTail
 all-allowed z =
-    ap (λ (f : ℕ → Site). withRound (withSites (zeroed z) f) (z .runs - 1))
+    ap (λ (f : ℕ → Site). withTail (withSites (zeroed z) f) (freshTail z))
     (fun-ext (λ o. test (ltb o (z .sites)) (λ y. rw y) (λ y. rw y)))
 
 pub fresh-stored : (l m n k o : List ℕ) (z : Counts) (at : Sizes) → Room (length l) z at
     → m ≡ put l 0 (at .total) (λ _. 0) → n ≡ sets m 0 (headerWords z 0)
-    → k ≡ allowancesPut z (z .sites) n → o ≡ set k (at .tail) (z .runs - 1)
+    → k ≡ allowancesPut z (z .sites) n → o ≡ sets k (at .tail) (tailWords z (freshTail z))
     → o ≡ written (fresh z) l
 unfolding withSites
 fresh-stored l m n k o z at R p q a e =
     let b : k ≡ written (allAllowed z) l =
     a ∙ ap (allowancesPut z (z .sites)) (zero-stored l m n z at R p q)
     ∙ allowances (zeroed z) l (z .sites) (omega arith) in
-    e ∙ ap₂ (λ (x : List ℕ) (i : ℕ). set x i (z .runs - 1)) b (tail-is z at (R .sizes))
-    ∙ put-round (allAllowed z) l (z .runs - 1)
+    let t = freshTail z in
+    e ∙ ap₂ (λ (x : List ℕ) (i : ℕ). sets x i (tailWords z t)) b (tail-is z at (R .sizes))
+    ∙ put-tail (allAllowed z) l t
     ∙ ap (λ (s : Store). written s l) (all-allowed z)

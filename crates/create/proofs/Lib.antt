@@ -1,3 +1,4 @@
 pub mod Sized
+pub mod Tails
 pub mod Fresh
 pub mod Outcomes

@@ -1,5 +1,5 @@
 -- Sizes of counts in range, and the room that a buffer without a cause has.
--- total-is, tail-is: the total of some sizes, and where the round stands.
+-- total-is, tail-is: the total of some sizes, and where the tail begins.
 -- room, same-room: what holds if new has no cause.
 -- Assumes nothing.
 use mathlib.Core.Path.{_≡_, refl, ap}
@@ -11,8 +11,8 @@ use lib.ListN.{length}
 use Rattle.words.proofs.Bools.{leb-le}
 use Rattle.sizes.specs.declared.Counts.{Counts}
 use Rattle.sizes.specs.declared.Sizes.{Sizes}
-use Rattle.sizes.specs.Bounds.{ranged, sizesOf, roundAt, totalOf}
-use Rattle.sizes.proofs.Offsets.{ranged-out, ordered, round-lies}
+use Rattle.sizes.specs.Bounds.{ranged, sizesOf, tailAt, totalOf}
+use Rattle.sizes.proofs.Offsets.{ranged-out, ordered}
 use Rattle.layout.specs.Calls.{newCause}
 use Rattle.model.proofs.Outcomes.{no-lack}
 use Rattle.create.specs.Room.{Room}
@@ -21,7 +21,7 @@ pub total-is : (z : Counts) (at : Sizes) → at ≡ sizesOf z → at .total ≡ 
 unfolding sizesOf
 total-is z at e = ap (λ (s : Sizes). s .total) e
 
-pub tail-is : (z : Counts) (at : Sizes) → at ≡ sizesOf z → at .tail ≡ roundAt z
+pub tail-is : (z : Counts) (at : Sizes) → at ≡ sizesOf z → at .tail ≡ tailAt z
 unfolding sizesOf
 tail-is z at e = ap (λ (s : Sizes). s .tail) e
 
@@ -31,7 +31,6 @@ room l z e =
     let a = no-lack (ranged z) 2 _ (omega arith) e in
     let b = no-lack (leb (totalOf z) (length l)) 1 0 (omega arith) (a .1) in
     let o = ordered z (ranged-out z (a .0)) in
-    let t = round-lies z in
     record {
       counts = ranged-out z (a .0);
       sizes = refl;
@@ -40,7 +39,7 @@ room l z e =
       writers-in = omega arith;
       runs-in = omega arith;
       tail-in = omega arith;
-      total-in = omega (arith, t);
+      total-in = omega arith;
       top = o .top;
       fits = leb-le (totalOf z) (length l) (b .0);
     }

@@ -3,12 +3,12 @@
 -- Assumes nothing.
 use mathlib.Core.Path.{_≡_}
 use mathlib.Core.List.{List}
-use Prim.Native.Nat.{ℕ, _≤_, _<_}
+use Prim.Native.Nat.{ℕ, _+_, _≤_}
 use lib.ListN.{set}
 use Rattle.words.specs.Numbers.{foldBelow}
 use Rattle.sizes.specs.declared.Counts.{Counts}
 use Rattle.sizes.specs.declared.Sizes.{Sizes}
-use Rattle.sizes.specs.Bounds.{maxTotal, headerSize, Ranged, sizesOf, siteAt, allowanceAt}
+use Rattle.sizes.specs.Bounds.{maxTotal, headerSize, Ranged, tailSize, sizesOf, siteAt, allowanceAt}
 
 -- Counts in range and their sizes: the areas follow each other, and a buffer of len words has room
 -- for them.
@@ -20,7 +20,7 @@ pub record Room (len : ℕ) (z : Counts) (at : Sizes) : Type 0 where
   pub writers-in : at .sites ≤ at .writers
   pub runs-in : at .writers ≤ at .runs
   pub tail-in : at .runs ≤ at .tail
-  pub total-in : at .tail < at .total
+  pub total-in : at .tail + tailSize z ≤ at .total
   pub top : at .total ≤ maxTotal
   pub fits : at .total ≤ len
 

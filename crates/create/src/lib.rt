@@ -1,12 +1,15 @@
 // The call new: a fresh store written into a buffer of any content.
+pub mod tail;
+
 use answers::Answered;
 use sizes::Counts;
 use sizes::Sizes;
 use sizes::header::HeaderOffset;
+use tail::store_tail;
 use words::wide;
 ghost use mathlib.Core.Path.{_≡_};
-ghost use Prim.Native.Nat.{_-_, _≤_};
-ghost use lib.ListN.{length, set};
+ghost use Prim.Native.Nat.{_≤_};
+ghost use lib.ListN.{length};
 ghost use lib.Seq.{sets};
 ghost use Rattle.sizes.specs.Bounds.{maxTotal, Ranged, countsOf, sizesOf, totalOf};
 ghost use Rattle.model.specs.Store.{fresh};
@@ -48,7 +51,7 @@ fn cause(words: &[u32], z: Counts) -> u32
     0
 }
 
-// Zeros up to the total, then the header, the allowances and the round. Answers the total.
+// Zeros up to the total, then the header, the allowances and the tail. Answers the total.
 fn store_fresh(words: &mut [u32], z: Counts) -> u32
     requires { ⌜ newCause (now words) z ≡ 0 ⌝ }
     ensures answers { λ r. ⌜ r ≡ totalOf z ⌝ }
@@ -58,7 +61,7 @@ fn store_fresh(words: &mut [u32], z: Counts) -> u32
     words::zero(words, 0, at.total);
     store_header(words, z, at);
     store_allowances(words, z);
-    store_round(words, z, at);
+    store_tail(words, z, at);
     narrow(at.total)
 }
 
@@ -93,15 +96,6 @@ fn store_header(words: &mut [u32], z: Counts, at: Sizes)
     words[HeaderOffset::WRITERS_AT] = narrow(at.writers);
     words[HeaderOffset::RUNS_AT] = narrow(at.runs);
     words[HeaderOffset::TOTAL] = narrow(at.total);
-}
-
-// The round: run 0 is tried first.
-fn store_round(words: &mut [u32], z: Counts, at: Sizes)
-    requires { ⌜ Room (length (now words)) z at ⌝ }
-    ensures { λ _. ⌜ now (words .exit) ≡ set (now (words .entry)) (at .tail) (z .runs - 1) ⌝ }
-{
-    let round = at.tail;
-    words[round] = narrow(z.runs - 1);
 }
 
 // Four words as counts.

@@ -1,14 +1,15 @@
 -- The mask of T, as the parts of a fetch hand it on.
 -- taken-cache: the cache that takes it. taken-lacked: whether the master lacks a key of it.
--- taken-count: how many keys are held then. taken-cause: the causes.
--- cache-again, site-again: a site with its own cache. over-read, taken-..: what is read, stored.
+-- taken-count: how many keys are held then. barred-same, taken-cause: the causes.
+-- cache-again, site-again: a site with its own cache. barred-read, over-read, taken-..: what is
+-- read, stored.
 -- Assumes nothing.
 use mathlib.Core.Path.{_≡_, refl, sym, ap, _∙_, fun-ext}
 use mathlib.Core.Bool.{Bool, true, false, cond, not, _&&_, _||_}
 use mathlib.Core.Logic.{⊎-elim}
 use mathlib.Core.List.{List}
-use Prim.Native.Nat.{ℕ, _<_}
-use lib.Dec.{ltb}
+use Prim.Native.Nat.{ℕ, _^_, _<_}
+use lib.Dec.{eqb, ltb}
 use lib.ListN.{getD}
 use Rattle.words.specs.Tests.{Items}
 use Rattle.words.specs.Numbers.{countBelow}
@@ -16,14 +17,15 @@ use Rattle.words.proofs.Bools.{test}
 use Rattle.words.proofs.Numbers.{count-same}
 use Rattle.words.proofs.Tests.{below-or-not, any-same}
 use Rattle.words.proofs.Lists.{putAt-itself}
-use Rattle.masks.specs.Mask.{testBit, maskBelow}
+use Rattle.masks.specs.Mask.{testBit, maskBelow, without}
 use Rattle.masks.proofs.Bits.{test-none}
-use Rattle.masks.proofs.Sets.{item-of}
+use Rattle.masks.proofs.Sets.{item-of, without-some}
 use Rattle.sizes.specs.declared.Counts.{Counts}
-use Rattle.sizes.specs.Bounds.{masterAt, siteAt, allowanceAt}
+use Rattle.sizes.specs.Bounds.{masterAt, siteAt, allowanceAt, mayHoldAt}
 use Rattle.model.specs.Algebra.{Place, lacking}
 use Rattle.model.specs.Version.{Version, held, versions}
 use Rattle.model.specs.Sets.{fetchSet, fetched, unfetchable}
+use Rattle.model.specs.Tail.{barred}
 use Rattle.model.specs.Store.{Store, siteMarked, siteWith, withSites, withCache}
 use Rattle.model.specs.Allowance.{heldCount, over}
 use Rattle.model.specs.Outcome.{refuse}
@@ -36,7 +38,7 @@ use Rattle.layout.specs.Buffer.{written}
 use Rattle.layout.proofs.Parts.{FitPlace, place-laws}
 use Rattle.layout.proofs.Fit.{fit-choice, marks-beyond}
 use Rattle.layout.proofs.Follow.{Fine, form-fine}
-use Rattle.layout.proofs.Readings.{master-in, site-in, cache-in}
+use Rattle.layout.proofs.Readings.{master-in, site-in, cache-in, mayHold-word}
 use Rattle.version.specs.Places.{putMark, choice}
 use Rattle.form.specs.Parts.{FormWith}
 use Rattle.fetching.specs.Takes.{takesOver, takesCause}
@@ -83,19 +85,33 @@ module _ (z : Counts) (master cache : Place Version) (start : Items) (m : ℕ)
       ∙ count-same (z .keys) (λ k. T k || held (cache k)) (λ k. testBit m k || held (cache k))
       (λ k i. ap (λ (b : Bool). b || held (cache k)) (sym (item-of (z .keys) m T e k i)))
 
--- The rows by the mask are those of the fetch.
-pub taken-cause : (z : Counts) (s : Store) (o : ℕ) (start : Items) (m : ℕ)
+-- Two sets with the same keys are barred alike.
+barred-same : (K right : ℕ) (R S : Items) → ((k : ℕ) → k < K → R k ≡ S k)
+    → barred K right R ≡ barred K right S
+unfolding barred
+barred-same K right R S same =
+    any-same K (λ k. R k && not (testBit right k)) (λ k. S k && not (testBit right k))
+    (λ k i. ap (λ (b : Bool). b && not (testBit right k)) (same k i))
+
+-- The rows by the masks are those of the fetch. asked: the mask of S, which the site must have the
+-- right to.
+pub taken-cause : (z : Counts) (s : Store) (o : ℕ) (start S : Items) (asked m : ℕ)
     → let alg = versions (z .writers) in
     let cache = s .site o .cache in
-    m ≡ maskBelow (z .keys) (fetchSet alg (z .keys) (s .master) cache start)
-    → takesCause z s o m
-    ≡ refuse (unfetchable alg (z .keys) (s .master) start) 7
+    ((k : ℕ) → k < z .keys → testBit asked k ≡ S k)
+    → m ≡ maskBelow (z .keys) (fetchSet alg (z .keys) (s .master) cache start)
+    → takesCause z s o asked m
+    ≡ refuse (barred (z .keys) (s .tail .mayHold o) S) 13
+    (refuse (unfetchable alg (z .keys) (s .master) start) 7
     (refuse (over z (s .site o) (fetched alg (z .keys) (s .master) cache start)) 12
-    0)
+    0))
 unfolding takesCause takesOver over refuse
-taken-cause z s o start m e =
+taken-cause z s o start S asked m same e =
     let lacks = unfetchable (versions (z .writers)) (z .keys) (s .master) start in
-    rw (taken-lacked z (s .master) (s .site o .cache) start m e)
+    rw (
+      barred-same (z .keys) (s .tail .mayHold o) (testBit asked) S same,
+      taken-lacked z (s .master) (s .site o .cache) start m e,
+    )
     (test lacks (λ y. rw y)
     (λ n. rw (n, taken-count z (s .master) (s .site o .cache) start m e n)))
 
@@ -117,6 +133,15 @@ cache-again s F o = rw (site-again s F o) (ap (withSites s) (putAt-itself (s .si
 -- ---- what is read and stored
 
 module _ (l : List ℕ) (z : Counts) (H : FormWith l z) (o : ℕ) (h : o < z .sites) where
+  -- w: the word of what the site may hold.
+  pub barred-read : (w asked : ℕ) → w ≡ mayHoldAt z o → asked < 2 ^ z .keys
+      → not (eqb (without asked (getD l w 0)) 0)
+      ≡ barred (z .keys) (storeOf l .tail .mayHold o) (testBit asked)
+  unfolding barred
+  barred-read w asked p low =
+      rw (mayHold-word l z (H .counts) o h, p)
+      (without-some (z .keys) asked (getD l (mayHoldAt z o) 0) low)
+
   -- at, w: where the cache is, and the word of the allowance.
   pub over-read : (at w n m : ℕ) → at ≡ siteAt z o → w ≡ allowanceAt z at
       → n ≡ countBelow (z .keys) (λ k. testBit m k || held (readPlace z l at k))

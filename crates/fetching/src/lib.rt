@@ -1,4 +1,5 @@
 // A fetch at a site, in three parts: T is found, asked for the causes of a refusal, and taken.
+use masks::without;
 use sets::fetch_set;
 use sets::missing::is_unfetchable;
 use sizes::Counts;
@@ -10,6 +11,7 @@ ghost use Prim.Native.Nat.{_<_, _^_};
 ghost use Rattle.masks.specs.Mask.{testBit, maskBelow};
 ghost use Rattle.model.specs.Version.{versions};
 ghost use Rattle.model.specs.Sets.{fetchSet, unfetchable};
+ghost use Rattle.model.specs.Tail.{barred};
 ghost use Rattle.model.specs.Store.{withCache};
 ghost use Rattle.layout.specs.Reading.{storeOf};
 ghost use Rattle.layout.specs.Buffer.{written};
@@ -28,6 +30,17 @@ pub fn find_taken(words: &[u32], z: Counts, o: usize, start: u32) -> u32
     let areas = z.areas();
     let cache = z.site_at(o);
     fetch_set(words, z, areas.master, cache, start)
+}
+
+// Whether site o may not hold a key of a mask.
+pub fn is_barred(words: &[u32], z: Counts, o: usize, asked: u32) -> bool
+    requires { ⌜ FormWith (now words) z × (o < z .sites) ⌝ }
+    requires { ⌜ asked < 2 ^ z .keys ⌝ }
+    ensures { λ b. ⌜ b ≡ barred (z .keys) (storeOf (now (words .entry)) .tail .mayHold o)
+        (testBit asked) ⌝ }
+{
+    let at = z.may_hold_at(o);
+    without(asked, words[at]) != 0
 }
 
 // Whether the master lacks a key of T.
@@ -52,16 +65,23 @@ pub fn is_over(words: &[u32], z: Counts, o: usize, taken: u32) -> bool
     words[at] < count
 }
 
-// The first cause for which a fetch at site o that takes T is refused, or 0.
-pub fn taking_cause(words: &[u32], z: Counts, o: usize, taken: u32) -> u32
+// The first cause for which a fetch at site o that takes T is refused, or 0. The site must have
+// the right to each key that is asked.
+pub fn taking_cause(words: &[u32], z: Counts, o: usize, asked: u32, taken: u32) -> u32
     requires { ⌜ FormWith (now words) z × (o < z .sites) ⌝ }
-    requires { ⌜ taken < 2 ^ z .keys ⌝ }
-    ensures { λ n. ⌜ n ≡ takesCause z (storeOf (now (words .entry))) o taken ⌝ }
+    requires { ⌜ (asked < 2 ^ z .keys) × (taken < 2 ^ z .keys) ⌝ }
+    ensures { λ n. ⌜ n ≡ takesCause z (storeOf (now (words .entry))) o asked taken ⌝ }
 {
-    if is_lacked(words, z, taken) {
+    let barred = is_barred(words, z, o, asked);
+    let lacked = is_lacked(words, z, taken);
+    let over = is_over(words, z, o, taken);
+    if barred {
+        return 13;
+    }
+    if lacked {
         return 7;
     }
-    if is_over(words, z, o, taken) {
+    if over {
         return 12;
     }
     0

@@ -20,7 +20,8 @@ use Rattle.model.specs.Store.{withCache}
 use Rattle.model.specs.Form.{placeFormed, wellFormed}
 use Rattle.model.specs.Outcome.{Outcome, refused, answer, unless}
 use Rattle.model.specs.Calls.{StoreCall, ruleOf}
-use Rattle.model.proofs.Formed.{place-in, well-out}
+use Rattle.model.proofs.FormedPlaces.{place-in}
+use Rattle.model.proofs.Formed.{well-out}
 use Rattle.layout.specs.Reading.{readPlace, storeOf}
 use Rattle.layout.specs.Stored.{putPlace}
 use Rattle.layout.specs.Buffer.{written, shaped, inForm}

@@ -16,7 +16,8 @@ use Rattle.words.proofs.Tests.{any-same}
 use Rattle.masks.specs.Mask.{testBit, maskBelow, unionBelow}
 use Rattle.masks.proofs.Bits.{test-when}
 use Rattle.masks.proofs.Sets.{union-more, mask-lt, test-mask, mask-ext-below, union-lt, test-union}
-use Rattle.sizes.specs.Bounds.{maxJobs, jobsOffset, doneOffset, readOffset, planOffset, jobAt, between}
+use Rattle.sizes.specs.Bounds.{between}
+use Rattle.sizes.specs.Runs.{maxJobs, jobsOffset, doneOffset, readOffset, planOffset, jobAt}
 use Rattle.sizes.specs.declared.Counts.{Counts}
 use Rattle.model.specs.Form.{jobsFormed, masksFormed}
 use Rattle.model.specs.Store.{Job, Run, doneReads}

@@ -5,7 +5,7 @@ use mathlib.Core.Path.{_≡_, refl}
 use mathlib.Core.List.{List}
 use Prim.Native.Nat.{ℕ, _+_, _<_}
 use lib.ListN.{getD}
-use Rattle.sizes.specs.Bounds.{maxJobs, readsOffset, upstreamOffset, jobsOffset, doneOffset, readOffset, planOffset, snapshotOffset, jobAt}
+use Rattle.sizes.specs.Runs.{maxJobs, readsOffset, upstreamOffset, jobsOffset, doneOffset, readOffset, planOffset, snapshotOffset, jobAt}
 use Rattle.sizes.specs.declared.Counts.{Counts}
 use Rattle.layout.specs.Reading.{readPlace, readJob, readJobs, readRun}
 use Rattle.layout.proofs.Readings.{job-at}

@@ -16,7 +16,7 @@ use Rattle.masks.specs.Mask.{testBit, maskBelow, without}
 use Rattle.masks.proofs.Bits.{test-without, without-lt}
 use Rattle.masks.proofs.Sets.{mask-lt, test-mask, mask-none, set-none}
 use Rattle.clock.specs.Clock.{present}
-use Rattle.sizes.specs.Bounds.{maxJobs, jobsOffset, doneOffset, readOffset, planOffset, snapshotOffset}
+use Rattle.sizes.specs.Runs.{maxJobs, jobsOffset, doneOffset, readOffset, planOffset, snapshotOffset}
 use Rattle.sizes.specs.declared.Counts.{Counts}
 use Rattle.model.specs.Algebra.{Place, implies}
 use Rattle.model.specs.Form.{zeroJob, zeroVersion, leadersFormed, versionFormed, placeFormed, freeFormed, jobsFormed, masksFormed, snapshotFormed}

@@ -10,11 +10,12 @@ use Prim.Native.Nat.{ℕ, _+_, _≤_, _<_}
 use lib.Dec.{ltb}
 use Rattle.words.specs.Numbers.{when}
 use Rattle.masks.specs.Mask.{testBit, unionBelow}
-use Rattle.sizes.specs.Bounds.{placeLimit, Ranged, snapshotOffset, placeSize, totalOf, masterAt, siteAt, runAt}
+use Rattle.sizes.specs.Bounds.{placeLimit, Ranged, placeSize, totalOf, masterAt, siteAt, mayHoldAt, runAt}
+use Rattle.sizes.specs.Runs.{snapshotOffset}
 use Rattle.sizes.specs.declared.Counts.{Counts}
 use Rattle.model.specs.Store.{Job}
 use Rattle.model.specs.Form.{validJob, zeroJob, siteFormed, runFormed}
-use Rattle.layout.specs.Reading.{readPlace, readSite, readRun, countsIn}
+use Rattle.layout.specs.Reading.{readWord, readPlace, readSite, readRun, countsIn}
 use Rattle.layout.specs.Buffer.{inForm}
 
 abbrev pub jobOf : ℕ → ℕ → ℕ → Job
@@ -30,7 +31,9 @@ readsOf n job mask = unionBelow n (λ j. when (testBit mask j) (job j .reads))
 
 -- What is asked of site o, and of run r.
 abbrev pub siteTest : Counts → List ℕ → ℕ → Bool
-siteTest z l o = siteFormed z (readPlace z l (masterAt z)) (readSite z l (siteAt z o))
+siteTest z l o =
+    siteFormed z (readPlace z l (masterAt z)) (readWord l (mayHoldAt z o))
+    (readSite z l (siteAt z o))
 
 abbrev pub runTest : Counts → List ℕ → ℕ → Bool
 runTest z l r = runFormed z (readRun z l (runAt z r))

@@ -5,6 +5,7 @@ pub mod job;
 pub mod place;
 pub mod run;
 pub mod site;
+pub mod tail;
 
 use header::counts;
 use header::shaped;
@@ -13,13 +14,10 @@ use run::run_formed;
 use site::site_formed;
 use sizes::Counts;
 use sizes::header::HeaderOffset;
-use words::wide;
+use tail::tail_formed;
 ghost use mathlib.Core.Path.{_≡_};
 ghost use lib.ListN.{length};
 ghost use Rattle.words.specs.Tests.{allBelow};
-ghost use Rattle.sizes.specs.Bounds.{tailAt};
-ghost use Rattle.model.specs.Form.{tailFormed};
-ghost use Rattle.layout.specs.Reading.{readTail};
 ghost use Rattle.layout.specs.Buffer.{inForm};
 ghost use Rattle.form.specs.Parts.{StoreArea, siteTest, runTest};
 
@@ -31,7 +29,8 @@ fn sites_formed(words: &[u32], z: Counts) -> bool
     let sites = z.sites;
     let mut o = 0;
     while o < sites {
-        if !site_formed(words, z, HeaderOffset::SIZE, z.site_at(o)) {
+        let right = words[z.may_hold_at(o)];
+        if !site_formed(words, z, HeaderOffset::SIZE, z.site_at(o), right) {
             return false;
         }
         o += 1;
@@ -55,15 +54,6 @@ fn runs_formed(words: &[u32], z: Counts) -> bool
     true
 }
 
-// Whether the round is below the number of runs.
-fn round_formed(words: &[u32], z: Counts) -> bool
-    requires { ⌜ StoreArea (length (now words)) z ⌝ }
-    ensures { λ r. ⌜ r ≡ tailFormed z (readTail z (now (words .entry)) (tailAt z)) ⌝ }
-{
-    let at = z.round_at();
-    wide(words[at]) < z.runs
-}
-
 // Whether the buffer is in form. It may be any buffer.
 pub fn in_form(words: &[u32]) -> bool
     ensures { λ r. ⌜ r ≡ inForm (now (words .entry)) ⌝ }
@@ -74,5 +64,5 @@ pub fn in_form(words: &[u32]) -> bool
     let z = counts(words);
     let areas = z.areas();
     place_formed(words, z, areas.master)
-        & (sites_formed(words, z) & (runs_formed(words, z) & round_formed(words, z)))
+        & (sites_formed(words, z) & (runs_formed(words, z) & tail_formed(words, z)))
 }

@@ -19,7 +19,7 @@ use Rattle.model.specs.Version.{Version, zeroPast, held}
 use Rattle.model.specs.Store.{Writer, Store}
 use Rattle.model.specs.Form.{zeroRows, zeroVersion, versionFormed}
 use Rattle.model.proofs.Merges.{held-iff}
-use Rattle.model.proofs.Formed.{VersionFormed, version-row, version-zero}
+use Rattle.model.proofs.FormedPlaces.{VersionFormed, version-row, version-zero}
 use Rattle.model.proofs.Admits.{Covered, Admissible}
 use Rattle.layout.proofs.Parts.{FitPast, FitVersion}
 use Rattle.layout.proofs.Follow.{Fine}

@@ -21,14 +21,15 @@ use Rattle.sizes.specs.declared.Counts.{Counts}
 use Rattle.model.specs.Algebra.{Place, implies, lacking, needsMet, causalCut, overlappingCut}
 use Rattle.model.specs.Version.{Version, held, dependency, supersedes, leadsOn, mergedLeaders, larger, merge}
 use Rattle.model.specs.Sets.{draws, drawSet, fetchSet, fetched, unfetchable, evictSet, evicted, pullSet, pulled}
+use Rattle.model.specs.Tail.{barred}
 use Rattle.model.specs.Store.{Store, fresh, planned, withMaster, withLast, withSites, withCache, siteWith, withMarks, withCaches, withWriter, withRun, withState, withSnapshot, withJobDone}
 use Rattle.model.specs.Form.{validJob}
 use Rattle.model.specs.Allowance.{heldCount, over}
 use Rattle.model.specs.Outcome.{refuse, unless, replied, allowed, runCause}
 use Rattle.model.specs.Caches.{fetchCause, fetchDone, fetchRule, evictCause, evictDone, evictRule}
 use Rattle.model.specs.Runs.{listedJob, listedCount, listedJobs, listValid, openCause, openedRun, openDone, openRule, dropCause, dropDone, dropRule}
-use Rattle.model.specs.Prepare.{jobStart, fetchReads, preparedCaches, unpreparable, usesSite, sitesMerged, siteCaches, anyOver, prepareCause, prepareCaches, prepareSnapshot, prepareDone, prepareRule}
-use Rattle.model.specs.Step.{readStart, stepSite, stepReads, stepStart, stepFetch, stepCache, stepPlan, stepPull, stepSnapshot, stepMoved, jobLimit, notReady, jobCause, stepCause, stepBroken, stepDone, stepRule}
+use Rattle.model.specs.Prepare.{jobStart, fetchReads, preparedCaches, unentitled, unpreparable, usesSite, sitesMerged, siteCaches, anyOver, prepareCause, prepareCaches, prepareSnapshot, prepareDone, prepareRule}
+use Rattle.model.specs.Step.{readStart, stepSite, stepReads, stepStart, stepFetch, stepCache, stepPlan, stepPull, stepSnapshot, stepMoved, stepBarred, jobLimit, notReady, jobCause, stepCause, stepBroken, stepDone, stepRule}
 use Rattle.model.specs.Issue.{raiseCause, issueCause, takenIn, rowsSet, newPast, newVersion, issuedMaster, issuedWriter, savedStore, issuedStore, issuedNumber, issueDone, issueRule}
 use Rattle.model.specs.Calls.Look.{lookPlace, lookLimit, lookCause, rowNumbers, lookStanding, lookNumbers, lookReply}
 use Rattle.model.specs.Calls.Explain.{breaks, explainReply}
@@ -38,8 +39,8 @@ use Rattle.model.proofs.Outcomes.{nextStore}
 use Rattle.model.proofs.Scripts.{saving, case-a-script, longer-script, reading-script}
 use Rattle.model.proofs.Computed.Admit.{listed, listed-calls, broken-calls, written, past-calls}
 use Rattle.model.proofs.Leaders.{rival-script, second-script, chained-script}
-use Rattle.layout.specs.Words.{clockWords, pastWords, versionWords, placeWords, siteWords, sitesWords, writerWords, writersWords, jobWords, jobsWords, runWords, runsWords, tailWords, headerWords, storeWords}
-use Rattle.layout.specs.Reading.{readClock, readPast, readVersion, readPlace, readSite, readWriter, readJob, readJobs, readRun, readTail, countsIn, storeOf}
+use Rattle.layout.specs.Words.{clockWords, pastWords, versionWords, placeWords, siteWords, sitesWords, writerWords, writersWords, jobWords, jobsWords, runWords, runsWords, masksWords, tailWords, headerWords, storeWords}
+use Rattle.layout.specs.Reading.{readClock, readPast, readVersion, readPlace, readSite, readWriter, readJob, readJobs, readRun, readMasks, readTail, countsIn, storeOf}
 use Rattle.layout.specs.Calls.{on, isOk}
 use Rattle.history.specs.History.{Issue, writerOf, leads, inPast}
 use Rattle.history.specs.Copies.{Copy, reaches, heldCopy, needsCopy, meetsCopy, union, lastIn, byWriter, counted, lastBy, behindOther, leading}
@@ -186,7 +187,7 @@ unfolding anyBelow allBelow only foldBelow countBelow largest when putAt upto bl
     between pastSize versionSize placeSize siteSize writerSize runSize masterAt sitesAt
     writersAt runsAt tailSize tailAt totalOf lacking held dependency supersedes leadsOn
     mergedLeaders larger merge draws drawSet fetchSet fetched unfetchable heldCount over
-    evictSet evicted
+    evictSet evicted barred unentitled stepBarred readMasks masksWords
     pullSet pulled fresh planned withMaster withLast withSites withCache siteWith withMarks
     withCaches withWriter withRun withState withSnapshot withJobDone validJob refuse unless
     allowed runCause fetchCause fetchDone fetchRule evictCause evictDone evictRule listedJob

@@ -18,7 +18,8 @@ use Rattle.model.specs.Store.{Job, planned, noJobs}
 use Rattle.model.specs.Runs.{listedCount, listedJobs}
 use Rattle.model.specs.Prepare.{preparedCaches, sitesMerged, usesSite}
 use Rattle.model.specs.Step.{readStart}
-use Rattle.model.specs.Calls.{StoreCall, openRun, fetch, evict, prepare, step, issue, dropRun, allow, pick, ask}
+use Rattle.model.specs.Calls.Rights.{takenAway}
+use Rattle.model.specs.Calls.{StoreCall, openRun, fetch, evict, prepare, step, issue, dropRun, allow, pick, mayhold, maysave, ask}
 use Rattle.layout.specs.Calls.{Call, new, on}
 use Rattle.history.specs.History.{Issue, History, inPast}
 use Rattle.history.specs.Listing.{Base, noBase, BookCopy, plainCopy, mergeBook, bookCopies, readCopy}
@@ -107,6 +108,15 @@ bookEvict o k b =
     let alg = bookCopies K (b .counts .writers) (b .history) in
     withBookCaches b (putAt (b .cache) o (evicted alg K (b .cache o) (only k)))
 
+-- CR 9: "Taking a sheet from an office evicts it there by the evict rule": E starts from the held
+-- copies that the mask lacks.
+unfoldable pub bookMayhold : ℕ → ℕ → Book → Book
+bookMayhold o m b =
+    let K = b .counts .keys in
+    let alg = bookCopies K (b .counts .writers) (b .history) in
+    withBookCaches b
+    (putAt (b .cache) o (evicted alg K (b .cache o) (takenAway alg (b .cache o) m)))
+
 unfoldable pub bookPrepare : ℕ → Book → Book
 bookPrepare r b =
     let K = b .counts .keys in
@@ -189,6 +199,8 @@ bookRule (issue r w S) b = bookIssued r w S b
 bookRule (dropRun r) b = withBookRun b r noRun
 bookRule (allow o n) b = b
 bookRule pick b = b
+bookRule (mayhold o m) b = bookMayhold o m b
+bookRule (maysave w m) b = b
 bookRule (ask q) b = b
 
 unfoldable pub bookOk : Call → Book → Book

@@ -15,6 +15,7 @@ use Rattle.words.proofs.Bools.{test, or-none, leb-gt, gt-leb, eqb-ne}
 use Rattle.masks.specs.Mask.{testBit}
 use Rattle.clock.specs.Count.{maxWord}
 use Rattle.sizes.specs.declared.Counts.{Counts}
+use Rattle.model.specs.Tail.{barred}
 use Rattle.model.specs.Store.{Store}
 use Rattle.model.specs.Outcome.{refuse, allowed, issueRow, runCause}
 use Rattle.model.specs.Issue.{raiseCause, issueCause}
@@ -41,10 +42,11 @@ abbrev pub beyond : Counts → ℕ → ℕ → ℕ → Bool
 beyond z r w S = leb (z .runs) r || (leb (z .writers) w || leb (2 ^ z .keys) S)
 
 -- The rows below the state's.
-abbrev pub jobsCause : Store → ℕ → ℕ → ℕ → ℕ
-jobsCause s r w S =
+abbrev pub jobsCause : Counts → Store → ℕ → ℕ → ℕ → ℕ
+jobsCause z s r w S =
     refuse (not (allBelow (s .run r .jobs) (testBit (s .run r .done)))) 6
-    (cond (eqb S 0) 0 (raiseCause s w))
+    (refuse (barred (z .keys) (s .tail .maySave w) (testBit S)) 13
+    (cond (eqb S 0) 0 (raiseCause s w)))
 
 three : (a b c : Bool) (n rest : ℕ)
     → refuse b n (refuse c n (refuse a n rest)) ≡ refuse (a || (b || c)) n rest
@@ -62,7 +64,7 @@ module _ (l : List ℕ) (z : Counts) (H : FormWith l z) (r w S : ℕ) where
 
   pub issue-cause : issueCause s r w S
       ≡ refuse (beyond z r w S) 3
-      (refuse (not (allowed issueRow (s .run r .state))) 4 (jobsCause s r w S))
+      (refuse (not (allowed issueRow (s .run r .state))) 4 (jobsCause z s r w S))
   unfolding issueCause runCause
   issue-cause =
       rw (form-counts l z H)
@@ -90,7 +92,7 @@ module _ (l : List ℕ) (z : Counts) (H : FormWith l z) (r w S : ℕ) where
       (λ t. c ∙ state-cause e ∙ rw (issue-cause, e, t))
 
   pub cause-jobs : (n : ℕ) → beyond z r w S ≡ false → n ≡ runCause s issueRow r 0 → n ≡ 0
-      → issueCause s r w S ≡ jobsCause s r w S
+      → issueCause s r w S ≡ jobsCause z s r w S
   unfolding refuse
   cause-jobs n e c h =
       let a = no-lack (allowed issueRow (s .run r .state)) 4 0 (omega arith)
@@ -102,11 +104,12 @@ module _ (l : List ℕ) (z : Counts) (H : FormWith l z) (r w S : ℕ) where
       let a = no-cause (beyond z r w S) 3 _ (omega arith) (sym issue-cause ∙ e) in
       let b = no-cause _ 4 _ (omega arith) (a .1) in
       let c = no-cause _ 6 _ (omega arith) (b .1) in
+      let d = no-cause _ 13 _ (omega arith) (c .1) in
       let range = in-range (a .0) in
       let same = form-counts l z H in
       record {
         run = rw same (range .0);
         writer = rw same (range .1);
         mask = rw same (range .2);
-        raised = λ t. rw t at c .1;
+        raised = λ t. rw t at d .1;
       }

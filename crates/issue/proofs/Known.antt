@@ -1,21 +1,27 @@
 -- What is known of a run and a writer of a buffer in form: single words of them.
 -- count-word, jobs-word, done-word, read-word: where a number stands.
 -- jobs-high: a run has 8 jobs at most. run-words, writer-words: they lie in the buffer.
+-- barred-word: a mask against the one of what a writer may save.
 -- Assumes nothing.
-use mathlib.Core.Path.{_≡_, ap}
+use mathlib.Core.Path.{_≡_, ap, _∙_}
+use mathlib.Core.Bool.{not}
 use mathlib.Core.List.{List}
-use Prim.Native.Nat.{ℕ, _+_, _≤_, _<_}
+use Prim.Native.Nat.{ℕ, _+_, _^_, _≤_, _<_}
 use native.Mathlib.Omega.{arith}
 use lib.Dec.{eqb}
 use lib.ListN.{length}
 use Rattle.words.proofs.Bools.{test, eqb-eq, eqb-ne}
+use Rattle.masks.specs.Mask.{testBit, without}
+use Rattle.masks.proofs.Sets.{without-some}
 use Rattle.sizes.specs.declared.Counts.{Counts}
-use Rattle.sizes.specs.Bounds.{maxJobs, writerSize, writerAt, runAt}
+use Rattle.sizes.specs.Bounds.{writerSize, writerAt, maySaveAt, runAt}
+use Rattle.sizes.specs.Runs.{maxJobs}
 use Rattle.sizes.proofs.Offsets.{ordered, writer-lies}
+use Rattle.model.specs.Tail.{barred}
 use Rattle.model.proofs.Plans.{plan-out}
 use Rattle.layout.specs.Reading.{readWord, readRun, readWriter, storeOf}
 use Rattle.layout.proofs.Parts.{run-laws}
-use Rattle.layout.proofs.Readings.{writer-in}
+use Rattle.layout.proofs.Readings.{writer-in, maySave-word}
 use Rattle.form.specs.Parts.{FormWith}
 use Rattle.form.proofs.Known.{form-area}
 use Rattle.status.proofs.Freed.{free-is}
@@ -34,6 +40,15 @@ module _ (l : List ℕ) (z : Counts) (H : FormWith l z) where
       let o = ordered z (A .ranged) in
       let x = writer-lies z w h in
       omega (arith, A .fits)
+
+  -- A key of S is one that the writer may not save.
+  pub barred-word : (w S : ℕ) → w < z .writers → S < 2 ^ z .keys
+      → not (eqb (without S (readWord l (maySaveAt z w))) 0)
+      ≡ barred (z .keys) (storeOf l .tail .maySave w) (testBit S)
+  unfolding barred
+  barred-word w S h b =
+      rw (maySave-word l z (H .counts) w h)
+      (without-some (z .keys) S (readWord l (maySaveAt z w)) b)
 
   module _ (r : ℕ) (h : r < z .runs) where
     pub jobs-word : storeOf l .run r .jobs ≡ readWord l (runAt z r + 1)

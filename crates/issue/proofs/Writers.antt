@@ -23,7 +23,8 @@ use Rattle.layout.specs.Words.{writerWords}
 use Rattle.layout.specs.Reading.{readPast, readPlace, readWriter}
 use Rattle.layout.specs.Stored.{putWriter, putPast}
 use Rattle.layout.proofs.Parts.{FitPast, FitWriter, FitPlace, place-laws, writer-laws}
-use Rattle.layout.proofs.Fit.{fit-put, past-out, past-in, place-fit}
+use Rattle.layout.proofs.Codec.{fit-put}
+use Rattle.layout.proofs.Fit.{past-out, past-in, place-fit}
 use Rattle.layout.proofs.Rules.Issue.{taken-fits}
 use Rattle.layout.proofs.Places.{place-at}
 use Rattle.layout.proofs.Windows.{part-back, part-beside, part-again, part-over, part-fold}

@@ -8,6 +8,7 @@ use form::header::counts;
 use form::job::is_below;
 use marks::mark_sites;
 use masks::has;
+use masks::without;
 use numbers::IssueNumber;
 use numbers::Tally;
 use numbers::last_issue;
@@ -27,7 +28,9 @@ ghost use lib.Dec.{leb};
 ghost use Rattle.words.specs.Tests.{allBelow};
 ghost use Rattle.masks.specs.Mask.{testBit};
 ghost use Rattle.answers.specs.Answers.{answeredWords};
-ghost use Rattle.sizes.specs.Bounds.{maxJobs, Ranged};
+ghost use Rattle.sizes.specs.Bounds.{Ranged};
+ghost use Rattle.sizes.specs.Runs.{maxJobs};
+ghost use Rattle.model.specs.Tail.{barred};
 ghost use Rattle.model.specs.Outcome.{answer};
 ghost use Rattle.model.specs.Issue.{raiseCause, issueCause, issuedNumber, issuedStore};
 ghost use Rattle.model.specs.Calls.{issue};
@@ -73,8 +76,13 @@ fn issue_cause(words: &[u32], z: Counts, r: usize, w: usize, mask: u32) -> u32
     if no != 0 {
         return no;
     }
-    if !jobs_done(words, z, r) {
+    let done = jobs_done(words, z, r);
+    let barred = is_barred(words, z, w, mask);
+    if !done {
         return 6;
+    }
+    if barred {
+        return 13;
     }
     if mask == 0 {
         return 0;
@@ -115,6 +123,17 @@ fn has_all(mask: u32, n: u32) -> bool
         j += 1;
     }
     true
+}
+
+// Whether a key of the mask is one that writer w may not save. An empty mask needs no right.
+fn is_barred(words: &[u32], z: Counts, w: usize, mask: u32) -> bool
+    requires { ⌜ FormWith (now words) z × (w < z .writers) ⌝ }
+    requires { ⌜ mask < 2 ^ z .keys ⌝ }
+    ensures { λ b. ⌜ b
+        ≡ barred (z .keys) (storeOf (now (words .entry)) .tail .maySave w) (testBit mask) ⌝ }
+{
+    let at = z.may_save_at(w);
+    without(mask, words[at]) != 0
 }
 
 // The last issue number and the count of writer w.

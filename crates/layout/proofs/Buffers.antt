@@ -7,25 +7,26 @@ use mathlib.Core.Path.{_≡_, refl}
 use mathlib.Core.Bool.{Bool, true, false}
 use mathlib.Core.List.{List, [], _∷_, _++_, map}
 use Prim.Native.Nat.{ℕ, _+_, _-_}
-use lib.ListN.{length, getD, take, replicate}
+use lib.ListN.{length, getD, take, drop, replicate}
 use lib.Seq.{sets}
 use Rattle.words.specs.Tests.{anyBelow, allBelow}
 use Rattle.words.specs.Numbers.{when, countBelow}
 use Rattle.words.specs.Lists.{putAt, upto, blocks}
 use Rattle.clock.specs.Clock.{exceeds, standing, present}
-use Rattle.sizes.specs.Bounds.{countsOf, between, ranged, pastSize, versionSize, placeSize, siteSize, writerSize, runSize, masterAt, sitesAt, writersAt, runsAt, tailSize, tailAt, totalOf, siteAt, staleAt, allowanceAt, roundAt}
+use Rattle.sizes.specs.Bounds.{countsOf, between, ranged, pastSize, versionSize, placeSize, siteSize, writerSize, runSize, masterAt, sitesAt, writersAt, runsAt, tailSize, tailAt, totalOf, siteAt, staleAt, allowanceAt, roundAt, mayHoldAt, maySaveAt}
 use Rattle.model.specs.Version.{held}
+use Rattle.model.specs.Tail.{barred}
 use Rattle.model.specs.Store.{fresh, siteMarked, withSites, withSite}
-use Rattle.model.specs.Form.{zeroRows, zeroVersion, leadersFormed, versionFormed, placeFormed, zeroJob, freeFormed, runFormed, siteFormed, wellFormed}
+use Rattle.model.specs.Form.{zeroRows, zeroVersion, leadersFormed, versionFormed, placeFormed, zeroJob, freeFormed, runFormed, siteFormed, rightsFormed, tailFormed, wellFormed}
 use Rattle.model.specs.Allowance.{heldCount, over}
 use Rattle.model.specs.Marks.{isStale, staleMask}
-use Rattle.masks.specs.Mask.{withIf, maskBelow}
+use Rattle.masks.specs.Mask.{testBit, withIf, maskBelow}
 use Rattle.model.specs.Outcome.{answer, refuse, unless, allowed, runCause}
 use Rattle.model.specs.Runs.{dropCause, dropDone, dropRule}
 use Rattle.model.specs.Calls.{dropRun, ruleOf}
 use Rattle.model.proofs.Scripts.{ok₁, not-taken}
-use Rattle.layout.specs.Words.{clockWords, pastWords, versionWords, placeWords, siteWords, sitesWords, writerWords, writersWords, jobWords, jobsWords, runWords, runsWords, tailWords, headerWords, storeWords}
-use Rattle.layout.specs.Reading.{readClock, readPast, readVersion, readPlace, readSite, readWriter, readJob, readJobs, readRun, readTail, countsIn, storeOf}
+use Rattle.layout.specs.Words.{clockWords, pastWords, versionWords, placeWords, siteWords, sitesWords, writerWords, writersWords, jobWords, jobsWords, runWords, runsWords, masksWords, tailWords, headerWords, storeWords}
+use Rattle.layout.specs.Reading.{readClock, readPast, readVersion, readPlace, readSite, readWriter, readJob, readJobs, readRun, readMasks, readTail, countsIn, storeOf}
 use Rattle.layout.specs.Buffer.{headerRight, shaped, inForm}
 use Rattle.layout.specs.Calls.{new, on, newCause, newOn, onStore, callOn}
 
@@ -102,10 +103,15 @@ pub record Buffers : Type 0 where
       map (λ o. getD marks (allowanceAt z (siteAt z o)) 0) (0 ∷ 1 ∷ []) ≡ 2 ∷ 2 ∷ []
   pub allowed : let at = allowanceAt (countsOf 1 1 1 1) (siteAt (countsOf 1 1 1 1) 0) in
       map inForm (put at 0 ∷ put at 1 ∷ put at 2 ∷ []) ≡ true ∷ true ∷ false ∷ []
-  -- The last word is the round: P - 1 on a new desk, and below P.
-  pub round-word : let z = countsOf 2 2 1 3 in
-      getD (storeWords (fresh z)) (totalOf z - 1) 0 ≡ 2
+  -- The round, P - 1 on a new desk and below P; then the masks of an office and two writers, all
+  -- sheets on a new desk, and no bit at K.
+  pub tail-words : let z = countsOf 2 2 1 3 in
+      drop (roundAt z) (storeWords (fresh z)) ≡ 2 ∷ 3 ∷ 3 ∷ 3 ∷ []
   pub round-high : inForm (raised (roundAt (countsOf 1 1 1 1))) ≡ false
+  pub no-right : let z = countsOf 1 1 1 1 in
+      map inForm (put (mayHoldAt z 0) 0 ∷ put (maySaveAt z 0) 0 ∷ []) ≡ replicate 2 true
+  pub right-high : let z = countsOf 1 1 1 1 in
+      map inForm (put (mayHoldAt z 0) 2 ∷ put (maySaveAt z 0) 2 ∷ []) ≡ replicate 2 false
   pub held-mask : map inForm (sets right 10 (1 ∷ 0 ∷ 1 ∷ []) ∷ sets right 10 (1 ∷ 2 ∷ 1 ∷ []) ∷ [])
       ≡ replicate 2 false
   pub calls : Asked
@@ -115,9 +121,9 @@ unfolding putAt withSites anyBelow allBelow upto blocks present between ranged p
     versionSize placeSize siteAt
     siteSize writerSize runSize masterAt sitesAt writersAt runsAt tailSize tailAt totalOf held
     fresh zeroRows zeroVersion leadersFormed versionFormed placeFormed zeroJob freeFormed
-    runFormed siteFormed
-    wellFormed when countBelow heldCount over
-    isStale staleMask maskBelow withIf exceeds standing clockWords
+    runFormed siteFormed rightsFormed tailFormed
+    barred testBit wellFormed when countBelow heldCount over
+    isStale staleMask maskBelow withIf exceeds standing masksWords readMasks clockWords
     pastWords versionWords placeWords siteWords sitesWords writerWords writersWords jobWords
     jobsWords runWords runsWords tailWords headerWords storeWords readClock readPast readVersion
     readPlace readSite readWriter readJob readJobs readRun readTail countsIn storeOf headerRight
@@ -139,8 +145,10 @@ buffers = record {
   no-mark = refl;
   allowances = refl;
   allowed = refl;
-  round-word = refl;
+  tail-words = refl;
   round-high = refl;
+  no-right = refl;
+  right-high = refl;
   held-mask = refl;
   calls = record {
     range = refl;

@@ -1,6 +1,6 @@
 -- One set of laws for every kind of part, and that a row of parts has them too.
 -- Laws v words read Fit: a part has v words, is read back, and is told by its words.
--- FitMany, many: n parts in a row. many-put, many-part: a store into one of them.
+-- FitMany, fit-put, many: n parts in a row. many-put, many-part: a store into one of them.
 -- Assumes nothing.
 use mathlib.Core.Path.{_≡_, refl, sym, ap, _∙_, fun-ext}
 use mathlib.Core.Bool.{Bool, true, false, cond}
@@ -13,7 +13,7 @@ use lib.ListN.{length}
 use lib.Seq.{sets}
 use Rattle.words.specs.Lists.{blocks, window, upto, putAt}
 use Rattle.words.proofs.Tests.{below-or-not}
-use Rattle.words.proofs.Lists.{upto-in, upto-out, length-blocks, blocks-ext, blocks-same, window-blocks}
+use Rattle.words.proofs.Lists.{putAt-other, putAt-cases, upto-in, upto-out, length-blocks, blocks-ext, blocks-same, window-blocks}
 use Rattle.words.proofs.Stores.{sets-block, sets-blocks}
 use Rattle.words.proofs.Slots.{slot-end}
 
@@ -29,6 +29,14 @@ pub record Laws {A : Type 0} (v : ℕ) (words : A → List ℕ) (read : List ℕ
 pub record FitMany {A : Type 0} (n : ℕ) (x : A) (Fit : A → Type 0) (f : ℕ → A) : Type 0 where
   pub each : (i : ℕ) → i < n → Fit (f i)
   pub rest : (i : ℕ) → n ≤ i → f i ≡ x
+
+-- One part of a row changed.
+pub fit-put : {A : Type 0} {n : ℕ} {x : A} {Fit : A → Type 0} (f : ℕ → A) (i : ℕ) (a : A)
+    → FitMany n x Fit f → i < n → Fit a → FitMany n x Fit (putAt f i a)
+fit-put {A} {n} {x} {Fit} f i a F h G = record {
+  each = λ j k. putAt-cases Fit f i a j (λ _. G) (λ _. F .each j k);
+  rest = λ j k. putAt-other f i a j (λ e. omega arith) ∙ F .rest j k;
+}
 
 -- The words of a row, and its reader: x stands from n on.
 abbrev rowWords : {A : Type 0} → ℕ → (A → List ℕ) → (ℕ → A) → List ℕ

@@ -5,21 +5,21 @@ use mathlib.Core.Path.{_≡_, refl, sym, ap, ap₂, _∙_, fun-ext}
 use mathlib.Core.Bool.{Bool, cond}
 use mathlib.Core.Logic.{_⊎_, inl, inr, ⊎-elim}
 use Prim.Native.Nat.{ℕ, _≤_, _<_}
-use native.Mathlib.Omega.{arith}
 use Rattle.words.specs.Lists.{putAt}
 use Rattle.words.proofs.Bools.{test, ge-ltb}
 use Rattle.words.proofs.Tests.{below-or-not}
-use Rattle.words.proofs.Lists.{putAt-other, putAt-cases}
 use Rattle.masks.proofs.Sets.{mask-no}
 use Rattle.clock.specs.Clock.{Clock, join}
 use Rattle.sizes.specs.declared.Counts.{Counts}
 use Rattle.model.specs.Algebra.{Place}
 use Rattle.model.specs.Version.{Version, unheld, held, larger, merge}
 use Rattle.model.specs.Marks.{isStale, staleMask}
-use Rattle.model.specs.Store.{Writer, Run, Site, Tail, Store, emptyPlace, noSite, freeRun, fresh, siteAllowed, siteMarked, siteWith, withLast, withMarks, withMaster, withSites, withSite, withCache, withCaches, withWriter, withRun, withTail}
+use Rattle.model.specs.Tail.{Tail}
+use Rattle.model.specs.Store.{Writer, Run, Site, Store, emptyPlace, noSite, freeRun, fresh, siteAllowed, siteMarked, siteWith, withLast, withMarks, withMaster, withSites, withSite, withCache, withCaches, withWriter, withRun, withTail}
 use Rattle.model.proofs.Merges.{held-unheld, merge-cases, merge-unheld-left}
-use Rattle.layout.proofs.Codec.{FitMany}
+use Rattle.layout.proofs.Codec.{FitMany, fit-put}
 use Rattle.layout.proofs.Parts.{FitPast, FitVersion, FitPlace, FitSite, FitSites, FitWriter, FitRun}
+use Rattle.layout.proofs.Tail.{FitTail, fresh-tail}
 use Rattle.layout.proofs.Whole.{FitStore}
 
 -- ---- what stands where nothing does
@@ -54,7 +54,7 @@ fresh-fits z = record {
     rest = λ w h. refl;
   };
   run = record { each = λ r h. fit-free z; rest = λ r h. refl };
-  tail = record {};
+  tail = fresh-tail z;
 }
 
 pub fresh-cache : (z : Counts) (o k : ℕ) → fresh z .site o .cache k ≡ unheld
@@ -62,14 +62,6 @@ unfolding fresh
 fresh-cache z o k = refl
 
 -- ---- versions and places
-
--- One part of a row changed.
-pub fit-put : {A : Type 0} {n : ℕ} {x : A} {Fit : A → Type 0} (f : ℕ → A) (i : ℕ) (a : A)
-    → FitMany n x Fit f → i < n → Fit a → FitMany n x Fit (putAt f i a)
-fit-put {A} {n} {x} {Fit} f i a F h G = record {
-  each = λ j k. putAt-cases Fit f i a j (λ _. G) (λ _. F .each j k);
-  rest = λ j k. putAt-other f i a j (λ e. omega arith) ∙ F .rest j k;
-}
 
 -- One of two places for each key.
 pub fit-choice : (z : Counts) (b : ℕ → Bool) (p q : Place Version) → FitPlace z p → FitPlace z q
@@ -235,12 +227,12 @@ module _ (s : Store) (F : FitStore s) where
     tail = F .tail;
   }
 
-  pub fit-tail : (t : Tail) → FitStore (withTail s t)
+  pub fit-tail : (t : Tail) → FitTail (s .counts) t → FitStore (withTail s t)
   unfolding withTail
-  fit-tail t = record {
+  fit-tail t G = record {
     master = F .master;
     site = F .site;
     writer = F .writer;
     run = F .run;
-    tail = record {};
+    tail = G;
   }

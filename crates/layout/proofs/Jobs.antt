@@ -7,7 +7,7 @@ use Prim.Native.Nat.{ℕ, _+_}
 use native.Mathlib.Omega.{arith}
 use lib.ListN.{getD, drop}
 use Rattle.words.specs.Lists.{window}
-use Rattle.sizes.specs.Bounds.{maxJobs, jobSize, upstreamOffset, planSize}
+use Rattle.sizes.specs.Runs.{maxJobs, jobSize, upstreamOffset, planSize}
 use Rattle.model.specs.Store.{Job, noJob}
 use Rattle.layout.specs.Words.{jobWords, jobsWords}
 use Rattle.layout.specs.Reading.{readJob, readJobs}

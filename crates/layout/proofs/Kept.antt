@@ -19,11 +19,13 @@ use Rattle.model.specs.Outcome.{Outcome, refused, broken, done, unless, Reply, 
 use Rattle.model.specs.Caches.{fetchCause, fetchDone, fetchRule, evictCause, evictDone, evictRule}
 use Rattle.model.specs.Runs.{dropCause, dropDone, dropRule}
 use Rattle.model.proofs.Allowances.{over-no, held-evicted}
+use Rattle.model.proofs.Rights.{unbarred-fetched, unbarred-evicted}
 use Rattle.model.proofs.Outcomes.{no-cause, unless-cases, nextStore, replied-cases}
 use Rattle.layout.proofs.Parts.{FitPlace}
 use Rattle.layout.proofs.Whole.{FitStore}
 use Rattle.layout.proofs.Fit.{fit-empty, fit-free, fit-choice, fit-cache, fit-run, fresh-fits}
-use Rattle.model.proofs.Formed.{PlaceFormed, formed-empty, formed-choice, Formed, well-out, well-in, fresh-formed}
+use Rattle.model.proofs.FormedPlaces.{PlaceFormed, formed-empty, formed-choice}
+use Rattle.model.proofs.Formed.{Unbarred, Formed, well-out, well-in, fresh-formed}
 use Rattle.model.proofs.FormedNext.{formed-cache, formed-run}
 use Rattle.model.proofs.Plans.{free-formed}
 use Rattle.layout.proofs.Follow.{Fine}
@@ -111,11 +113,12 @@ evicted-formed z cache start F =
 -- A store with another cache.
 cache-kept : (s : Store) (o : ℕ) (p : Place Version) (a : List ℕ) → Fine s → o < s .counts .sites
     → FitPlace (s .counts) p → PlaceFormed (s .counts) p
-    → heldCount (s .counts .keys) p ≤ s .site o .allowance → Kept s (done a (withCache s o p))
+    → heldCount (s .counts .keys) p ≤ s .site o .allowance
+    → Unbarred (s .counts) (s .tail .mayHold o) p → Kept s (done a (withCache s o p))
 unfolding withCache withSites
-cache-kept s o p a F h G H r =
+cache-kept s o p a F h G H r u =
     kept-done s (withCache s o p) a F (fit-cache s (F .fits) o p h G)
-    (formed-cache s (well-out s (F .formed)) o p H r) refl
+    (formed-cache s (well-out s (F .formed)) o p H r u) refl
 
 pub fetch-kept : (o k : ℕ) (s : Store) → Fine s → Kept s (fetchRule o k s)
 unfolding fetchRule fetchDone fetchCause
@@ -126,14 +129,17 @@ fetch-kept o k s F =
     let p = fetched (versions (z .writers)) (z .keys) (s .master) (s .site o .cache) (only k) in
     let a = no-cause _ 3 _ (omega arith) e in
     let b = no-cause _ 3 _ (omega arith) (a .1) in
-    let c = no-cause _ 7 _ (omega arith) (b .1) in
+    let t = no-cause _ 13 _ (omega arith) (b .1) in
+    let c = no-cause _ 7 _ (omega arith) (t .1) in
     let d = no-cause _ 12 0 (omega arith) (c .1) in
     let h : o < z .sites = leb-gt _ _ (a .0) in
     cache-kept s o p _ F h
     (fetched-fits z (s .master) (s .site o .cache) (only k) (F .fits .master)
     (F .fits .site .each o h .cache))
     (fetched-formed z (s .master) (s .site o .cache) (only k) (G .master) (G .cache o h))
-    (over-no z (s .site o) p (d .0)))
+    (over-no z (s .site o) p (d .0))
+    (unbarred-fetched (z .keys) (s .tail .mayHold o) (z .writers) (s .site o .cache) (only k)
+    (s .master) (G .right o h) (t .0)))
 
 -- E leaves a cache, from any start.
 pub evicted-kept : (o : ℕ) (start : Items) (a : List ℕ) (s : Store) → Fine s
@@ -148,6 +154,7 @@ evicted-kept o start a s F h =
     let less = held-evicted (z .writers) (z .keys) cache start in
     cache-kept s o left a F h (evicted-fits z cache start (F .fits .site .each o h .cache))
     (evicted-formed z cache start (G .cache o h)) (omega (arith, G .room o h .1))
+    (unbarred-evicted (z .keys) (s .tail .mayHold o) (z .writers) cache start (G .right o h))
 
 -- Evict: from its key.
 pub evict-kept : (o k : ℕ) (s : Store) → Fine s → Kept s (evictRule o k s)

@@ -1,5 +1,5 @@
--- The header and a run as numerals, with another number in each field, so that no two can change
--- places: document 01's "Header, 10 words", "A run is ..".
+-- The header, a run and the tail as numerals, with another number in each field, so that no two
+-- can change places: document 01's "Header, 10 words", "A run is ..".
 -- Assumes nothing.
 use mathlib.Core.Path.{_≡_, refl}
 use mathlib.Core.List.{List, [], _∷_, _++_}
@@ -7,11 +7,11 @@ use Prim.Native.Nat.{ℕ, _+_, _*_}
 use Rattle.words.specs.Lists.{blocks}
 use Rattle.sizes.specs.Bounds.{countsOf, pastSize, versionSize, placeSize, siteSize, writerSize, runSize, masterAt, sitesAt, writersAt, runsAt, tailSize, tailAt, totalOf}
 use Rattle.model.specs.Store.{Run}
-use Rattle.layout.specs.Words.{clockWords, pastWords, versionWords, placeWords, jobWords, jobsWords, runWords, headerWords}
+use Rattle.layout.specs.Words.{clockWords, pastWords, versionWords, placeWords, jobWords, jobsWords, runWords, masksWords, tailWords, headerWords}
 
 -- K = 1, W = 2, N = 3, P = 4, the last issue number 9.
 pub header : headerWords (countsOf 1 2 3 4) 9
-    ≡ 1 ∷ 2 ∷ 3 ∷ 4 ∷ 9 ∷ 10 ∷ 14 ∷ 32 ∷ 38 ∷ 167 ∷ []
+    ≡ 1 ∷ 2 ∷ 3 ∷ 4 ∷ 9 ∷ 10 ∷ 14 ∷ 32 ∷ 38 ∷ 172 ∷ []
 unfolding headerWords pastSize versionSize placeSize siteSize writerSize runSize masterAt sitesAt
     writersAt runsAt tailSize tailAt totalOf
 header = refl
@@ -36,3 +36,10 @@ pub run : runWords (countsOf 1 1 1 1) counted
     ∷ 34 ∷ 35 ∷ 36 ∷ []
 unfolding runWords jobsWords jobWords placeWords versionWords pastWords clockWords blocks
 run = refl
+
+-- The round, the masks of three offices, those of two writers.
+pub tail : tailWords (countsOf 1 2 3 4)
+    (record { round = 6; mayHold = λ o. o + 7; maySave = λ w. w + 10 })
+    ≡ 6 ∷ 7 ∷ 8 ∷ 9 ∷ 10 ∷ 11 ∷ []
+unfolding tailWords masksWords blocks
+tail = refl

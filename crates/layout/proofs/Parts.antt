@@ -11,7 +11,8 @@ use Rattle.words.specs.Lists.{window, upto}
 use Rattle.words.proofs.Lists.{append-same, window-add, window-cons}
 use Rattle.clock.specs.Clock.{Clock}
 use Rattle.sizes.specs.declared.Counts.{Counts}
-use Rattle.sizes.specs.Bounds.{jobsOffset, doneOffset, readOffset, planOffset, planSize, snapshotOffset, pastSize, versionSize, placeSize, siteSize, writerSize, runSize}
+use Rattle.sizes.specs.Bounds.{pastSize, versionSize, placeSize, siteSize, writerSize, runSize}
+use Rattle.sizes.specs.Runs.{jobsOffset, doneOffset, readOffset, planOffset, planSize, snapshotOffset}
 use Rattle.model.specs.Algebra.{Place}
 use Rattle.model.specs.Version.{Version, unheld}
 use Rattle.model.specs.Store.{Writer, Run, Site, noWriter, noSite, freeRun}

@@ -10,10 +10,11 @@ use Rattle.words.proofs.Lists.{upto-in}
 use Rattle.clock.specs.Clock.{Clock, present, clockAt}
 use Rattle.clock.proofs.Order.{present-same}
 use Rattle.sizes.specs.declared.Counts.{Counts}
-use Rattle.sizes.specs.Bounds.{pastOffset, maxJobs, jobSize, siteSize, writerSize, runSize, masterAt, sitesAt, writersAt, runsAt, siteAt, writerAt, runAt, snapshotAt, keyAt, rowAt}
+use Rattle.sizes.specs.Bounds.{pastOffset, siteSize, writerSize, runSize, masterAt, sitesAt, writersAt, runsAt, tailAt, mayHoldAt, maySaveAt, siteAt, writerAt, runAt, snapshotAt, keyAt, rowAt}
+use Rattle.sizes.specs.Runs.{maxJobs, jobSize}
 use Rattle.model.specs.Version.{held}
 use Rattle.model.specs.Store.{noSite, noWriter, noJob, freeRun}
-use Rattle.layout.specs.Reading.{readWord, readClock, readPast, readVersion, readPlace, readSite, readWriter, readJob, readJobs, readRun, countsIn, storeOf}
+use Rattle.layout.specs.Reading.{readWord, readClock, readPast, readVersion, readPlace, readSite, readWriter, readJob, readJobs, readRun, readMasks, readTail, countsIn, storeOf}
 use Rattle.layout.proofs.Places.{place-at}
 
 -- ---- the parts of the store that a buffer holds
@@ -25,6 +26,12 @@ counts-in l = refl
 pub last-in : (l : List ℕ) → storeOf l .last ≡ readWord l 4
 unfolding storeOf
 last-in l = refl
+
+-- Mask i of n at an index.
+pub masks-word : (n : ℕ) (l : List ℕ) (at i : ℕ) → i < n → readMasks n l at i ≡ readWord l (at + i)
+unfolding readMasks
+masks-word n l at i h =
+    upto-in n 0 (λ i. readWord l (at + i * 1)) i h ∙ ap (readWord l) (omega arith)
 
 module _ (l : List ℕ) (z : Counts) (e : z ≡ countsIn l) where
   pub master-in : storeOf l .master ≡ readPlace z l (masterAt z)
@@ -56,6 +63,17 @@ module _ (l : List ℕ) (z : Counts) (e : z ≡ countsIn l) where
   unfolding readRun snapshotAt
   snapshot-in r h =
       rw (run-in r h)
+
+  -- What site o may hold, and writer w may save.
+  pub mayHold-word : (o : ℕ) → o < z .sites
+      → storeOf l .tail .mayHold o ≡ readWord l (mayHoldAt z o)
+  unfolding storeOf readTail
+  mayHold-word o h = rw (← e) (masks-word (z .sites) l (tailAt z + 1) o h)
+
+  pub maySave-word : (w : ℕ) → w < z .writers
+      → storeOf l .tail .maySave w ≡ readWord l (maySaveAt z w)
+  unfolding storeOf readTail
+  maySave-word w h = rw (← e) (masks-word (z .writers) l (tailAt z + 1 + z .sites) w h)
 
 -- ---- single words
 

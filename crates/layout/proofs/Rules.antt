@@ -11,7 +11,7 @@ use Rattle.sizes.specs.declared.Counts.{Counts}
 use Rattle.sizes.proofs.Offsets.{ranged-out}
 use Rattle.model.specs.Store.{Store, fresh}
 use Rattle.model.specs.Outcome.{refused, done}
-use Rattle.model.specs.Calls.{StoreCall, openRun, fetch, evict, prepare, step, issue, dropRun, allow, pick, ask, replyOf, ruleOf}
+use Rattle.model.specs.Calls.{StoreCall, openRun, fetch, evict, prepare, step, issue, dropRun, allow, pick, mayhold, maysave, ask, replyOf, ruleOf}
 use Rattle.model.proofs.Outcomes.{no-lack, unless-done, unless-refused}
 use Rattle.layout.specs.Calls.{newCause, newOn}
 use Rattle.layout.proofs.Follow.{Fine}
@@ -22,12 +22,14 @@ use Rattle.layout.proofs.Rules.Step.{step-kept}
 use Rattle.layout.proofs.Rules.Issue.{issue-kept}
 use Rattle.layout.proofs.Rules.Allow.{allow-kept}
 use Rattle.layout.proofs.Rules.Pick.{pick-kept}
+use Rattle.layout.proofs.Rules.Rights.{mayhold-kept, maysave-kept}
 pub mod Open
 pub mod Prepare
 pub mod Step
 pub mod Issue
 pub mod Allow
 pub mod Pick
+pub mod Rights
 
 pub rule-kept : (c : StoreCall) (s : Store) → Fine s → Kept s (ruleOf c s)
 unfolding ruleOf
@@ -40,6 +42,8 @@ rule-kept (issue r w S) = issue-kept r w S
 rule-kept (dropRun r) = drop-kept r
 rule-kept (allow o n) = allow-kept o n
 rule-kept pick = pick-kept
+rule-kept (mayhold o m) = mayhold-kept o m
+rule-kept (maysave w m) = maysave-kept w m
 rule-kept (ask q) = λ s F. kept-replied s (replyOf q s) F
 
 -- An accepted new leaves a fine store in any buffer.

@@ -1,6 +1,5 @@
 -- A store of words into one part of a written store, as a change of the store.
--- put-..-part: within one site, writer or run. put-..: a whole part, or some words
--- of it.
+-- put-..-part: within one site, writer or run, or the tail. put-..: a whole part, or words of it.
 -- run-twice, phase: one change after another.
 -- Assumes nothing.
 use mathlib.Core.Path.{_≡_, refl, sym, ap, _∙_, fun-ext}
@@ -15,20 +14,23 @@ use lib.Seq.{sets}
 use Rattle.words.specs.Lists.{putAt}
 use Rattle.words.proofs.Stores.{sets-left, sets-behind, sets-all}
 use Rattle.words.proofs.Lists.{putAt-same}
-use Rattle.sizes.specs.Bounds.{doneOffset, snapshotOffset, placeSize, siteSize, writerSize, runSize, masterAt, sitesAt, writersAt, runsAt, siteAt, staleAt, allowanceAt, roundAt, writerAt, runAt, snapshotAt}
+use Rattle.sizes.specs.Bounds.{placeSize, siteSize, writerSize, runSize, masterAt, sitesAt, writersAt, runsAt, siteAt, staleAt, allowanceAt, tailSize, tailAt, roundAt, mayHoldAt, maySaveAt, writerAt, runAt, snapshotAt}
+use Rattle.sizes.specs.Runs.{doneOffset, snapshotOffset}
 use Rattle.model.specs.Algebra.{Place}
 use Rattle.model.specs.Version.{Version}
 use Rattle.model.specs.Marks.{staleMask}
-use Rattle.model.specs.Store.{Writer, Run, Site, Store, withLast, withMaster, withSites, withSite, siteCached, siteMarked, siteAllowed, siteWith, withCache, withWriter, withRun, withState, withSnapshot, withJobDone, withTail, tailRound, withRound}
+use Rattle.model.specs.Tail.{Tail, tailRound, tailHold, tailSave}
+use Rattle.model.specs.Store.{Writer, Run, Site, Store, withLast, withMaster, withSites, withSite, siteCached, siteMarked, siteAllowed, siteWith, withCache, withWriter, withRun, withState, withSnapshot, withJobDone, withTail, withRound, withMayHold, withMaySave}
 use Rattle.layout.specs.Words.{headerWords, placeWords, siteWords, sitesWords, writerWords, writersWords, jobsWords, runWords, runsWords, tailWords, storeWords}
 use Rattle.layout.specs.Buffer.{written}
 use Rattle.layout.specs.Reading.{storeOf}
 use Rattle.layout.proofs.Parts.{place-laws, site-laws, writer-laws, run-laws}
 use Rattle.layout.proofs.Jobs.{jobs-laws}
+use Rattle.layout.proofs.Tail.{tail-laws, tail-round, tail-hold, tail-save}
 use Rattle.layout.proofs.Whole.{FitStore, store-back, written-twice}
 use Rattle.layout.proofs.Views.{put-area, put-row-part, withRuns, master-area, sites-area, writers-area, runs-area, tail-area}
 
--- ---- the last number, the master and the round
+-- ---- the last number, the master and the words of the tail
 
 pub put-last : (s : Store) (l : List ℕ) (n : ℕ) → set (written s l) 4 n ≡ written (withLast s n) l
 unfolding withLast written storeWords headerWords
@@ -47,14 +49,36 @@ put-master s l p =
     rw e (put-area (master-area s l) (s .master) p 0 (placeWords z p) (omega (arith, same))
     (sets-all old (placeWords z p) same))
 
-pub put-round : (s : Store) (l : List ℕ) (r : ℕ)
-    → set (written s l) (roundAt (s .counts)) r ≡ written (withRound s r) l
-unfolding tailWords withTail
-put-round s l r =
-    let z = s .counts in
-    let e : roundAt z ≡ roundAt z + 0 = omega arith in
-    rw e (put-area (tail-area s l) (s .tail) (tailRound (s .tail) r) 0 (r ∷ []) (omega arith)
-    refl)
+-- A word of the tail.
+put-tail-part : (s : Store) (l : List ℕ) (i m at : ℕ) (t : Tail) → i < tailSize (s .counts)
+    → at ≡ tailAt (s .counts) + i
+    → sets (tailWords (s .counts) (s .tail)) i (m ∷ []) ≡ tailWords (s .counts) t
+    → set (written s l) at m ≡ written (withTail s t) l
+unfolding withTail
+put-tail-part s l i m at t h e p =
+    rw e (put-area (tail-area s l) (s .tail) t i (m ∷ [])
+    (omega (arith, tail-laws (s .counts) .long (s .tail))) p)
+
+module _ (s : Store) (l : List ℕ) where
+  pub put-round : (r : ℕ) → set (written s l) (roundAt (s .counts)) r ≡ written (withRound s r) l
+  unfolding tailSize
+  put-round r =
+      put-tail-part s l 0 r _ (tailRound (s .tail) r) (omega arith) (omega arith)
+      (tail-round (s .counts) (s .tail) r)
+
+  pub put-mayHold : (o m : ℕ) → o < s .counts .sites
+      → set (written s l) (mayHoldAt (s .counts) o) m ≡ written (withMayHold s o m) l
+  unfolding tailSize
+  put-mayHold o m h =
+      put-tail-part s l (1 + o) m _ (tailHold (s .tail) o m) (omega arith) (omega arith)
+      (tail-hold (s .counts) (s .tail) o m h)
+
+  pub put-maySave : (w m : ℕ) → w < s .counts .writers
+      → set (written s l) (maySaveAt (s .counts) w) m ≡ written (withMaySave s w m) l
+  unfolding tailSize
+  put-maySave w m h =
+      put-tail-part s l (1 + s .counts .sites + w) m _ (tailSave (s .tail) w m) (omega arith)
+      (omega arith) (tail-save (s .counts) (s .tail) w m h)
 
 -- ---- a store within one part of a row
 

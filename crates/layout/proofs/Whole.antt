@@ -16,7 +16,8 @@ use Rattle.sizes.specs.declared.Counts.{Counts}
 use Rattle.sizes.specs.Bounds.{Ranged, masterAt, sitesAt, writersAt, runsAt, tailAt, totalOf}
 use Rattle.model.specs.Algebra.{Place}
 use Rattle.model.specs.Version.{Version}
-use Rattle.model.specs.Store.{Writer, Run, Site, Tail, Store}
+use Rattle.model.specs.Tail.{Tail}
+use Rattle.model.specs.Store.{Writer, Run, Site, Store}
 use Rattle.layout.specs.Words.{headerWords, placeWords, sitesWords, writersWords, runsWords, tailWords, storeWords}
 use Rattle.layout.specs.Reading.{readWord, countsIn, storeOf}
 use Rattle.layout.specs.Buffer.{written, shaped}

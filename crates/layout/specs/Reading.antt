@@ -6,11 +6,13 @@ use Prim.Native.Nat.{ℕ, _+_, _*_}
 use lib.ListN.{getD}
 use Rattle.words.specs.Lists.{upto}
 use Rattle.clock.specs.Clock.{Clock}
-use Rattle.sizes.specs.Bounds.{leadersOffset, pastOffset, writerPastOffset, keysOffset, writersOffset, sitesOffset, runsOffset, lastOffset, maxJobs, jobSize, readsOffset, upstreamOffset, jobsOffset, doneOffset, readOffset, planOffset, snapshotOffset, versionSize, siteSize, writerSize, runSize, masterAt, sitesAt, writersAt, runsAt, tailAt, staleAt, allowanceAt}
+use Rattle.sizes.specs.Bounds.{leadersOffset, pastOffset, writerPastOffset, keysOffset, writersOffset, sitesOffset, runsOffset, lastOffset, versionSize, siteSize, writerSize, runSize, masterAt, sitesAt, writersAt, runsAt, tailAt, staleAt, allowanceAt}
+use Rattle.sizes.specs.Runs.{maxJobs, jobSize, readsOffset, upstreamOffset, jobsOffset, doneOffset, readOffset, planOffset, snapshotOffset}
 use Rattle.sizes.specs.declared.Counts.{Counts}
 use Rattle.model.specs.Algebra.{Place}
 use Rattle.model.specs.Version.{Version, unheld}
-use Rattle.model.specs.Store.{Writer, Job, Run, Site, Tail, Store, noWriter, noJob, noSite, freeRun}
+use Rattle.model.specs.Tail.{Tail}
+use Rattle.model.specs.Store.{Writer, Job, Run, Site, Store, noWriter, noJob, noSite, freeRun}
 
 abbrev pub readWord : List ℕ → ℕ → ℕ
 readWord l at = getD l at 0
@@ -64,8 +66,15 @@ readRun z l at = record {
   };
 }
 
+unfoldable pub readMasks : ℕ → List ℕ → ℕ → ℕ → ℕ
+readMasks n l at = upto n 0 (λ i. readWord l (at + i * 1))
+
 unfoldable pub readTail : Counts → List ℕ → ℕ → Tail
-readTail z l at = record { round = readWord l at }
+readTail z l at = record {
+  round = readWord l at;
+  mayHold = readMasks (z .sites) l (at + 1);
+  maySave = readMasks (z .writers) l (at + 1 + z .sites);
+}
 
 -- The counts in the header.
 unfoldable pub countsIn : List ℕ → Counts

@@ -6,11 +6,13 @@ use mathlib.Core.List.{List, [], _∷_, _++_}
 use Prim.Native.Nat.{ℕ}
 use Rattle.words.specs.Lists.{blocks}
 use Rattle.clock.specs.Clock.{Clock}
-use Rattle.sizes.specs.Bounds.{masterAt, sitesAt, writersAt, runsAt, totalOf, maxJobs}
+use Rattle.sizes.specs.Bounds.{masterAt, sitesAt, writersAt, runsAt, totalOf}
+use Rattle.sizes.specs.Runs.{maxJobs}
 use Rattle.sizes.specs.declared.Counts.{Counts}
 use Rattle.model.specs.Algebra.{Place}
 use Rattle.model.specs.Version.{Version}
-use Rattle.model.specs.Store.{Writer, Job, Run, Site, Tail, Store}
+use Rattle.model.specs.Tail.{Tail}
+use Rattle.model.specs.Store.{Writer, Job, Run, Site, Store}
 
 unfoldable pub clockWords : Counts → Clock → List ℕ
 clockWords z c = blocks (z .writers) (λ w. c w ∷ [])
@@ -56,9 +58,15 @@ runWords z r =
 unfoldable pub runsWords : Counts → (ℕ → Run) → List ℕ
 runsWords z f = blocks (z .runs) (λ r. runWords z (f r))
 
--- Behind the runs. CR 8: "The last picked run is one stored word at the desk's end"
+-- The masks of n offices or writers.
+unfoldable pub masksWords : ℕ → (ℕ → ℕ) → List ℕ
+masksWords n f = blocks n (λ i. f i ∷ [])
+
+-- Behind the runs. CR 8: "The last picked run is one stored word at the desk's end"; CR 9: "the
+-- words follow the round's, offices first"
 unfoldable pub tailWords : Counts → Tail → List ℕ
-tailWords z t = t .round ∷ []
+tailWords z t =
+    t .round ∷ (masksWords (z .sites) (t .mayHold) ++ masksWords (z .writers) (t .maySave))
 
 -- "Header, 10 words: K, W, N, P, last issue number, then the offsets in words of master, shelves,
 -- writers and runs, then the total."

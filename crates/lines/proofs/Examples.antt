@@ -8,7 +8,7 @@ use mathlib.Core.Option.{none, some}
 use lib.ListN.{replicate}
 use Rattle.text.specs.Bytes.{bytesOf, sameBytes}
 use Rattle.text.specs.Fields.{inFirst, fieldsOf, digitsOnly, valueFrom, isEmpty, numberOf, numberBefore, numbersOf}
-use Rattle.model.specs.Calls.{openRun, fetch, evict, prepare, step, issue, dropRun, pick, ask, look, admit}
+use Rattle.model.specs.Calls.{openRun, fetch, evict, prepare, step, issue, dropRun, pick, mayhold, maysave, ask, look, admit}
 use Rattle.layout.specs.Calls.{new, on}
 use Rattle.lines.specs.Grammar.{formOf, takes, calling, asked, fieldsCall, lineCall}
 
@@ -48,7 +48,8 @@ case-lines = (
   refl,
 )
 
--- Zeros in front, the largest number, an open with any count of numbers, an admit with none.
+-- Zeros in front, the largest number, an open with any count of numbers, an admit with none; the
+-- full mask of 32 sheets.
 pub read-lines :
     (lineCall (bytesOf "fetch 000 00") ≡ some (on (fetch 0 0)))
     × (lineCall (bytesOf "fetch 0 4294967295") ≡ some (on (fetch 0 4294967295)))
@@ -56,9 +57,11 @@ pub read-lines :
     × (lineCall (bytesOf "open 0") ≡ some (on (openRun 0 [])))
     × (lineCall (bytesOf "open 1 7") ≡ some (on (openRun 1 (7 ∷ []))))
     × (lineCall (bytesOf "admit") ≡ some (on (ask admit)))
+    × (lineCall (bytesOf "mayhold 0 4294967295") ≡ some (on (mayhold 0 4294967295)))
+    × (lineCall (bytesOf "maysave 1 6") ≡ some (on (maysave 1 6)))
 unfolding lineCall fieldsCall fieldsOf inFirst asked formOf sameBytes takes calling numbersOf
     numberBefore numberOf isEmpty digitsOnly valueFrom
-read-lines = (refl, refl, refl, refl, refl, refl)
+read-lines = (refl, refl, refl, refl, refl, refl, refl, refl)
 
 -- An empty line, spaces too many, a number too large, and what is no number.
 pub unread-lines :
@@ -70,9 +73,10 @@ pub unread-lines :
     × (lineCall (bytesOf "fetch 0 0\r") ≡ none)
     × (lineCall (bytesOf "fetch 0 -1") ≡ none)
     × (lineCall (bytesOf "fetch 0 0x1") ≡ none)
+    × (lineCall (bytesOf "mayhold 0 4294967296") ≡ none)
 unfolding lineCall fieldsCall fieldsOf inFirst asked formOf sameBytes takes calling numbersOf
     numberBefore numberOf isEmpty digitsOnly valueFrom
-unread-lines = (refl, refl, refl, refl, refl, refl, refl, refl)
+unread-lines = (refl, refl, refl, refl, refl, refl, refl, refl, refl)
 
 -- Wrong counts, and words that are no commands.
 pub unread-calls :
@@ -86,9 +90,11 @@ pub unread-calls :
     × (lineCall (bytesOf "7") ≡ none)
     × (lineCall (bytesOf "admit 0") ≡ none)
     × (lineCall (bytesOf "admit ") ≡ none)
+    × (lineCall (bytesOf "mayhold 0") ≡ none)
+    × (lineCall (bytesOf "maysave 0 1 2") ≡ none)
 unfolding lineCall fieldsCall fieldsOf inFirst asked formOf sameBytes takes calling numbersOf
     numberBefore numberOf isEmpty digitsOnly valueFrom
-unread-calls = (refl, refl, refl, refl, refl, refl, refl, refl, refl, refl)
+unread-calls = (refl, refl, refl, refl, refl, refl, refl, refl, refl, refl, refl, refl)
 
 -- A word alone reaches the table: each of document 01's commands needs a number, pick takes none.
 pub bare-words :

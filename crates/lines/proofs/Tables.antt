@@ -17,7 +17,7 @@ use Rattle.words.proofs.Bools.{clash, and-left, and-right, leb-le, eqb-eq}
 use Rattle.words.proofs.Tests.{all-at}
 use Rattle.text.specs.Bytes.{sameBytes}
 use Rattle.text.specs.Fields.{firstOf}
-use Rattle.lines.specs.declared.Row.{Row}
+use Rattle.lines.specs.declared.table.Row.{Row}
 use Rattle.lines.specs.Grammar.{Form, forms, maxLine, formOf, formAt, takes}
 use Rattle.lines.specs.Rows.{isRow, noRow, agree}
 

@@ -11,7 +11,7 @@ use lib.Dec.{leb}
 use lib.ListN.{length, getD, drop}
 use Rattle.text.specs.Bytes.{bytesOf, sameBytes}
 use Rattle.text.specs.Fields.{fieldsOf, numbersOf}
-use Rattle.model.specs.Calls.{openRun, fetch, evict, prepare, step, issue, dropRun, allow, pick, ask, look, explain, stale, admit}
+use Rattle.model.specs.Calls.{openRun, fetch, evict, prepare, step, issue, dropRun, allow, pick, mayhold, maysave, ask, look, explain, stale, admit}
 use Rattle.layout.specs.Calls.{Call, new, on}
 
 -- "one over 400 bytes" is unread.
@@ -39,7 +39,7 @@ at ns i = getD ns i 0
 -- included": no line has room for as many as it may have bytes. Then document 02's calls:
 -- 2 "a new call explains a job of an open run", `explain r j`; 4 "a new call answers it",
 -- `stale o`; 6 "a new call admits a desk", `admit`; 7 "A call sets it", `allow o n`;
--- 8 "A dispatcher picks", `pick`.
+-- 8 "A dispatcher picks", `pick`; 9 "a call sets each", `mayhold o m`, `maysave w m`.
 abbrev pub forms : List Form
 forms =
     form "new" 4 4 (λ ns. new (at ns 0) (at ns 1) (at ns 2) (at ns 3)) ∷
@@ -55,7 +55,9 @@ forms =
     form "stale" 1 1 (λ ns. on (ask (stale (at ns 0)))) ∷
     form "admit" 0 0 (λ ns. on (ask admit)) ∷
     form "allow" 2 2 (λ ns. on (allow (at ns 0) (at ns 1))) ∷
-    form "pick" 0 0 (λ ns. on pick) ∷ []
+    form "pick" 0 0 (λ ns. on pick) ∷
+    form "mayhold" 2 2 (λ ns. on (mayhold (at ns 0) (at ns 1))) ∷
+    form "maysave" 2 2 (λ ns. on (maysave (at ns 0) (at ns 1))) ∷ []
 
 -- The form of a word.
 unfoldable pub formOf : List Form → List ℕ → Option Form

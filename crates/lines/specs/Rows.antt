@@ -9,7 +9,7 @@ use lib.ListN.{length, getD}
 use Rattle.words.specs.Tests.{allBelow}
 use Rattle.text.specs.Bytes.{sameBytes}
 use Rattle.text.specs.Fields.{firstOf}
-use Rattle.lines.specs.declared.Row.{Row}
+use Rattle.lines.specs.declared.table.Row.{Row}
 use Rattle.lines.specs.Grammar.{Form, forms, formAt}
 
 -- It has the form's word, before the first space, and its counts of numbers.

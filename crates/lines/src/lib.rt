@@ -1,5 +1,9 @@
 // The program's lines: a call read from one.
+mod table;
+
 use command::Command;
+use table::command_number;
+use table::has_count;
 use text::Count;
 ghost use mathlib.Core.Path.{_≡_};
 ghost use Prim.Native.Nat.{_≤_, _<_};
@@ -7,8 +11,7 @@ ghost use lib.ListN.{length, getD, take};
 ghost use mathlib.Core.Bool.{So};
 ghost use mathlib.Core.Option.{some};
 ghost use Rattle.command.specs.Commands.{spelled, numbersEnd};
-ghost use Rattle.lines.specs.Grammar.{maxLine, forms, formOf, formAt, takes, calling, asked, lineCall};
-ghost use Rattle.lines.specs.Rows.{isRow, agree};
+ghost use Rattle.lines.specs.Grammar.{maxLine, forms, formAt, takes, calling, asked, lineCall};
 
 // How long a line may be.
 pub struct Longest {}
@@ -21,132 +24,6 @@ impl Longest {
     pub fn lengths()
         ensures { λ _. do ⌜ (← ⟦Longest::LINE⟧ .entry) ≡ maxLine ⌝ }
     {}
-}
-
-// A command's word, spaces behind it, and the least and the most numbers after it.
-struct Row {
-    word: [u8; 8],
-    least: usize,
-    most: usize,
-}
-
-// How many commands there are.
-const COMMANDS: usize = 14;
-
-// The commands: a command's number is its row's. Document 01's nine, then the later ones.
-const ROWS: [Row; COMMANDS] = [
-    Row {
-        word: *b"new     ",
-        least: 4,
-        most: 4,
-    },
-    Row {
-        word: *b"open    ",
-        least: 1,
-        most: Longest::LINE,
-    },
-    Row {
-        word: *b"fetch   ",
-        least: 2,
-        most: 2,
-    },
-    Row {
-        word: *b"evict   ",
-        least: 2,
-        most: 2,
-    },
-    Row {
-        word: *b"prepare ",
-        least: 1,
-        most: 1,
-    },
-    Row {
-        word: *b"step    ",
-        least: 2,
-        most: 2,
-    },
-    Row {
-        word: *b"issue   ",
-        least: 3,
-        most: 3,
-    },
-    Row {
-        word: *b"drop    ",
-        least: 1,
-        most: 1,
-    },
-    Row {
-        word: *b"look    ",
-        least: 3,
-        most: 3,
-    },
-    Row {
-        word: *b"explain ",
-        least: 2,
-        most: 2,
-    },
-    Row {
-        word: *b"stale   ",
-        least: 1,
-        most: 1,
-    },
-    Row {
-        word: *b"admit   ",
-        least: 0,
-        most: 0,
-    },
-    Row {
-        word: *b"allow   ",
-        least: 2,
-        most: 2,
-    },
-    Row {
-        word: *b"pick    ",
-        least: 0,
-        most: 0,
-    },
-];
-
-// The table: each command's row is that of its form.
-fn rows() -> [Row; COMMANDS]
-    ensures { λ r. ⌜ So (agree r) ⌝ }
-{
-    ROWS
-}
-
-// A command's row.
-fn row_at(number: usize) -> Row
-    requires { ⌜ number < length forms ⌝ }
-    ensures { λ r. ⌜ So (isRow (formAt forms number) r) ⌝ }
-{
-    let rows = rows();
-    rows[number]
-}
-
-// The number of a command's word; of any other word, how many commands there are.
-fn command_number(word: &[u8]) -> usize
-    ensures { λ r. ⌜ formAt forms r ≡ formOf forms (now (word .entry)) ⌝ }
-{
-    let mut i = 0;
-    while i < COMMANDS {
-        let row = row_at(i);
-        if text::is_first(word, &row.word) {
-            return i;
-        }
-        i += 1;
-    }
-    i
-}
-
-// Whether n numbers may stand after the word of a command.
-fn has_count(number: usize, n: usize) -> bool
-    ensures { λ r. ⌜ r ≡ takes (formAt forms number) n ⌝ }
-{
-    if COMMANDS <= number {
-        return false;
-    }
-    let row = row_at(number);
-    (row.least <= n) & (n <= row.most)
 }
 
 // Number i of the first n, and 0 for one that is left out.
@@ -174,6 +51,8 @@ fn later_command(number: usize, numbers: &[u32], n: usize) -> Command
         11 => Command::Admit,
         12 => Command::Allow(a, b),
         13 => Command::Pick,
+        14 => Command::Mayhold(a, b),
+        15 => Command::Maysave(a, b),
         _ => Command::Unread,
     }
 }

@@ -20,18 +20,19 @@ use Rattle.sizes.specs.Bounds.{between, ranged, pastSize, versionSize, placeSiz
 use Rattle.model.specs.Algebra.{lacking}
 use Rattle.model.specs.Version.{held, dependency, supersedes, leadsOn, mergedLeaders, larger, merge}
 use Rattle.model.specs.Sets.{draws, drawSet, fetchSet, fetched, unfetchable, evictSet, evicted, pullSet, pulled}
+use Rattle.model.specs.Tail.{barred}
 use Rattle.model.specs.Store.{fresh, siteWith, withMarks, planned, doneReads, withMaster, withLast, withSites, withCache, withCaches, withWriter, withRun, withState, withSnapshot, withJobDone}
 use Rattle.model.specs.Allowance.{heldCount, over}
-use Rattle.model.specs.Form.{zeroRows, zeroVersion, leadersFormed, versionFormed, placeFormed, validJob, zeroJob, freeFormed, jobsFormed, masksFormed, snapshotFormed, runFormed, siteFormed, wellFormed}
+use Rattle.model.specs.Form.{zeroRows, zeroVersion, leadersFormed, versionFormed, placeFormed, validJob, zeroJob, freeFormed, jobsFormed, masksFormed, snapshotFormed, runFormed, siteFormed, rightsFormed, tailFormed, wellFormed}
 use Rattle.model.specs.Marks.{isStale, staleMask}
 use Rattle.model.specs.Outcome.{answer, refuse, unless, allowed, runCause}
 use Rattle.model.specs.Caches.{fetchCause, fetchDone, fetchRule, evictCause, evictDone, evictRule}
 use Rattle.model.specs.Runs.{listedJob, listedCount, listedJobs, listValid, openCause, openedRun, openDone, openRule, dropCause, dropDone, dropRule}
-use Rattle.model.specs.Step.{readStart, stepSite, stepReads, stepStart, stepFetch, stepCache, stepPlan, stepPull, stepSnapshot, stepMoved, jobLimit, notReady, jobCause, stepCause, stepBroken, stepDone, stepRule}
+use Rattle.model.specs.Step.{readStart, stepSite, stepReads, stepStart, stepFetch, stepCache, stepPlan, stepPull, stepSnapshot, stepMoved, stepBarred, jobLimit, notReady, jobCause, stepCause, stepBroken, stepDone, stepRule}
 use Rattle.model.specs.Issue.{raiseCause, issueCause, takenIn, rowsSet, newPast, newVersion, issuedMaster, issuedWriter, savedStore, issuedStore, issuedNumber, issueDone, issueRule}
 use Rattle.model.specs.Calls.{StoreCall, openRun, fetch, step, issue, dropRun, ruleOf}
-use Rattle.layout.specs.Words.{clockWords, pastWords, versionWords, placeWords, siteWords, sitesWords, writerWords, writersWords, jobWords, jobsWords, runWords, runsWords, tailWords, headerWords, storeWords}
-use Rattle.layout.specs.Reading.{readClock, readPast, readVersion, readPlace, readSite, readWriter, readJob, readJobs, readRun, readTail, countsIn, storeOf}
+use Rattle.layout.specs.Words.{clockWords, pastWords, versionWords, placeWords, siteWords, sitesWords, writerWords, writersWords, jobWords, jobsWords, runWords, runsWords, masksWords, tailWords, headerWords, storeWords}
+use Rattle.layout.specs.Reading.{readClock, readPast, readVersion, readPlace, readSite, readWriter, readJob, readJobs, readRun, readMasks, readTail, countsIn, storeOf}
 use Rattle.layout.specs.Buffer.{written, headerRight, shaped, inForm}
 use Rattle.layout.specs.Calls.{on, newCause, newOn, onStore, callOn, leaves, outcomes, after}
 use Rattle.listing.specs.Scripts.{firsts, rows, AllOf}
@@ -84,7 +85,8 @@ unfolding anyBelow allBelow only when countBelow heldCount over foldBelow putAt 
     evicted pullSet pulled fresh planned doneReads withMaster withLast withSites withCache
     withCaches withWriter withRun withState withSnapshot withJobDone zeroRows zeroVersion
     leadersFormed versionFormed placeFormed validJob zeroJob freeFormed jobsFormed
-    masksFormed snapshotFormed runFormed siteFormed wellFormed isStale staleMask siteWith
+    masksFormed snapshotFormed runFormed siteFormed rightsFormed tailFormed wellFormed
+    isStale staleMask siteWith barred stepBarred masksWords readMasks
     withMarks answer refuse unless allowed runCause fetchCause fetchDone fetchRule
     evictCause evictDone evictRule listedJob listedCount listedJobs listValid openCause
     openedRun openDone openRule dropCause dropDone dropRule readStart stepSite stepReads

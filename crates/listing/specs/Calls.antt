@@ -7,7 +7,7 @@ use mathlib.Core.Logic.{_⊎_}
 use mathlib.Core.List.{List, [], _∷_, _++_}
 use Prim.Native.Nat.{ℕ, _<_, _^_}
 use lib.ListN.{length}
-use Rattle.model.specs.Calls.{StoreCall, openRun, fetch, evict, prepare, step, issue, dropRun, allow, pick, ask}
+use Rattle.model.specs.Calls.{StoreCall, openRun, fetch, evict, prepare, step, issue, dropRun, allow, pick, mayhold, maysave, ask}
 use Rattle.listing.specs.Scripts.{firsts, rows, scripts, Lex}
 
 -- ---- the calls
@@ -39,6 +39,8 @@ InRange K W N (issue r w S) = (r ≡ 0) × (w < W) × (S < 2 ^ K)
 InRange K W N (dropRun r) = r ≡ 0
 InRange K W N (allow o n) = ⊥
 InRange K W N pick = ⊥
+InRange K W N (mayhold o m) = ⊥
+InRange K W N (maysave w m) = ⊥
 InRange K W N (ask q) = ⊥
 
 -- ---- the order
@@ -54,6 +56,8 @@ kindOf (issue r w S) = 4
 kindOf (dropRun r) = 5
 kindOf (allow o n) = 6
 kindOf pick = 6
+kindOf (mayhold o m) = 6
+kindOf (maysave w m) = 6
 kindOf (ask q) = 6
 
 -- Its numbers, from the left.
@@ -67,6 +71,8 @@ argumentsOf (issue r w S) = r ∷ w ∷ S ∷ []
 argumentsOf (dropRun r) = r ∷ []
 argumentsOf (allow o n) = o ∷ n ∷ []
 argumentsOf pick = []
+argumentsOf (mayhold o m) = o ∷ m ∷ []
+argumentsOf (maysave w m) = w ∷ m ∷ []
 argumentsOf (ask q) = []
 
 -- A call in words: its kind, then its numbers.

@@ -1,7 +1,7 @@
 -- Laws of the mask of a set, of how many items it has, and of the union of masks.
 -- Assumes nothing.
 use mathlib.Core.Path.{_≡_, refl, sym, ap, _∙_}
-use mathlib.Core.Bool.{Bool, true, false, not, So}
+use mathlib.Core.Bool.{Bool, true, false, not, So, _&&_}
 use mathlib.Core.Logic.{⊎-elim}
 use Prim.Native.Nat.{ℕ, zero, suc, _+_, _^_, _≤_, _<_}
 use native.Mathlib.Omega.{arith}
@@ -12,10 +12,10 @@ use lib.Pow.{pow-pos}
 use lib.Bits.{bitOr, or-lt}
 use Rattle.words.specs.Tests.{Items, anyBelow}
 use Rattle.words.specs.Numbers.{when, countBelow}
-use Rattle.words.proofs.Bools.{test, clash, same-test, not-intro, not-elim, eqb-eq, eq-eqb}
+use Rattle.words.proofs.Bools.{test, clash, same-test, not-intro, not-elim, not-not, eqb-eq, eq-eqb}
 use Rattle.words.proofs.Tests.{below-cases, below-or-not, any-some, any-none, any-no, any-same}
-use Rattle.masks.specs.Mask.{testBit, withIf, maskBelow, unionBelow}
-use Rattle.masks.proofs.Bits.{test-or, test-none, test-with-same, test-with-other, test-high, mask-ext, with-if-lt}
+use Rattle.masks.specs.Mask.{testBit, withIf, maskBelow, unionBelow, without}
+use Rattle.masks.proofs.Bits.{test-or, test-none, test-with-same, test-with-other, test-high, mask-ext, with-if-lt, test-without, without-lt}
 
 -- ---- the mask of a set
 
@@ -100,6 +100,15 @@ mask-some n m h e =
     let any = anyBelow n (testBit m) in
     let found = test any (λ y. y) (λ z. clash (mask-none n m h ∙ not-intro z) e) in
     let r = any-some n (testBit m) found in (r .0, r .2)
+
+-- Items of a that aren't in b.
+pub without-some : (n a b : ℕ) → a < 2 ^ n
+    → not (eqb (without a b) 0) ≡ anyBelow n (λ i. testBit a i && not (testBit b i))
+without-some n a b h =
+    ap not (mask-none n (without a b) (without-lt a b n h))
+    ∙ not-not (anyBelow n (testBit (without a b)))
+    ∙ any-same n (testBit (without a b)) (λ i. testBit a i && not (testBit b i))
+    (λ i _. test-without a b i)
 
 pub set-none : (n : ℕ) (p : Items) → eqb (maskBelow n p) 0 ≡ not (anyBelow n p)
 set-none n p =

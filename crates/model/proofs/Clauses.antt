@@ -17,9 +17,10 @@ use Rattle.clock.specs.Clock.{exceeds, standing, present}
 use Rattle.sizes.specs.Bounds.{countsOf, between}
 use Rattle.model.specs.Algebra.{Place}
 use Rattle.model.specs.Version.{Version, unheld, held}
+use Rattle.model.specs.Tail.{barred}
 use Rattle.model.specs.Store.{Job, Run, noJob, noJobs, emptyPlace, freeRun, fresh, planned, doneReads, siteWith, withMaster, withSites, withCache, withRun, withTail, withRound}
 use Rattle.model.specs.Allowance.{heldCount, over}
-use Rattle.model.specs.Form.{zeroRows, zeroVersion, leadersFormed, versionFormed, placeFormed, validJob, zeroJob, freeFormed, jobsFormed, masksFormed, snapshotFormed, runFormed, siteFormed, wellFormed}
+use Rattle.model.specs.Form.{zeroRows, zeroVersion, leadersFormed, versionFormed, placeFormed, validJob, zeroJob, freeFormed, jobsFormed, masksFormed, snapshotFormed, runFormed, siteFormed, rightsFormed, tailFormed, wellFormed}
 use Rattle.model.specs.Marks.{isStale, staleMask}
 use Rattle.model.proofs.Readings.{led, version, place}
 
@@ -194,9 +195,9 @@ pub record Clauses : Type 0 where
 pub clauses : Clauses
 unfolding anyBelow allBelow putAt testBit withBit withIf maskBelow present between held fresh
     planned doneReads withMaster withSites withCache withRun withTail zeroRows zeroVersion
-    leadersFormed versionFormed placeFormed
-    validJob zeroJob freeFormed jobsFormed masksFormed snapshotFormed runFormed siteFormed
-    wellFormed isStale staleMask siteWith exceeds standing when countBelow heldCount over
+    leadersFormed versionFormed placeFormed validJob zeroJob freeFormed jobsFormed masksFormed
+    snapshotFormed runFormed siteFormed rightsFormed tailFormed barred wellFormed isStale
+    staleMask siteWith exceeds standing when countBelow heldCount over
 clauses = record {
   of-version = record {
     nothing = refl;

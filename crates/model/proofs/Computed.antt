@@ -1,12 +1,12 @@
--- The readings and the scripts computed by the definitions; those of later calls: Computed/.
+-- The readings and the scripts computed by the definitions; those of later calls: Computed/. Those
+-- of change requests 6 to 9 are computed in Computed/Later.
 -- Assumes nothing.
 use mathlib.Core.Path.{_≡_, refl}
-use mathlib.Core.Bool.{true, false}
+use mathlib.Core.Bool.{true}
 use mathlib.Core.List.{[], _∷_}
 use lib.ListN.{replicate}
 use Rattle.words.specs.Tests.{anyBelow, allBelow, only}
 use Rattle.words.specs.Numbers.{when, countBelow, foldBelow}
-use Rattle.words.specs.Turns.{firstBelow, turn}
 use Rattle.words.specs.Lists.{putAt, upto, blocks}
 use Rattle.masks.specs.Mask.{testBit, withBit, withIf, maskBelow}
 use Rattle.reach.specs.Closure.{closure, rounds, round}
@@ -17,21 +17,19 @@ use Rattle.model.specs.Algebra.{lacking, needsMet, causalCut, overlappin
 use Rattle.model.specs.Version.{held, dependency, supersedes, leadsOn, mergedLeaders, larger, merge}
 use Rattle.model.specs.Sets.{draws, drawSet, fetchSet, fetched, unfetchable, evictSet, evicted, pullSet, pulled}
 use Rattle.model.specs.Store.{fresh, planned, doneReads, siteWith, withMarks, withMaster, withLast, withSites, withCache, withCaches, withWriter, withRun, withState, withSnapshot, withJobDone, withTail}
-use Rattle.model.specs.Form.{zeroRows, zeroVersion, leadersFormed, versionFormed, placeFormed, validJob, zeroJob, freeFormed, jobsFormed, masksFormed, snapshotFormed, runFormed, siteFormed, wellFormed}
+use Rattle.model.specs.Form.{zeroRows, zeroVersion, leadersFormed, versionFormed, placeFormed, validJob, zeroJob, freeFormed, jobsFormed, masksFormed, snapshotFormed, runFormed, siteFormed, rightsFormed, tailFormed, wellFormed}
 use Rattle.model.specs.Marks.{isStale, staleMask}
 use Rattle.model.specs.Allowance.{heldCount, over}
-use Rattle.model.specs.Calls.Allow.{allowCause, allowDone, allowRule}
 use Rattle.model.specs.Calls.Stale.{staleCause, staleReply}
-use Rattle.model.specs.Calls.Admit.{everyPlace, everyVersion, everyPast, causalCuts, overlappingCuts, masterCovers, countsWithin, numberWithin, admissible, admitCause, admitReply}
 use Rattle.model.specs.Outcome.{answer, refuse, unless, replied, allowed, runCause}
 use Rattle.model.specs.Caches.{fetchCause, fetchDone, fetchRule, evictCause, evictDone, evictRule}
 use Rattle.model.specs.Runs.{listedJob, listedCount, listedJobs, listValid, openCause, openedRun, openDone, openRule, dropCause, dropDone, dropRule}
-use Rattle.model.specs.Prepare.{jobStart, fetchReads, preparedCaches, unpreparable, usesSite, sitesMerged, siteCaches, anyOver, prepareCause, prepareCaches, prepareSnapshot, prepareDone, prepareRule}
-use Rattle.model.specs.Step.{readStart, stepSite, stepReads, stepStart, stepFetch, stepCache, stepPlan, stepPull, stepSnapshot, stepMoved, jobLimit, notReady, jobCause, stepCause, stepBroken, stepDone, stepRule}
+use Rattle.model.specs.Prepare.{jobStart, fetchReads, preparedCaches, unentitled, unpreparable, usesSite, sitesMerged, siteCaches, anyOver, prepareCause, prepareCaches, prepareSnapshot, prepareDone, prepareRule}
+use Rattle.model.specs.Step.{readStart, stepSite, stepReads, stepStart, stepFetch, stepCache, stepPlan, stepPull, stepSnapshot, stepMoved, stepBarred, jobLimit, notReady, jobCause, stepCause, stepBroken, stepDone, stepRule}
 use Rattle.model.specs.Issue.{raiseCause, issueCause, takenIn, rowsSet, newPast, newVersion, issuedMaster, issuedWriter, savedStore, issuedStore, issuedNumber, issueDone, issueRule}
 use Rattle.model.specs.Calls.Look.{lookPlace, lookLimit, lookCause, rowNumbers, lookStanding, lookNumbers, lookReply}
 use Rattle.model.specs.Calls.Explain.{explainStart, explainEdge, explainGoal, explainPath, breaks, explainReply}
-use Rattle.model.specs.Calls.Pick.{ready, waiting, readyJob, pickTurn, pickedRun, pickDone, pickRule}
+use Rattle.model.specs.Tail.{barred}
 use Rattle.model.specs.Calls.{replyOf, ruleOf}
 use Rattle.model.proofs.Readings.{marked, sentences, unmarked, limits, shelved}
 use Rattle.model.proofs.Computed.Look.{looked}
@@ -40,9 +38,6 @@ use Rattle.model.proofs.Leaders as leaders
 use Rattle.model.proofs.Computed.Stale as stales
 use Rattle.model.proofs.Computed.Explain as explained
 use Rattle.model.proofs.Computed.Orders as ordered
-use Rattle.model.proofs.Computed.Admit as admits
-use Rattle.model.proofs.Computed.Allow as allows
-use Rattle.model.proofs.Computed.Pick as picks
 pub mod Look
 pub mod Explain
 pub mod Stale
@@ -50,6 +45,8 @@ pub mod Orders
 pub mod Admit
 pub mod Allow
 pub mod Pick
+pub mod Rights
+pub mod Later
 
 -- The ten marked readings pass, and each script is answered as it should be, answer by answer.
 pub record Computed : Type 0 where
@@ -94,15 +91,6 @@ pub record Computed : Type 0 where
   pub marks-ahead : stales.lent-ahead ≡ stales.lent-answers
   pub marks-lent : stales.lent ≡ replicate 7 true
   pub marks-asked : stales.unmarked ≡ replicate 5 true
-  pub round-about : answers picks.round-script (fresh (countsOf 1 1 1 3)) ≡ picks.round-answers
-  pub first-run : answers picks.first-script (fresh (countsOf 1 1 1 3)) ≡ picks.first-answers
-  pub round-left : answers picks.left-script (fresh (countsOf 1 1 1 2)) ≡ picks.left-answers
-  pub unfetched : answers picks.unfetched-script (fresh (countsOf 2 1 2 3))
-      ≡ picks.unfetched-answers
-  pub broken-run : answers picks.broken-script (fresh (countsOf 2 1 2 2)) ≡ picks.broken-answers
-  pub upstreams : answers picks.upstream-script (fresh (countsOf 1 1 1 1))
-      ≡ picks.upstream-answers
-  pub ready-jobs : picks.readyJobs ≡ true ∷ false ∷ false ∷ []
   pub passing : explained.toldAfter
       (explained.passing-before (0 ∷ 1 ∷ 0 ∷ 1 ∷ 4 ∷ 0 ∷ 1 ∷ 2 ∷ 0 ∷ [])) explained.passing-calls
       (fresh (countsOf 3 4 2 2)) ≡ explained.passing-answers
@@ -134,45 +122,28 @@ pub record Computed : Type 0 where
       (fresh (countsOf 3 4 2 2)) ≡ ordered.shelf-answers
   pub full : ordered.full-told ≡ ordered.full-answers
   pub cards : ordered.cards ≡ replicate 6 true
-  pub admitted : admits.taken ≡ replicate 5 true
-  pub not-admitted : admits.turned-down ≡ replicate 9 true
-  pub unchained : answers admits.listed-calls (admits.listed 0) ≡ admits.listed-answers
-  pub unchained-rows : admits.listed-rows ≡ replicate 2 true
-  pub listed-twice : answers admits.broken-calls (admits.listed 2) ≡ admits.broken-answers
-  pub past-kept : answers (admits.past-calls 1) admits.written ≡ admits.past-answers
-  pub own-past : answers (admits.past-calls 0) admits.written ≡ admits.own-answers
-  pub hidden : answers allows.hidden-script (fresh (countsOf 2 1 2 2)) ≡ allows.hidden-answers
-  pub counted : answers allows.held-script (fresh (countsOf 3 1 1 2)) ≡ allows.held-answers
-  pub by-office : answers allows.jobs-script (fresh (countsOf 4 2 2 2)) ≡ allows.jobs-answers
-  pub any-office : answers allows.any-script (fresh (countsOf 2 1 2 1)) ≡ allows.any-answers
-  pub lacks : answers allows.first-script (fresh (countsOf 2 1 1 1)) ≡ allows.first-answers
-  pub any-lacks : answers allows.sites-script (fresh (countsOf 2 1 2 1)) ≡ allows.sites-answers
-  pub kept : answers allows.kept-script (fresh (countsOf 2 1 1 2)) ≡ allows.kept-answers
-  pub bounds : allows.bounded ≡ replicate 4 true
 
 pub computed : Computed
 unfolding needsMet causalCut overlappingCut concurrent doneReads zeroRows zeroVersion
     leadersFormed versionFormed placeFormed zeroJob freeFormed jobsFormed masksFormed
-    snapshotFormed runFormed siteFormed wellFormed isStale staleMask siteWith withMarks
-    staleCause staleReply when countBelow heldCount over anyOver allowCause allowDone allowRule
-    anyBelow allBelow only foldBelow putAt upto blocks testBit withBit withIf maskBelow closure
-    rounds round exceeds standing dominates present join between lacking held dependency
-    supersedes leadsOn mergedLeaders larger merge draws drawSet fetchSet fetched unfetchable
-    evictSet evicted pullSet pulled fresh planned withMaster withLast withSites withCache
-    withCaches withWriter withRun withState withSnapshot withJobDone withTail validJob answer
-    refuse unless allowed runCause fetchCause fetchDone fetchRule evictCause evictDone evictRule
-    listedJob listedCount listedJobs listValid openCause openedRun openDone openRule dropCause
-    dropDone dropRule jobStart fetchReads preparedCaches unpreparable usesSite sitesMerged
-    siteCaches prepareCause prepareCaches prepareSnapshot prepareDone prepareRule readStart
+    snapshotFormed runFormed siteFormed rightsFormed tailFormed wellFormed isStale staleMask
+    siteWith withMarks staleCause staleReply when countBelow heldCount over anyOver anyBelow
+    allBelow only foldBelow putAt upto blocks testBit withBit withIf maskBelow closure rounds
+    round exceeds standing dominates present join between lacking held dependency supersedes
+    leadsOn mergedLeaders larger merge draws drawSet fetchSet fetched unfetchable evictSet
+    evicted pullSet pulled fresh planned withMaster withLast withSites withCache withCaches
+    withWriter withRun withState withSnapshot withJobDone withTail validJob answer refuse unless
+    allowed runCause fetchCause fetchDone fetchRule evictCause evictDone evictRule listedJob
+    listedCount listedJobs listValid openCause openedRun openDone openRule dropCause dropDone
+    dropRule jobStart fetchReads preparedCaches unpreparable usesSite sitesMerged siteCaches
+    unentitled prepareCause prepareCaches prepareSnapshot prepareDone prepareRule readStart
     stepSite stepReads stepStart stepFetch stepCache stepPlan stepPull stepSnapshot stepMoved
-    jobLimit notReady jobCause stepCause stepBroken stepDone stepRule raiseCause issueCause
-    takenIn rowsSet newPast newVersion issuedMaster issuedWriter savedStore issuedStore
-    issuedNumber issueDone issueRule lookPlace lookLimit lookCause rowNumbers lookStanding
-    lookNumbers lookReply explainStart explainEdge explainGoal explainPath breaks explainReply
-    lowest near distance nearest pathBy shortestPath everyPlace everyVersion everyPast
-    causalCuts overlappingCuts masterCovers countsWithin numberWithin admissible admitCause
-    admitReply replied replyOf firstBelow turn ready waiting readyJob pickTurn pickedRun
-    pickDone pickRule ruleOf
+    stepBarred barred jobLimit notReady jobCause stepCause stepBroken stepDone stepRule
+    raiseCause issueCause takenIn rowsSet newPast newVersion issuedMaster issuedWriter
+    savedStore issuedStore issuedNumber issueDone issueRule lookPlace lookLimit lookCause
+    rowNumbers lookStanding lookNumbers lookReply explainStart explainEdge explainGoal
+    explainPath breaks explainReply lowest near distance nearest pathBy shortestPath replied
+    replyOf ruleOf
 computed = record {
   ten = refl;
   texts = refl;
@@ -209,13 +180,6 @@ computed = record {
   marks-ahead = refl;
   marks-lent = refl;
   marks-asked = refl;
-  round-about = refl;
-  first-run = refl;
-  round-left = refl;
-  unfetched = refl;
-  broken-run = refl;
-  upstreams = refl;
-  ready-jobs = refl;
   passing = refl;
   unplanned = refl;
   planned-path = refl;
@@ -232,19 +196,4 @@ computed = record {
   by-shelf = refl;
   full = refl;
   cards = refl;
-  admitted = refl;
-  not-admitted = refl;
-  unchained = refl;
-  unchained-rows = refl;
-  listed-twice = refl;
-  past-kept = refl;
-  own-past = refl;
-  hidden = refl;
-  counted = refl;
-  by-office = refl;
-  any-office = refl;
-  lacks = refl;
-  any-lacks = refl;
-  kept = refl;
-  bounds = refl;
 }

@@ -9,14 +9,17 @@ pub mod Needs
 pub mod Cuts
 pub mod Draws
 pub mod Allowances
+pub mod Rights
 pub mod Twice
 pub mod AtOnce
 pub mod Pulls
 pub mod Steps
 pub mod DoneReads
+pub mod FormedPlaces
 pub mod Formed
 pub mod FormedNext
 pub mod Plans
+pub mod Entitled
 pub mod Marked
 pub mod Admits
 pub mod Sufficing

@@ -16,14 +16,15 @@ use Rattle.words.proofs.Tests.{below-or-not, all-intro, all-at}
 use Rattle.masks.specs.Mask.{testBit, maskBelow}
 use Rattle.masks.proofs.Bits.{test-none}
 use Rattle.sizes.specs.declared.Counts.{Counts}
-use Rattle.sizes.specs.Bounds.{maxJobs, between}
+use Rattle.sizes.specs.Bounds.{between}
+use Rattle.sizes.specs.Runs.{maxJobs}
 use Rattle.sizes.proofs.Offsets.{between-out, between-in}
 use Rattle.model.specs.Algebra.{Place, implies}
 use Rattle.model.specs.Version.{Version, unheld, held}
 use Rattle.model.specs.Store.{Job, Run, freeRun, noJob, planned, doneReads}
 use Rattle.model.specs.Form.{validJob, zeroJob, zeroVersion, versionFormed, placeFormed, freeFormed, jobsFormed, masksFormed, snapshotFormed, runFormed}
 use Rattle.model.proofs.Cuts.{implies-in, implies-out}
-use Rattle.model.proofs.Formed.{PlaceFormed, place-out, place-in, zero-version}
+use Rattle.model.proofs.FormedPlaces.{PlaceFormed, place-out, place-in, zero-version}
 
 -- ---- jobs
 

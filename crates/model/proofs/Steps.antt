@@ -21,7 +21,7 @@ use Rattle.model.specs.Sets.{unfetchable}
 use Rattle.model.specs.Store.{Run, Store, planned, withJobDone}
 use Rattle.model.specs.Allowance.{over}
 use Rattle.model.specs.Outcome.{refuse, allowed, stepRow, freeState}
-use Rattle.model.specs.Step.{readStart, stepBranch, stepSite, stepReads, stepStart, stepCache, stepPlan, stepPull, stepSnapshot, jobLimit, notReady, jobCause, stepCause}
+use Rattle.model.specs.Step.{readStart, stepBranch, stepSite, stepReads, stepStart, stepCache, stepPlan, stepPull, stepSnapshot, stepBarred, jobLimit, notReady, jobCause, stepCause}
 use Rattle.model.proofs.Outcomes.{no-cause, no-lack, allowed-used}
 use Rattle.model.proofs.Draws.{lacking-iff, fetched-held, pulled-out}
 use Rattle.model.proofs.Pulls.{pulled-held, pulled-keeps, pulled-planned, pulled-overlap}
@@ -32,6 +32,7 @@ pub record Accepted (s : Store) (r j : ℕ) : Type 0 where
   pub open-run : So (allowed stepRow (s .run r .state))
   pub job-in : j < s .run r .jobs
   pub ready : notReady (s .run r .done) (s .run r .job j .upstream) j ≡ false
+  pub entitled : stepBarred s r j ≡ false
   pub fetchable : unfetchable (versions (s .counts .writers)) (s .counts .keys) (s .master)
       (stepStart s r j) ≡ false
   pub fits : over (s .counts) (s .site (stepSite s r j)) (stepCache s r j) ≡ false
@@ -58,13 +59,15 @@ accepted s r j e =
     let b = no-cause (leb limit j) 3 _ (omega arith) (a .1) in
     let c = no-lack (allowed stepRow (s .run r .state)) 4 _ (omega arith) (b .1) in
     let d = no-cause (notReady (x .done) (x .job j .upstream) j) 6 _ (omega arith) (c .1) in
-    let f = no-cause _ 7 _ (omega arith) (d .1) in
+    let h = no-cause (stepBarred s r j) 13 _ (omega arith) (d .1) in
+    let f = no-cause _ 7 _ (omega arith) (h .1) in
     let g = no-cause _ 12 0 (omega arith) (f .1) in
     record {
       run-in = leb-gt (s .counts .runs) r (a .0);
       open-run = c .0;
       job-in = rw (job-limit (x .state) (x .jobs) (c .0)) at (leb-gt limit j (b .0));
       ready = d .0;
+      entitled = h .0;
       fetchable = f .0;
       fits = g .0;
     }
@@ -87,9 +90,10 @@ module _ (s : Store) (r j : ℕ) where
 
   pub step-below : r < s .counts .runs → let n = jobCause (s .run r) j 0 in
       stepCause s r j
-      ≡ cond (eqb n 0) (refuse (unfetchable (versions (s .counts .writers)) (s .counts .keys)
-      (s .master) (stepStart s r j)) 7
-      (refuse (over (s .counts) (s .site (stepSite s r j)) (stepCache s r j)) 12 0)) n
+      ≡ cond (eqb n 0) (refuse (stepBarred s r j) 13
+      (refuse (unfetchable (versions (s .counts .writers)) (s .counts .keys) (s .master)
+      (stepStart s r j)) 7
+      (refuse (over (s .counts) (s .site (stepSite s r j)) (stepCache s r j)) 12 0))) n
   unfolding stepCause jobCause refuse
   step-below h =
       let a = s .run r in

@@ -8,7 +8,7 @@ use native.Mathlib.Omega.{arith}
 use Rattle.words.proofs.Bools.{test, clash}
 use Rattle.clock.specs.Clock.{Clock, present}
 use Rattle.clock.proofs.Order.{dominates-trans, present-mono, present-some}
-use Rattle.sizes.specs.Bounds.{maxJobs}
+use Rattle.sizes.specs.Runs.{maxJobs}
 use Rattle.sizes.specs.declared.Counts.{Counts}
 use Rattle.model.specs.Algebra.{everything, needsMet, causalCut}
 use Rattle.model.specs.Version.{held, versions}
@@ -16,7 +16,8 @@ use Rattle.model.specs.Store.{Run, Store, planned}
 use Rattle.model.specs.Form.{runFormed}
 use Rattle.model.proofs.Needs.{dependency-iff, supersedes-iff}
 use Rattle.model.proofs.Cuts.{needsMet-intro, overlappingCut-intro, overlappingCut-at}
-use Rattle.model.proofs.Formed.{Formed, version-zero}
+use Rattle.model.proofs.FormedPlaces.{version-zero}
+use Rattle.model.proofs.Formed.{Formed}
 use Rattle.model.proofs.Plans.{free-out, free-or-plan}
 use Rattle.model.proofs.Admits.{EveryVersion, EveryPast, Covered, Counted, Admissible}
 

@@ -8,6 +8,7 @@ pub mod Stale
 pub mod Admit
 pub mod Allow
 pub mod Pick
+pub mod Rights
 use mathlib.Core.List.{List}
 use Prim.Native.Nat.{ℕ}
 use Rattle.model.specs.Store.{Store}
@@ -23,6 +24,7 @@ use Rattle.model.specs.Calls.Stale.{staleReply}
 use Rattle.model.specs.Calls.Admit.{admitReply}
 use Rattle.model.specs.Calls.Allow.{allowRule}
 use Rattle.model.specs.Calls.Pick.{pickRule}
+use Rattle.model.specs.Calls.Rights.{mayholdRule, maysaveRule}
 
 -- A call that only answers.
 pub data Query : Type 0 where
@@ -48,6 +50,8 @@ pub data StoreCall : Type 0 where
   dropRun : ℕ → StoreCall  -- run
   allow : ℕ → ℕ → StoreCall  -- office, number
   pick : StoreCall
+  mayhold : ℕ → ℕ → StoreCall  -- office, mask
+  maysave : ℕ → ℕ → StoreCall  -- writer, mask
   ask : Query → StoreCall
 
 unfoldable pub ruleOf : StoreCall → Store → Outcome
@@ -60,4 +64,6 @@ ruleOf (issue r w S) = issueRule r w S
 ruleOf (dropRun r) = dropRule r
 ruleOf (allow o n) = allowRule o n
 ruleOf pick = pickRule
+ruleOf (mayhold o m) = mayholdRule o m
+ruleOf (maysave w m) = maysaveRule w m
 ruleOf (ask q) = λ s. replied (replyOf q s)

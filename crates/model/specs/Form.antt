@@ -8,12 +8,14 @@ use lib.Dec.{eqb, leb, ltb}
 use Rattle.words.specs.Tests.{allBelow}
 use Rattle.masks.specs.Mask.{testBit, maskBelow}
 use Rattle.clock.specs.Clock.{present}
-use Rattle.sizes.specs.Bounds.{between, maxJobs}
+use Rattle.sizes.specs.Bounds.{between}
+use Rattle.sizes.specs.Runs.{maxJobs}
 use Rattle.sizes.specs.declared.Counts.{Counts}
 use Rattle.model.specs.Algebra.{Place, implies}
 use Rattle.model.specs.Version.{Version, held}
 use Rattle.model.specs.Marks.{staleMask}
-use Rattle.model.specs.Store.{Job, Run, Site, Tail, Store, planned, doneReads}
+use Rattle.model.specs.Tail.{Tail, barred}
+use Rattle.model.specs.Store.{Job, Run, Site, Store, planned, doneReads}
 use Rattle.model.specs.Allowance.{over}
 
 -- Only zero counts.
@@ -82,20 +84,28 @@ runFormed z r =
     (leb (r .state) 2 && (jobsFormed z r && (masksFormed z r && snapshotFormed z r)))
 
 -- CR 4: "Form asks it": the mark is true. CR 7: "one above K .. a stored one isn't in form", "No
--- shelf ever holds more (form asks it)".
-unfoldable pub siteFormed : Counts → Place Version → Site → Bool
-siteFormed z master x =
+-- shelf ever holds more (form asks it)". CR 9: "No shelf ever holds a sheet barred to its office
+-- (form asks it too)", by the mask of what it may hold.
+unfoldable pub siteFormed : Counts → Place Version → ℕ → Site → Bool
+siteFormed z master right x =
     placeFormed z (x .cache)
     && (eqb (x .stale) (staleMask z master (x .cache))
-    && (leb (x .allowance) (z .keys) && not (over z x (x .cache))))
+    && (leb (x .allowance) (z .keys) && (not (over z x (x .cache))
+    && not (barred (z .keys) right (λ k. held (x .cache k))))))
 
--- CR 8: the last picked run is "below P in form".
-abbrev pub tailFormed : Counts → Tail → Bool
-tailFormed z t = ltb (t .round) (z .runs)
+-- CR 9: "a bit at K or above .. a stored one isn't in form", of the masks of n.
+unfoldable pub rightsFormed : Counts → ℕ → (ℕ → ℕ) → Bool
+rightsFormed z n right = allBelow n (λ i. ltb (right i) (2 ^ z .keys))
+
+-- CR 8: the last picked run is "below P in form". CR 9: the masks.
+unfoldable pub tailFormed : Counts → Tail → Bool
+tailFormed z t =
+    ltb (t .round) (z .runs)
+    && (rightsFormed z (z .sites) (t .mayHold) && rightsFormed z (z .writers) (t .maySave))
 
 unfoldable pub wellFormed : Store → Bool
 wellFormed s =
     let z = s .counts in
     placeFormed z (s .master)
-    && (allBelow (z .sites) (λ o. siteFormed z (s .master) (s .site o))
+    && (allBelow (z .sites) (λ o. siteFormed z (s .master) (s .tail .mayHold o) (s .site o))
     && (allBelow (z .runs) (λ r. runFormed z (s .run r)) && tailFormed z (s .tail)))

@@ -2,6 +2,7 @@ pub mod Algebra
 pub mod Version
 pub mod Sets
 pub mod Marks
+pub mod Tail
 pub mod Store
 pub mod Allowance
 pub mod Form

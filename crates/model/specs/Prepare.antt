@@ -11,7 +11,8 @@ use Rattle.words.specs.Lists.{putAt}
 use Rattle.masks.specs.Mask.{testBit, maskBelow}
 use Rattle.model.specs.Algebra.{Algebra, Place, lacking}
 use Rattle.model.specs.Version.{Version, held, versions}
-use Rattle.model.specs.Sets.{fetched, unfetchable}
+use Rattle.model.specs.Sets.{fetchSet, fetched, unfetchable}
+use Rattle.model.specs.Tail.{barred}
 use Rattle.model.specs.Store.{Job, Store, planned, withCaches, withRun, withSnapshot}
 use Rattle.model.specs.Allowance.{over}
 use Rattle.model.specs.Outcome.{Outcome, done, refuse, unless, prepareRow, runCause}
@@ -29,6 +30,17 @@ module _ {A : Type 0} (alg : Algebra A) (K : ℕ) (master : Place A) (job : ℕ 
   -- "for each job in number order": the caches after the first n jobs' fetches.
   unfoldable pub preparedCaches : ℕ → (ℕ → Place A) → ℕ → Place A
   preparedCaches n cache = foldBelow n fetchReads cache
+
+  -- T of job j.
+  abbrev pub jobFetch : ℕ → (ℕ → Place A) → Items
+  jobFetch j cache = fetchSet alg K master (cache (job j .site)) (jobStart j cache)
+
+  -- CR 9: one of n jobs fetches a key that its site may not hold. A key that a job reads there and
+  -- that may not be held isn't in the cache (form asks it), so this job or an earlier one at the
+  -- site fetches it.
+  unfoldable pub unentitled : (ℕ → ℕ) → ℕ → (ℕ → Place A) → Bool
+  unentitled right n cache =
+      anyBelow n (λ j. barred K (right (job j .site)) (jobFetch j (preparedCaches j cache)))
 
   -- A key that one of n jobs has to fetch isn't held by the master.
   unfoldable pub unpreparable : ℕ → (ℕ → Place A) → Bool
@@ -66,9 +78,11 @@ prepareCause s r =
     let alg = versions (z .writers) in
     runCause s prepareRow r
     (refuse (not (eqb (a .done) 0)) 6
+    (refuse (unentitled alg (z .keys) (s .master) (a .job) (s .tail .mayHold) (a .jobs)
+    (siteCaches s)) 13
     (refuse (unpreparable alg (z .keys) (s .master) (a .job) (a .jobs) (siteCaches s)) 7
     (refuse (anyOver s (prepareCaches s r)) 12
-    0)))
+    0))))
 
 unfoldable pub prepareSnapshot : Store → ℕ → Place Version
 prepareSnapshot s r =

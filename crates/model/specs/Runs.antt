@@ -7,7 +7,8 @@ use lib.Dec.{eqb}
 use lib.ListN.{getD, length}
 use Rattle.words.specs.Tests.{allBelow}
 use Rattle.words.specs.Lists.{upto}
-use Rattle.sizes.specs.Bounds.{between, maxJobs, jobSize, readsOffset, upstreamOffset}
+use Rattle.sizes.specs.Bounds.{between}
+use Rattle.sizes.specs.Runs.{maxJobs, jobSize, readsOffset, upstreamOffset}
 use Rattle.sizes.specs.declared.Counts.{Counts}
 use Rattle.model.specs.Store.{Job, Run, Store, noJob, noBranch, freeRun, withRun}
 use Rattle.model.specs.Form.{validJob}

@@ -10,10 +10,11 @@ use lib.Bits.{bitOr}
 use lib.Dec.{eqb, leb}
 use Rattle.words.specs.Tests.{Items, anyBelow}
 use Rattle.masks.specs.Mask.{testBit, withBit, maskBelow}
-use Rattle.sizes.specs.Bounds.{maxJobs}
+use Rattle.sizes.specs.Runs.{maxJobs}
 use Rattle.model.specs.Algebra.{Algebra, Place, lacking}
 use Rattle.model.specs.Version.{Version, versions}
 use Rattle.model.specs.Sets.{fetchSet, fetched, unfetchable, pullSet, pulled}
+use Rattle.model.specs.Tail.{barred}
 use Rattle.model.specs.Store.{Branch, Run, Store, planned, withCache, withRun, withState, withJobDone}
 use Rattle.model.specs.Allowance.{over}
 use Rattle.model.specs.Outcome.{Outcome, broken, done, refuse, unless, allowed, stepRow, freeState, brokenState}
@@ -86,15 +87,22 @@ module _ (s : Store) (r j : ℕ) where
   unfoldable pub stepMoved : Items
   stepMoved k = stepPull k && testBit (stepBranch .read) k
 
+  -- CR 9: "a barred sheet in T stops the fetch", and "a job may not read it at that office, even
+  -- from the card".
+  unfoldable pub stepBarred : Bool
+  stepBarred =
+      barred (s .counts .keys) (s .tail .mayHold stepSite) (λ k. stepReads k || stepFetch k)
+
   -- CR 7: "Over the allowance is 12, .. before a break", of the cache as the fetch would leave it.
   unfoldable pub stepCause : ℕ
   stepCause =
       let alg = versions (s .counts .writers) in
       refuse (leb (s .counts .runs) r) 3
       (jobCause (s .run r) j
+      (refuse stepBarred 13
       (refuse (unfetchable alg (s .counts .keys) (s .master) stepStart) 7
       (refuse (over (s .counts) (s .site stepSite) stepCache) 12
-      0)))
+      0))))
 
   -- "its state becomes 2, nothing else changes (the shelf too is as before the fetch)"
   unfoldable pub stepBroken : Outcome

@@ -1,10 +1,9 @@
 -- The store ("desk"): what a buffer of words stands for.
 -- Writer, Job, Branch (read mask and card), Run, Site (an office: its shelf, stale mark and
--- allowance), Tail (behind the runs), Store; planned ("plan's sheets"), doneReads; with..: one
--- part changed.
+-- allowance), Store; planned ("plan's sheets"), doneReads; with..: one part changed.
 -- Assumes nothing.
 use mathlib.Core.Bool.{cond, _&&_}
-use Prim.Native.Nat.{ℕ, _-_}
+use Prim.Native.Nat.{ℕ}
 use lib.Dec.{ltb}
 use Rattle.words.specs.Tests.{Items, anyBelow}
 use Rattle.words.specs.Lists.{putAt}
@@ -14,6 +13,7 @@ use Rattle.sizes.specs.declared.Counts.{Counts}
 use Rattle.model.specs.Algebra.{Place}
 use Rattle.model.specs.Version.{Version, zeroPast, unheld}
 use Rattle.model.specs.Marks.{staleMask}
+use Rattle.model.specs.Tail.{Tail, freshTail, tailRound, tailHold, tailSave}
 
 -- "a writer's count, then its past"
 pub record Writer : Type 0 where
@@ -45,10 +45,6 @@ pub record Site : Type 0 where
   pub cache : Place Version
   pub stale : ℕ
   pub allowance : ℕ
-
--- What stands behind the runs. round: "The last picked run" (CR 8).
-pub record Tail : Type 0 where
-  pub round : ℕ
 
 -- last: the last issue number.
 pub record Store : Type 0 where
@@ -83,9 +79,6 @@ noBranch = record { read = 0; snapshot = emptyPlace }
 abbrev pub freeRun : Run
 freeRun = record { state = 0; jobs = 0; done = 0; job = noJobs; branch = noBranch }
 
-abbrev pub noTail : Tail
-noTail = record { round = 0 }
-
 -- A site with another cache, mark or allowance: its other words stay.
 abbrev pub siteCached : Site → Place Version → Site
 siteCached x p = record { cache = p; stale = x .stale; allowance = x .allowance }
@@ -99,10 +92,6 @@ siteAllowed x n = record { cache = x .cache; stale = x .stale; allowance = n }
 -- A site of a fresh store. CR 7: "K on a new desk".
 abbrev pub freshSite : Counts → ℕ → Site
 freshSite z o = siteAllowed noSite (cond (ltb o (z .sites)) (z .keys) 0)
-
--- "P - 1 on a new desk" (CR 8)
-abbrev pub freshTail : Counts → Tail
-freshTail z = record { round = z .runs - 1 }
 
 -- "a fresh desk: nothing held, every run free, all counts zero"
 unfoldable pub fresh : Counts → Store
@@ -212,12 +201,14 @@ withTail s t = record {
   tail = t;
 }
 
--- Another last picked run: the tail's other words stay.
-abbrev pub tailRound : Tail → ℕ → Tail
-tailRound t r = record { round = r }
-
 abbrev pub withRound : Store → ℕ → Store
 withRound s r = withTail s (tailRound (s .tail) r)
+
+abbrev pub withMayHold : Store → ℕ → ℕ → Store
+withMayHold s o m = withTail s (tailHold (s .tail) o m)
+
+abbrev pub withMaySave : Store → ℕ → ℕ → Store
+withMaySave s w m = withTail s (tailSave (s .tail) w m)
 
 -- ---- a run with one part changed
 

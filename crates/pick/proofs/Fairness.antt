@@ -40,7 +40,7 @@ turnsTo r l = turnOf (countsIn l .runs) (storeOf l .tail .round) r
 
 module _ (l : List ℕ) (F : So (inForm l)) where
   round-low : storeOf l .tail .round < countsIn l .runs
-  round-low = rw (← counts-in l) (well-out (storeOf l) (form-fine l F .formed) .tail)
+  round-low = rw (← counts-in l) (well-out (storeOf l) (form-fine l F .formed) .tail .round)
 
   same-runs : (c : StoreCall) → countsIn (after c l) .runs ≡ countsIn l .runs
   same-runs c =

@@ -35,7 +35,8 @@ module _ (l : List ℕ) (z : Counts) (H : FormWith l z) where
 
   pub round-low : storeOf l .tail .round < z .runs
   round-low =
-      rw (← form-counts l z H) (well-out (storeOf l) (form-fine l (H .form) .formed) .tail)
+      rw (← form-counts l z H)
+      (well-out (storeOf l) (form-fine l (H .form) .formed) .tail .round)
 
   pub used-open : (r : ℕ) → r < z .runs → storeOf l .run r .state ≡ openState → UsedRun l z r
   used-open r h e = record { form = H; run = h; used = omega (arith, e) }

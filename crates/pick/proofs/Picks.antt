@@ -85,7 +85,7 @@ module _ (l : List ℕ) where
   exact-words F w e =
       let s = storeOf l in
       rw (e, form-rule pick l F)
-      (rule-exact s (well-out s (form-fine l F .formed) .tail))
+      (rule-exact s (well-out s (form-fine l F .formed) .tail .round))
 
   -- z: the counts. last: the round. i: the turn of the first run that waits.
   module _ (z : Counts) (H : FormWith l z) (i : ℕ) (t : i ≡ pickTurn (storeOf l)) where

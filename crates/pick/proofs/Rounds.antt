@@ -7,7 +7,7 @@ use mathlib.Core.Logic.{_⊎_, inl, inr}
 use lib.Dec.{eqb}
 use Rattle.words.specs.Tests.{anyBelow}
 use Rattle.words.proofs.Bools.{test}
-use Rattle.model.specs.Store.{Store, withMaster, withLast, withSites, withCache, withCaches, withMarks, withWriter, withRun}
+use Rattle.model.specs.Store.{Store, withMaster, withLast, withSites, withCache, withCaches, withMarks, withWriter, withRun, withTail}
 use Rattle.model.specs.Outcome.{Outcome}
 use Rattle.model.specs.Caches.{fetchCause, fetchDone, fetchRule, evictCause, evictDone, evictRule}
 use Rattle.model.specs.Runs.{openCause, openDone, openRule, dropCause, dropDone, dropRule}
@@ -15,7 +15,8 @@ use Rattle.model.specs.Prepare.{prepareCause, prepareDone, prepareRule}
 use Rattle.model.specs.Step.{stepCause, stepMoved, stepBroken, stepDone, stepRule}
 use Rattle.model.specs.Issue.{issueCause, savedStore, issuedStore, issueDone, issueRule}
 use Rattle.model.specs.Calls.Allow.{allowCause, allowDone, allowRule}
-use Rattle.model.specs.Calls.{StoreCall, openRun, fetch, evict, prepare, step, issue, dropRun, allow, pick, ask, replyOf, ruleOf}
+use Rattle.model.specs.Calls.Rights.{rightCause, mayholdDone, mayholdRule, maysaveRule}
+use Rattle.model.specs.Calls.{StoreCall, openRun, fetch, evict, prepare, step, issue, dropRun, allow, pick, mayhold, maysave, ask, replyOf, ruleOf}
 use Rattle.model.proofs.Outcomes.{nextStore, unless-cases, replied-cases}
 
 -- An outcome leaves the round.
@@ -27,7 +28,7 @@ pub rule-round : (c : StoreCall) (s : Store) → (c ≡ pick) ⊎ Leaves s (rule
 unfolding ruleOf openRule openDone fetchRule fetchDone evictRule evictDone prepareRule prepareDone
     stepRule stepBroken stepDone issueRule issueDone issuedStore savedStore dropRule dropDone
     allowRule allowDone withMaster withLast withSites withCache withCaches withMarks withWriter
-    withRun
+    withRun mayholdRule mayholdDone maysaveRule withTail
 rule-round (openRun r l) s =
     inr (unless-cases (Leaves s) (openCause s r l) (openDone s r l) (λ _. refl) (λ _. refl))
 rule-round (fetch o k) s =
@@ -48,4 +49,9 @@ rule-round (dropRun r) s =
 rule-round (allow o n) s =
     inr (unless-cases (Leaves s) (allowCause s o n) (allowDone s o n) (λ _. refl) (λ _. refl))
 rule-round pick s = inl refl
+rule-round (mayhold o m) s =
+    inr (unless-cases (Leaves s) (rightCause s (s .counts .sites) o m) (mayholdDone s o m)
+    (λ _. refl) (λ _. refl))
+rule-round (maysave w m) s =
+    inr (unless-cases (Leaves s) (rightCause s (s .counts .writers) w m) _ (λ _. refl) (λ _. refl))
 rule-round (ask q) s = inr (replied-cases (Leaves s) (replyOf q s) refl refl)

@@ -12,7 +12,7 @@ use Rattle.words.specs.Tests.{anyBelow}
 use Rattle.words.proofs.Bools.{and-left, and-right, not-elim, eqb-eq, eq-eqb, ne-eqb, ltb-lt, gt-leb}
 use Rattle.words.specs.Turns.{firstBelow}
 use Rattle.words.proofs.Firsts.{first-passes, first-least, first-any}
-use Rattle.sizes.specs.Bounds.{maxJobs}
+use Rattle.sizes.specs.Runs.{maxJobs}
 use Rattle.model.specs.Store.{Run}
 use Rattle.model.specs.Outcome.{refuse, allowed, stepRow, openState}
 use Rattle.model.specs.Step.{notReady, jobLimit, jobCause}

@@ -12,7 +12,8 @@ use lib.Seq.{length-sets}
 use Rattle.words.proofs.Numbers.{fold-same}
 use Rattle.masks.specs.Mask.{testBit}
 use Rattle.sizes.specs.declared.Counts.{Counts}
-use Rattle.sizes.specs.Bounds.{everyJob, siteAt, snapshotAt}
+use Rattle.sizes.specs.Bounds.{siteAt, snapshotAt}
+use Rattle.sizes.specs.Runs.{everyJob}
 use Rattle.model.specs.Algebra.{Place}
 use Rattle.model.specs.Version.{Version, unheld, merge, versions}
 use Rattle.model.specs.Store.{emptyPlace, planned, withRun, withSnapshot}

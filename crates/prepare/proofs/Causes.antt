@@ -14,7 +14,7 @@ use Rattle.sizes.specs.declared.Counts.{Counts}
 use Rattle.model.specs.Version.{versions}
 use Rattle.model.specs.Store.{Store}
 use Rattle.model.specs.Outcome.{refuse, allowed, prepareRow, runCause}
-use Rattle.model.specs.Prepare.{unpreparable, siteCaches, anyOver, prepareCaches, prepareCause}
+use Rattle.model.specs.Prepare.{unentitled, unpreparable, siteCaches, anyOver, prepareCaches, prepareCause}
 use Rattle.model.proofs.Outcomes.{no-cause, no-lack, allowed-used, run-rest}
 use Rattle.layout.specs.Reading.{storeOf}
 use Rattle.form.specs.Parts.{FormWith}
@@ -61,36 +61,52 @@ cause-none s r e h = rw (run-rest s prepareRow r _, e, h)
 prepare-cause : (s : Store) (r : ℕ) → let z = s .counts in
     let a = s .run r in
     prepareCause s r
-    ≡ earlyCause s r (refuse (unpreparable (versions (z .writers)) (z .keys) (s .master) (a .job)
-    (a .jobs) (siteCaches s)) 7 (refuse (anyOver s (prepareCaches s r)) 12 0))
+    ≡ earlyCause s r
+    (refuse (unentitled (versions (z .writers)) (z .keys) (s .master) (a .job) (s .tail .mayHold)
+    (a .jobs) (siteCaches s)) 13
+    (refuse (unpreparable (versions (z .writers)) (z .keys) (s .master) (a .job) (a .jobs)
+    (siteCaches s)) 7
+    (refuse (anyOver s (prepareCaches s r)) 12 0)))
 unfolding prepareCause earlyCause
 prepare-cause s r = refl
 
 pub cause-early : (s : Store) (r n : ℕ) → n ≡ earlyCause s r 0 → n ≢ 0 → n ≡ prepareCause s r
 cause-early s r n e h = rw (prepare-cause s r, early-rest s r _, ← e, ne-eqb n 0 h)
 
--- b, c: what it finds of the keys to be fetched, and of the sites that take them.
-module _ (l : List ℕ) (z : Counts) (r : ℕ) (b : Bool) (H : FormWith l z)
+-- a, b, c: what it finds of the rights to the keys to be fetched, of these keys, and of the sites
+-- that take them.
+module _ (l : List ℕ) (z : Counts) (r : ℕ) (a b : Bool) (H : FormWith l z)
     (e : earlyCause (storeOf l) r 0 ≡ 0)
+    (d : a ≡ unentitled (versions (z .writers)) (z .keys) (storeOf l .master)
+    (storeOf l .run r .job) (storeOf l .tail .mayHold) (storeOf l .run r .jobs)
+    (siteCaches (storeOf l)))
     (f : b ≡ unpreparable (versions (z .writers)) (z .keys) (storeOf l .master)
     (storeOf l .run r .job) (storeOf l .run r .jobs) (siteCaches (storeOf l))) where
   rest : prepareCause (storeOf l) r
-      ≡ refuse b 7 (refuse (anyOver (storeOf l) (prepareCaches (storeOf l) r)) 12 0)
+      ≡ refuse a 13
+      (refuse b 7 (refuse (anyOver (storeOf l) (prepareCaches (storeOf l) r)) 12 0))
   rest =
       let s = storeOf l in
-      let g = f ∙ ap (λ (y : Counts). unpreparable (versions (y .writers)) (y .keys) (s .master)
-      (s .run r .job) (s .run r .jobs) (siteCaches s)) (sym (form-counts l z H)) in
-      rw (prepare-cause s r, early-rest s r _, e, ← g)
+      let same = sym (form-counts l z H) in
+      let g = d ∙ ap (λ (y : Counts). unentitled (versions (y .writers)) (y .keys) (s .master)
+      (s .run r .job) (s .tail .mayHold) (s .run r .jobs) (siteCaches s)) same in
+      let h = f ∙ ap (λ (y : Counts). unpreparable (versions (y .writers)) (y .keys) (s .master)
+      (s .run r .job) (s .run r .jobs) (siteCaches s)) same in
+      rw (prepare-cause s r, early-rest s r _, e, ← g, ← h)
 
-  pub cause-lacks : So b → 7 ≡ prepareCause (storeOf l) r
+  pub cause-barred : So a → 13 ≡ prepareCause (storeOf l) r
   unfolding refuse
-  cause-lacks y = rw (rest, y)
+  cause-barred x = rw (rest, x)
 
-  pub cause-over : b ≡ false → (c : Bool)
+  pub cause-lacks : a ≡ false → So b → 7 ≡ prepareCause (storeOf l) r
+  unfolding refuse
+  cause-lacks m y = rw (rest, m, y)
+
+  pub cause-over : a ≡ false → b ≡ false → (c : Bool)
       → c ≡ anyOver (storeOf l) (prepareCaches (storeOf l) r)
       → refuse c 12 0 ≡ prepareCause (storeOf l) r
   unfolding refuse
-  cause-over n c g = rw (rest, n, ← g)
+  cause-over m n c g = rw (rest, m, n, ← g)
 
 pub used-run : (l : List ℕ) (z : Counts) (r : ℕ) → FormWith l z
     → runCause (storeOf l) prepareRow r 0 ≡ 0 → UsedRun l z r

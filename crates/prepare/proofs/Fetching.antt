@@ -1,8 +1,8 @@
 -- What a run's jobs fetch, site by site.
 -- reads-..: what the jobs at a site read. start-..: what its cache lacks of that.
 -- prepared-cache: the cache after the fetches of a prepare.
--- sets-..: a mask for each site, as the code has it. sets-lacked: whether the master lacks a key.
--- sets-over: whether a site would hold too much.
+-- sets-..: a mask for each site, as the code has it. sets-barred: whether a site may not hold a
+-- key. sets-lacked: whether the master lacks one. sets-over: whether a site would hold too much.
 -- Assumes nothing.
 use mathlib.Core.Path.{_≡_, refl, sym, ap, _∙_, fun-ext}
 use mathlib.Core.Bool.{false, not, _&&_}
@@ -29,11 +29,12 @@ use Rattle.sizes.specs.Bounds.{Ranged, siteAt}
 use Rattle.model.specs.Algebra.{Algebra, Place, lacking}
 use Rattle.model.specs.Version.{Version, versions}
 use Rattle.model.specs.Sets.{fetched, unfetchable}
+use Rattle.model.specs.Tail.{barred}
 use Rattle.model.specs.Store.{Store}
-use Rattle.model.specs.Prepare.{unpreparable, siteCaches, anyOver, prepareCaches}
+use Rattle.model.specs.Prepare.{unentitled, unpreparable, siteCaches, anyOver, prepareCaches}
 use Rattle.model.specs.Allowance.{over}
 use Rattle.model.proofs.Draws.{fetched-none}
-use Rattle.model.proofs.AtOnce.{siteReads, prepared-at-once, unpreparable-sites}
+use Rattle.model.proofs.AtOnce.{siteReads, siteSet, prepared-at-once, unpreparable-sites, unentitled-sites}
 use Rattle.layout.specs.Reading.{readPlace, storeOf}
 use Rattle.layout.proofs.Readings.{cache-in}
 use Rattle.form.proofs.Known.{form-area, form-counts}
@@ -110,6 +111,14 @@ lacking-bits alg K p m h =
     fun-ext (λ k. ⊎-elim (test-mask K S k)
     (λ g. test-high (maskBelow K S) K k (mask-lt K S K (omega arith)) g
     ∙ rw (test-high m K k h g)) (below-or-not k K))
+
+-- The mask of a set is barred as the set is.
+mask-barred : (K right : ℕ) (S : Items)
+    → barred K right (testBit (maskBelow K S)) ≡ barred K right S
+unfolding barred
+mask-barred K right S =
+    any-same K (λ k. testBit (maskBelow K S) k && not (testBit right k))
+    (λ k. S k && not (testBit right k)) (λ k i. rw (test-mask K S k i))
 
 module _ (l : List ℕ) (z : Counts) (r : ℕ) (U : UsedRun l z r) where
   abbrev s : Store
@@ -213,4 +222,22 @@ module _ (l : List ℕ) (z : Counts) (r : ℕ) (U : UsedRun l z r) where
         (λ o h. taken-lacked z (s .master) (s .site o .cache) (start o) (setOf t o) (set-at o h)
         ∙ rw (reads-bits s r o))
         ∙ sym (unpreparable-sites alg (z .keys) (s .master) (a .job) (siteCaches s) (z .sites)
+        (a .jobs) (λ j i. job-known l z r U j i .site))
+
+    -- A site may not hold a key of these exactly if a job fetches one that its site may not hold.
+    pub sets-barred :
+        anyBelow (z .sites) (λ o. barred (z .keys) (s .tail .mayHold o) (testBit (setOf t o)))
+        ≡ unentitled (versions (z .writers)) (z .keys) (s .master) (s .run r .job)
+        (s .tail .mayHold) (s .run r .jobs) (siteCaches s)
+    unfolding takenAt siteCaches
+    sets-barred =
+        let alg = versions (z .writers) in
+        let a = s .run r in
+        let right = s .tail .mayHold in
+        any-same (z .sites) (λ o. barred (z .keys) (right o) (testBit (setOf t o)))
+        (λ o. barred (z .keys) (right o)
+        (siteSet alg (z .keys) (s .master) (a .job) (siteCaches s) (a .jobs) o))
+        (λ o h. rw (set-at o h, ← reads-bits s r o)
+        (mask-barred (z .keys) (right o) (takenAt z s r o)))
+        ∙ sym (unentitled-sites alg (z .keys) (s .master) (a .job) (siteCaches s) right (z .sites)
         (a .jobs) (λ j i. job-known l z r U j i .site))

@@ -20,10 +20,13 @@ use Rattle.masks.specs.Mask.{testBit, maskBelow}
 use Rattle.sizes.specs.declared.Counts.{Counts}
 use Rattle.model.specs.Algebra.{Place}
 use Rattle.model.specs.Version.{Version, held}
+use Rattle.model.specs.Tail.{barred}
 use Rattle.model.specs.Store.{Site, Store, siteWith, withSites, withCache, withCaches}
 use Rattle.model.specs.Allowance.{heldCount}
 use Rattle.model.specs.Prepare.{prepareCaches}
-use Rattle.model.proofs.Formed.{well-out, formed-choice}
+use Rattle.model.proofs.FormedPlaces.{formed-choice}
+use Rattle.model.proofs.Formed.{well-out}
+use Rattle.model.proofs.Rights.{unbarred-at, unbarred-in}
 use Rattle.model.proofs.FormedNext.{formed-caches}
 use Rattle.layout.specs.Reading.{storeOf}
 use Rattle.layout.specs.Buffer.{written}
@@ -90,11 +93,22 @@ taken-less z x master m e =
           (λ n. or-right (testBit m k) (rw n at h))),
     )
 
+-- Nothing barred is held with keys that aren't barred.
+taken-right : (K m : ℕ) (S : Items) (master cache : Place Version) → barred K m S ≡ false
+    → barred K m (λ k. held (cache k)) ≡ false
+    → barred K m (λ k. held (choice S master cache k)) ≡ false
+taken-right K m S master cache u v =
+    unbarred-in K m (λ k. held (choice S master cache k)) (λ k i p.
+    test (S k) (unbarred-at K m S u k i)
+    (λ n. unbarred-at K m (λ k. held (cache k)) v k i (rw n at p)))
+
 sites-fine : (s : Store) (f : ℕ → ℕ) (n : ℕ) → n ≤ s .counts .sites → Fine s
+    → ((o : ℕ) → o < s .counts .sites
+    → barred (s .counts .keys) (s .tail .mayHold o) (testBit (f o)) ≡ false)
     → ((o : ℕ) → o < s .counts .sites → takesOver (s .counts) (s .site o) (f o) ≡ false)
     → Fine (takenSites s f n)
 unfolding takenSites withCaches withSites
-sites-fine s f n h F room =
+sites-fine s f n h F right room =
     let z = s .counts in
     let G = well-out s (F .formed) in
     let taken : ℕ → Place Version = λ o.
@@ -112,14 +126,18 @@ sites-fine s f n h F room =
     (λ y. rw y (
       formed-choice z (testBit (f o)) (s .master) (s .site o .cache) (G .master) (G .cache o i),
       taken-less z (s .site o) (s .master) (f o) (room o i),
+      taken-right (z .keys) (s .tail .mayHold o) (testBit (f o)) (s .master) (s .site o .cache)
+          (right o i) (G .right o i),
     ))
-    (λ y. rw y (G .cache o i, G .room o i .1))) in
+    (λ y. rw y (G .cache o i, G .room o i .1, G .right o i))) in
     fine-next s (takenSites s f n) F fits formed refl
 
 -- ---- l: the buffer before, and m: after the first n sites
 
-module _ (l : List ℕ) (z : Counts) (H : FormWith l z) (f : ℕ → ℕ)
-    (room : (o : ℕ) → o < z .sites → takesOver z (storeOf l .site o) (f o) ≡ false) where
+module _ (l : List ℕ) (z : Counts) (H : FormWith l z) (t : List ℕ) (R : Fitting l z t) where
+  abbrev f : ℕ → ℕ
+  f = setOf t
+
   pub sites-start : l ≡ written (takenSites (storeOf l) f 0) l
   sites-start =
       rw (no-sites (storeOf l) f (form-fine l (H .form))) (sym (form-again l z H))
@@ -128,9 +146,14 @@ module _ (l : List ℕ) (z : Counts) (H : FormWith l z) (f : ℕ → ℕ)
       (e : m ≡ written (takenSites (storeOf l) f n) l) where
     fine : Fine (takenSites (storeOf l) f n)
     fine =
-        sites-fine (storeOf l) f n (rw (form-counts l z H) h) (form-fine l (H .form))
-        (λ o i. subst (λ (y : Counts). takesOver y (storeOf l .site o) (f o) ≡ false)
-        (sym (form-counts l z H)) (room o (rw (← form-counts l z H) i)))
+        let s = storeOf l in
+        let same = form-counts l z H in
+        sites-fine s f n (rw same h) (form-fine l (H .form))
+        (λ o i. subst
+        (λ (y : Counts). barred (y .keys) (s .tail .mayHold o) (testBit (f o)) ≡ false) (sym same)
+        (R .right o (rw (← same) i)))
+        (λ o i. subst (λ (y : Counts). takesOver y (s .site o) (f o) ≡ false) (sym same)
+        (R .fits o (rw (← same) i)))
 
     pub sites-store : storeOf m ≡ takenSites (storeOf l) f n
     sites-store = rw e (store-back (takenSites (storeOf l) f n) l (fine .fits))
@@ -184,13 +207,13 @@ module _ (l : List ℕ) (z : Counts) (r : ℕ) (U : UsedRun l z r) (t : List ℕ
     pub prepared-fits : FitStore (prepared (storeOf l) r)
     prepared-fits =
         rw (← sets-taken)
-        (fine l z (U .form) (setOf t) (R .fits) (z .sites) (omega arith) m f .fits)
+        (fine l z (U .form) t R (z .sites) (omega arith) m f .fits)
 
     pub prepared-used : UsedRun m z r
     unfolding takenSites withCaches withSites
     prepared-used =
         let n = z .sites in record {
-          form = sites-form l z (U .form) (setOf t) (R .fits) n (omega arith) m f;
+          form = sites-form l z (U .form) t R n (omega arith) m f;
           run = U .run;
-          used = rw (sites-store l z (U .form) (setOf t) (R .fits) n (omega arith) m f) (U .used);
+          used = rw (sites-store l z (U .form) t R n (omega arith) m f) (U .used);
         }

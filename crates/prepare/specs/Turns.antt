@@ -19,6 +19,7 @@ use Rattle.sizes.specs.Bounds.{maxSites, placeSize, siteAt}
 use Rattle.model.specs.Algebra.{Place, lacking}
 use Rattle.model.specs.Version.{Version, merge, versions}
 use Rattle.model.specs.Sets.{fetchSet}
+use Rattle.model.specs.Tail.{barred}
 use Rattle.model.specs.Store.{Store, emptyPlace, planned, withCaches, withRun, withSnapshot}
 use Rattle.model.specs.Outcome.{refuse, prepareRow, runCause}
 use Rattle.model.specs.Prepare.{usesSite, sitesMerged, siteCaches}
@@ -60,9 +61,11 @@ pub record SetsOf (z : Counts) (t : List ℕ) : Type 0 where
   pub long : z .sites ≤ length t
   pub low : (o : ℕ) → o < z .sites → setOf t o < 2 ^ z .keys
 
--- No site would hold too much with its mask.
+-- Each site may hold the keys of its mask, and none would hold too much with it.
 pub record Fitting (l : List ℕ) (z : Counts) (t : List ℕ) : Type 0 where
   pub sets : SetsOf z t
+  pub right : (o : ℕ) → o < z .sites
+      → barred (z .keys) (storeOf l .tail .mayHold o) (testBit (setOf t o)) ≡ false
   pub fits : (o : ℕ) → o < z .sites → takesOver z (storeOf l .site o) (setOf t o) ≡ false
 
 -- The store after the first n sites have taken the keys of their masks.

@@ -1,6 +1,7 @@
 // The fetches of a prepare, one at each site: what the jobs there read and the cache lacks is
 // fetched together. T of every site is found before a word is stored.
 use fetching::find_taken;
+use fetching::is_barred;
 use fetching::is_lacked;
 use fetching::is_over;
 use fetching::take_keys;
@@ -17,6 +18,7 @@ ghost use Rattle.words.specs.Words.{put};
 ghost use Rattle.masks.specs.Mask.{testBit, maskBelow};
 ghost use Rattle.model.specs.Version.{versions};
 ghost use Rattle.model.specs.Sets.{unfetchable};
+ghost use Rattle.model.specs.Tail.{barred};
 ghost use Rattle.layout.specs.Reading.{storeOf};
 ghost use Rattle.layout.specs.Buffer.{written};
 ghost use Rattle.form.specs.Parts.{FormWith};
@@ -65,6 +67,25 @@ pub fn site_sets(words: &[u32], z: Counts, r: usize) -> [u32; 8]
         o += 1;
     }
     sets
+}
+
+// Whether a site may not hold a key of its T.
+pub fn is_unentitled(words: &[u32], z: Counts, sets: &[u32]) -> bool
+    requires { ⌜ FormWith (now words) z ⌝ }
+    requires { ⌜ SetsOf z (now sets) ⌝ }
+    ensures { λ b. ⌜ b ≡ anyBelow (z .sites) (λ o. barred (z .keys)
+        (storeOf (now (words .entry)) .tail .mayHold o)
+        (testBit (setOf (now (sets .entry)) o))) ⌝ }
+{
+    let n = z.sites;
+    let mut o = 0;
+    while o < n {
+        if is_barred(words, z, o, sets[o]) {
+            return true;
+        }
+        o += 1;
+    }
+    false
 }
 
 // Whether the master lacks a key of the T of a site.

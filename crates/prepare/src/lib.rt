@@ -5,6 +5,7 @@ pub mod merges;
 
 use answers::Answered;
 use fetches::is_crowded;
+use fetches::is_unentitled;
 use fetches::is_unpreparable;
 use fetches::site_sets;
 use fetches::take_sets;
@@ -42,7 +43,12 @@ pub fn prepare(words: &mut [u32], run: u32) -> Answered
         return Answered::Refused(cause);
     }
     let sets = site_sets(words, z, r);
-    if is_unpreparable(words, z, &sets) {
+    let barred = is_unentitled(words, z, &sets);
+    let lacked = is_unpreparable(words, z, &sets);
+    if barred {
+        return Answered::Refused(13);
+    }
+    if lacked {
         return Answered::Refused(7);
     }
     if is_crowded(words, z, &sets) {

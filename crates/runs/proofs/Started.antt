@@ -14,7 +14,8 @@ use Rattle.words.proofs.Tests.{below-or-not}
 use Rattle.words.proofs.Lists.{upto-out}
 use Rattle.words.proofs.Stores.{sets-left, sets-behind}
 use Rattle.sizes.specs.declared.Counts.{Counts}
-use Rattle.sizes.specs.Bounds.{maxJobs, jobSize, readsOffset, upstreamOffset, jobsOffset, planOffset, planSize, snapshotOffset, runSize}
+use Rattle.sizes.specs.Bounds.{runSize}
+use Rattle.sizes.specs.Runs.{maxJobs, jobSize, readsOffset, upstreamOffset, jobsOffset, planOffset, planSize, snapshotOffset}
 use Rattle.model.specs.Store.{Run, noJob, noJobs, emptyPlace, noBranch, freeRun}
 use Rattle.model.specs.Outcome.{openState}
 use Rattle.model.specs.Runs.{listedJob, listedCount, listedJobs, openedRun}

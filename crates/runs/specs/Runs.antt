@@ -4,7 +4,7 @@ use mathlib.Core.List.{List}
 use Prim.Native.Nat.{ℕ, _+_}
 use lib.ListN.{length, getD, set}
 use Rattle.words.specs.Words.{put}
-use Rattle.sizes.specs.Bounds.{jobsOffset, planOffset}
+use Rattle.sizes.specs.Runs.{jobsOffset, planOffset}
 use Rattle.model.specs.Outcome.{openState}
 use Rattle.model.specs.Runs.{listedCount}
 

@@ -5,7 +5,7 @@ pub mod clocks;
 
 use form::in_form;
 ghost use mathlib.Core.Path.{_≡_};
-ghost use Rattle.model.specs.Calls.{look, explain, stale, admit, openRun, fetch, evict, prepare, step, issue, dropRun, allow, pick, ask};
+ghost use Rattle.model.specs.Calls.{look, explain, stale, admit, openRun, fetch, evict, prepare, step, issue, dropRun, allow, pick, mayhold, maysave, ask};
 ghost use Rattle.layout.specs.Calls.{new, on};
 ghost use Rattle.calls.specs.Performs.{Exported};
 
@@ -140,18 +140,44 @@ pub extern "C" fn sheetdesk_pick(store: &mut [u32], out: &mut [u32]) -> u32
     calls::later::pick(store, in_form(store), out)
 }
 
+#[no_mangle]
+pub extern "C" fn sheetdesk_mayhold(
+    store: &mut [u32],
+    site: u32,
+    right: u32,
+    out: &mut [u32],
+) -> u32
+    ensures { λ n. ⌜ Exported (on (mayhold site right))
+        (now (store .entry)) (now (store .exit)) (now (out .entry)) (now (out .exit)) n ⌝ }
+{
+    calls::later::mayhold(store, in_form(store), site, right, out)
+}
+
+#[no_mangle]
+pub extern "C" fn sheetdesk_maysave(
+    store: &mut [u32],
+    writer: u32,
+    right: u32,
+    out: &mut [u32],
+) -> u32
+    ensures { λ n. ⌜ Exported (on (maysave writer right))
+        (now (store .entry)) (now (store .exit)) (now (out .entry)) (now (out .exit)) n ⌝ }
+{
+    calls::later::maysave(store, in_form(store), writer, right, out)
+}
+
 // The version of this interface: it rises when a call, its arguments or its answer change.
 #[no_mangle]
 pub extern "C" fn sheetdesk_version() -> u32
-    ensures { λ r. ⌜ r ≡ 8 ⌝ }
+    ensures { λ r. ⌜ r ≡ 9 ⌝ }
 {
-    8
+    9
 }
 
 // The version of the layout: it rises when the words of a desk change.
 #[no_mangle]
 pub extern "C" fn sheetdesk_layout() -> u32
-    ensures { λ r. ⌜ r ≡ 5 ⌝ }
+    ensures { λ r. ⌜ r ≡ 6 ⌝ }
 {
-    5
+    6
 }

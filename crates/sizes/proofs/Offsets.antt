@@ -11,7 +11,8 @@ use lib.Dec.{leb}
 use Rattle.words.proofs.Bools.{and-intro, and-left, and-right, leb-le, le-leb}
 use Rattle.words.proofs.Slots.{slot-end}
 use Rattle.sizes.specs.declared.Counts.{Counts}
-use Rattle.sizes.specs.Bounds.{maxKeys, maxWriters, maxSites, maxRuns, maxJobs, maxTotal, jobSize, planSize, headerSize, pastOffset, writerPastOffset, snapshotOffset, between, ranged, Ranged, pastSize, versionSize, placeSize, siteSize, writerSize, runSize, masterAt, sitesAt, writersAt, runsAt, tailSize, tailAt, totalOf, roundAt, siteAt, staleAt, allowanceAt, writerAt, runAt, snapshotAt, jobAt, keyAt, pastRowAt, rowAt, writerRowAt}
+use Rattle.sizes.specs.Bounds.{maxKeys, maxWriters, maxSites, maxRuns, maxTotal, headerSize, pastOffset, writerPastOffset, between, ranged, Ranged, pastSize, versionSize, placeSize, siteSize, writerSize, runSize, masterAt, sitesAt, writersAt, runsAt, tailSize, tailAt, totalOf, roundAt, mayHoldAt, maySaveAt, siteAt, staleAt, allowanceAt, writerAt, runAt, snapshotAt, keyAt, pastRowAt, rowAt, writerRowAt}
+use Rattle.sizes.specs.Runs.{maxJobs, jobSize, planSize, snapshotOffset, jobAt}
 
 -- ---- counts in range
 
@@ -150,6 +151,17 @@ run-lies z r h =
 pub round-lies : (z : Counts) → Lies (tailAt z) (totalOf z) (roundAt z) 1
 unfolding tailSize totalOf
 round-lies z = record { starts = omega arith; ends = omega arith }
+
+-- Behind it the masks of the sites, then those of the writers.
+pub may-hold-lies : (z : Counts) (o : ℕ) → o < z .sites
+    → Lies (tailAt z) (totalOf z) (mayHoldAt z o) 1
+unfolding tailSize totalOf
+may-hold-lies z o h = record { starts = omega arith; ends = omega arith }
+
+pub may-save-lies : (z : Counts) (w : ℕ) → w < z .writers
+    → Lies (tailAt z) (totalOf z) (maySaveAt z w) 1
+unfolding tailSize totalOf
+may-save-lies z w h = record { starts = omega arith; ends = omega arith }
 
 -- The cache is the first part of its site, and the stale mark stands behind it.
 pub mark-lies : (z : Counts) (at : ℕ)

@@ -2,23 +2,26 @@
 -- Assumes nothing.
 use mathlib.Core.Path.{_≡_, refl}
 use mathlib.Core.List.{[], _∷_, map}
-use Rattle.sizes.specs.Bounds.{countsOf, maxTotal, pastSize, versionSize, placeSize, siteSize, writerSize, runSize, tailSize, masterAt, sitesAt, writersAt, runsAt, tailAt, totalOf, sizesOf, siteAt, staleAt, allowanceAt}
+use Rattle.sizes.specs.Bounds.{countsOf, maxTotal, pastSize, versionSize, placeSize, siteSize, writerSize, runSize, tailSize, masterAt, sitesAt, writersAt, runsAt, tailAt, totalOf, sizesOf, siteAt, staleAt, allowanceAt, roundAt, mayHoldAt, maySaveAt}
 
 pub record Sized : Type 0 where
   -- Two keys, two writers, a site and a run.
   pub small : sizesOf (countsOf 2 2 1 1)
-      ≡ record { master = 10; sites = 22; writers = 36; runs = 46; tail = 86; total = 87 }
+      ≡ record { master = 10; sites = 22; writers = 36; runs = 46; tail = 86; total = 90 }
   -- The smallest store, that of case A, another one, the largest.
   pub totals : map totalOf (countsOf 1 1 1 1 ∷ countsOf 2 2 2 1 ∷ countsOf 3 2 2 2 ∷ [])
-      ≡ 52 ∷ 101 ∷ 205 ∷ []
+      ≡ 54 ∷ 105 ∷ 209 ∷ []
   pub full : totalOf (countsOf 32 16 8 8) ≡ maxTotal
   -- The marks of two sites, and their allowances.
   pub marks : let z = countsOf 2 2 2 1 in
       staleAt z (siteAt z 0) ∷ staleAt z (siteAt z 1)
       ∷ allowanceAt z (siteAt z 0) ∷ allowanceAt z (siteAt z 1) ∷ []
       ≡ 34 ∷ 48 ∷ 35 ∷ 49 ∷ []
+  -- The round, then the masks of a site and of two writers.
+  pub tail : let z = countsOf 2 2 1 1 in
+      roundAt z ∷ mayHoldAt z 0 ∷ maySaveAt z 0 ∷ maySaveAt z 1 ∷ [] ≡ 86 ∷ 87 ∷ 88 ∷ 89 ∷ []
 
 sized : Sized
 unfolding sizesOf pastSize versionSize placeSize siteSize writerSize runSize tailSize
     masterAt sitesAt writersAt runsAt tailAt totalOf siteAt
-sized = record { small = refl; totals = refl; full = refl; marks = refl }
+sized = record { small = refl; totals = refl; full = refl; marks = refl; tail = refl }

@@ -1,6 +1,6 @@
 -- Sizes and offsets in words (document 01, "Size and layout"), from the counts K, W, N and P.
 -- maxKeys ..: the limits. ranged, Ranged: the counts are in range. ..Size: words of a part.
--- ..Offset: where a part of the header, a version, a writer, a run or a job stands in it.
+-- ..Offset: where a part of the header, a version or a writer stands in it; of a run: Runs.
 -- ..At: where a part begins. totalOf: all words; maxTotal: the most there can be.
 -- Assumes nothing.
 use mathlib.Core.Bool.{Bool, _&&_}
@@ -8,11 +8,12 @@ use Prim.Native.Nat.{ℕ, _+_, _*_, _≤_}
 use lib.Dec.{leb}
 use Rattle.sizes.specs.declared.Counts.{Counts}
 use Rattle.sizes.specs.declared.Sizes.{Sizes}
+use Rattle.sizes.specs.Runs.{snapshotOffset}
 
 abbrev pub countsOf : ℕ → ℕ → ℕ → ℕ → Counts
 countsOf k w n p = record { keys = k; writers = w; sites = n; runs = p }
 
--- ---- limits: "Sheets K 1..32, writers W 1..16, offices N 1..8, runs P 1..8, jobs per run 1..8"
+-- ---- limits: "Sheets K 1..32, writers W 1..16, offices N 1..8, runs P 1..8"
 
 abbrev pub maxKeys : ℕ
 maxKeys = 32
@@ -26,19 +27,12 @@ maxSites = 8
 abbrev pub maxRuns : ℕ
 maxRuns = 8
 
-abbrev pub maxJobs : ℕ
-maxJobs = 8
-
 -- Below these indices a place and a version begin, so that those of their words can be computed.
 abbrev pub placeLimit : ℕ
 placeLimit = 1000000
 
 abbrev pub versionLimit : ℕ
 versionLimit = 2000000
-
--- The mask of every job.
-abbrev pub everyJob : ℕ
-everyJob = 255
 
 -- 1 to top.
 unfoldable pub between : ℕ → ℕ → Bool
@@ -108,37 +102,6 @@ pastOffset = 2
 abbrev pub writerPastOffset : ℕ
 writerPastOffset = 1
 
--- ---- inside a run: "state .., number of jobs, done mask, read mask, 8 jobs .., then the card"
-
--- Of a job, whose site stands first.
-abbrev pub readsOffset : ℕ
-readsOffset = 1
-
-abbrev pub upstreamOffset : ℕ
-upstreamOffset = 2
-
-abbrev pub jobSize : ℕ
-jobSize = 3
-
--- Of a run, whose state stands first; its jobs are the plan.
-abbrev pub jobsOffset : ℕ
-jobsOffset = 1
-
-abbrev pub doneOffset : ℕ
-doneOffset = 2
-
-abbrev pub readOffset : ℕ
-readOffset = 3
-
-abbrev pub planOffset : ℕ
-planOffset = 4
-
-abbrev pub planSize : ℕ
-planSize = maxJobs * jobSize
-
-abbrev pub snapshotOffset : ℕ
-snapshotOffset = planOffset + planSize
-
 -- ---- sizes: "V becomes 2 + K·W there; writers keep 1 + K·W" (CR 3)
 
 -- A past: one clock for each key.
@@ -168,8 +131,10 @@ unfoldable pub runSize : Counts → ℕ
 runSize z = snapshotOffset + placeSize z
 
 -- Behind the runs, the tail. CR 8: "The last picked run is one stored word at the desk's end".
+-- CR 9: of the masks of what each office may hold and each writer may save "the words follow the
+-- round's, offices first".
 unfoldable pub tailSize : Counts → ℕ
-tailSize z = 1
+tailSize z = 1 + (z .sites + z .writers)
 
 -- ---- offsets: "master K·V; shelves N·(K·V + 2); writers W·(1 + K·W); runs P·(28 + K·V)"
 
@@ -192,7 +157,7 @@ unfoldable pub totalOf : Counts → ℕ
 totalOf z = tailAt z + tailSize z
 
 abbrev pub maxTotal : ℕ
-maxTotal = 288075
+maxTotal = 288099
 
 unfoldable pub sizesOf : Counts → Sizes
 sizesOf z = record {
@@ -226,13 +191,16 @@ runAt z r = runsAt z + r * runSize z
 abbrev pub roundAt : Counts → ℕ
 roundAt z = tailAt z
 
+-- Behind it the mask of what site o may hold; behind those of all sites what writer w may save.
+abbrev pub mayHoldAt : Counts → ℕ → ℕ
+mayHoldAt z o = tailAt z + 1 + o
+
+abbrev pub maySaveAt : Counts → ℕ → ℕ
+maySaveAt z w = tailAt z + 1 + z .sites + w
+
 -- The snapshot of run r.
 unfoldable pub snapshotAt : Counts → ℕ → ℕ
 snapshotAt z r = runAt z r + snapshotOffset
-
--- Job i of the jobs at an index.
-unfoldable pub jobAt : ℕ → ℕ → ℕ
-jobAt at i = at + i * jobSize
 
 -- The version of key k in the place at an index.
 unfoldable pub keyAt : Counts → ℕ → ℕ → ℕ

@@ -2,6 +2,7 @@
 pub mod header;
 pub mod past;
 pub mod run;
+pub mod tail;
 
 use header::HeaderOffset;
 use past::VersionOffset;
@@ -9,7 +10,8 @@ use past::WriterOffset;
 use run::RunOffset;
 ghost use mathlib.Core.Path.{_≡_};
 ghost use Prim.Native.Nat.{_+_, _*_, _<_, _^_};
-ghost use Rattle.sizes.specs.Bounds.{between, ranged, Ranged, countsOf, sizesOf, maxKeys, maxWriters, maxSites, maxRuns, maxJobs, placeLimit, versionLimit, everyJob, jobSize, siteRest, pastSize, versionSize, placeSize, siteSize, writerSize, runSize, siteAt, staleAt, allowanceAt, roundAt, writerAt, runAt, snapshotAt, jobAt, keyAt, pastRowAt};
+ghost use Rattle.sizes.specs.Bounds.{between, ranged, Ranged, countsOf, sizesOf, maxKeys, maxWriters, maxSites, maxRuns, placeLimit, versionLimit, siteRest, pastSize, versionSize, placeSize, siteSize, writerSize, runSize, siteAt, staleAt, allowanceAt, writerAt, runAt, snapshotAt, keyAt, pastRowAt};
+ghost use Rattle.sizes.specs.Runs.{maxJobs, everyJob, jobSize, jobAt};
 
 // Sheets, writers, offices and runs (document 01: K, W, N, P).
 pub struct Counts {
@@ -48,7 +50,7 @@ impl Sizes {
     // The words of a site behind its cache.
     pub const SITE_REST: usize = 2;
 
-    // Offsets and total from four counts. The tail is one word, the round.
+    // Offsets and total from four counts. The tail: the round, a mask for each site and writer.
     pub fn of(keys: usize, writers: usize, sites: usize, runs: usize) -> Sizes
         requires { ⌜ Ranged (countsOf keys writers sites runs) ⌝ }
         ensures { λ r. ⌜ r ≡ sizesOf (countsOf keys writers sites runs) ⌝ }
@@ -65,7 +67,7 @@ impl Sizes {
             writers: writers_at,
             runs: runs_at,
             tail,
-            total: tail + 1,
+            total: tail + (1 + (sites + writers)),
         }
     }
 
@@ -205,20 +207,13 @@ impl Counts {
         at + self.place_size()
     }
 
-    // Where its allowance stands, behind the mark; and where the round does.
+    // Where its allowance stands, behind the mark.
     pub fn allowance_at(self, at: usize) -> usize
         requires { ⌜ Ranged self ⌝ }
         requires { ⌜ at < placeLimit ⌝ }
         ensures { λ r. ⌜ r ≡ allowanceAt self at ⌝ }
     {
         self.stale_at(at) + 1
-    }
-
-    pub fn round_at(self) -> usize
-        requires { ⌜ Ranged self ⌝ }
-        ensures { λ r. ⌜ r ≡ roundAt self ⌝ }
-    {
-        self.areas().tail
     }
 
     // Where the snapshot of run r begins.

@@ -1,7 +1,7 @@
 // Where the parts of a run, and of a job, stand: how many words behind its beginning.
 use crate::Sizes;
 ghost use mathlib.Core.Path.{_≡_};
-ghost use Rattle.sizes.specs.Bounds.{jobsOffset, doneOffset, readOffset, planOffset, snapshotOffset, readsOffset, upstreamOffset};
+ghost use Rattle.sizes.specs.Runs.{jobsOffset, doneOffset, readOffset, planOffset, snapshotOffset, readsOffset, upstreamOffset};
 
 // Inside a run, whose state stands first: the number of jobs, the done and the read mask, the plan
 // (8 jobs), the snapshot (document 01: the card).

@@ -14,7 +14,8 @@ use Rattle.words.specs.Words.{put}
 use Rattle.words.proofs.Bools.{and-left, and-right, not-elim, eqb-eq, eq-eqb}
 use Rattle.words.proofs.Tests.{below-or-not, all-at}
 use Rattle.sizes.specs.declared.Counts.{Counts}
-use Rattle.sizes.specs.Bounds.{maxJobs, planSize, runSize}
+use Rattle.sizes.specs.Bounds.{runSize}
+use Rattle.sizes.specs.Runs.{maxJobs, planSize}
 use Rattle.model.specs.Version.{Version, unheld, held}
 use Rattle.model.specs.Store.{Job, Run, noJob, noJobs, emptyPlace, freeRun}
 use Rattle.model.specs.Form.{zeroVersion, zeroJob, freeFormed, runFormed}

@@ -11,7 +11,7 @@ use native.Mathlib.Omega.{arith}
 use lib.ListN.{getD, set}
 use lib.Seq.{set-getD, getD-set-other}
 use Rattle.words.specs.Words.{put}
-use Rattle.sizes.specs.Bounds.{jobsOffset, doneOffset, readOffset, planOffset}
+use Rattle.sizes.specs.Runs.{jobsOffset, doneOffset, readOffset, planOffset}
 use Rattle.model.specs.Outcome.{brokenState}
 use Rattle.status.specs.Lent.{statusAt, putStatus, freed, marked, spoiled}
 

@@ -5,7 +5,7 @@
 use mathlib.Core.List.{List}
 use Prim.Native.Nat.{ℕ, _+_}
 use lib.ListN.{getD, set}
-use Rattle.sizes.specs.Bounds.{jobsOffset, doneOffset, readOffset}
+use Rattle.sizes.specs.Runs.{jobsOffset, doneOffset, readOffset}
 use Rattle.model.specs.Outcome.{brokenState}
 use Rattle.status.specs.declared.lent.RunStatus.{RunStatus}
 

@@ -13,7 +13,7 @@ use words::zero;
 ghost use mathlib.Core.Path.{_≡_};
 ghost use Prim.Native.Nat.{_+_, _≤_, _<_};
 ghost use lib.ListN.{length};
-ghost use Rattle.sizes.specs.Bounds.{planOffset};
+ghost use Rattle.sizes.specs.Runs.{planOffset};
 ghost use Rattle.model.specs.Store.{freeRun};
 ghost use Rattle.model.specs.Outcome.{runCause};
 ghost use Rattle.layout.specs.Reading.{storeOf};

@@ -12,7 +12,8 @@ use lib.ListN.{length, getD, set}
 use Rattle.words.proofs.Lists.{putAt-same}
 use Rattle.masks.specs.Mask.{testBit, withBit, maskBelow}
 use Rattle.sizes.specs.declared.Counts.{Counts}
-use Rattle.sizes.specs.Bounds.{doneOffset, readOffset, siteAt, runAt, snapshotAt}
+use Rattle.sizes.specs.Bounds.{siteAt, runAt, snapshotAt}
+use Rattle.sizes.specs.Runs.{doneOffset, readOffset}
 use Rattle.model.specs.Algebra.{Place}
 use Rattle.model.specs.Version.{Version, merge, versions}
 use Rattle.model.specs.Sets.{fetchSet, fetched, pulled}

@@ -15,7 +15,8 @@ use lib.ListN.{length, getD}
 use lib.Pow.{pow-mono}
 use Rattle.words.proofs.Bools.{leb-gt}
 use Rattle.sizes.specs.declared.Counts.{Counts}
-use Rattle.sizes.specs.Bounds.{maxJobs, readsOffset, upstreamOffset, jobsOffset, doneOffset, planOffset, snapshotOffset, placeSize, siteSize, siteAt, runAt, snapshotAt, jobAt}
+use Rattle.sizes.specs.Bounds.{placeSize, siteSize, siteAt, runAt, snapshotAt}
+use Rattle.sizes.specs.Runs.{maxJobs, readsOffset, upstreamOffset, jobsOffset, doneOffset, planOffset, snapshotOffset, jobAt}
 use Rattle.sizes.proofs.Offsets.{ordered, site-lies, run-lies, snapshot-lies}
 use Rattle.model.specs.Store.{Job, Run}
 use Rattle.model.specs.Form.{runFormed}

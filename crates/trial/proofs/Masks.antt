@@ -7,12 +7,10 @@ use mathlib.Core.Bool.{Bool, cond, not, _&&_}
 use Prim.Native.Nat.{ℕ, _^_, _<_}
 use lib.Dec.{eqb}
 use Rattle.words.specs.Tests.{Items, anyBelow}
-use Rattle.words.proofs.Bools.{not-not}
 use Rattle.words.proofs.Tests.{any-same}
 use Rattle.masks.specs.Mask.{testBit, maskBelow, without}
-use Rattle.masks.proofs.Bits.{test-without, without-lt}
-use Rattle.masks.proofs.Sets.{mask-none, mask-same, item-of}
-use Rattle.sizes.specs.Bounds.{maxJobs}
+use Rattle.masks.proofs.Sets.{without-some, mask-same, item-of}
+use Rattle.sizes.specs.Runs.{maxJobs}
 use Rattle.model.specs.Algebra.{Algebra, Place, everything, lacking}
 use Rattle.model.specs.Sets.{drawSet, fetchSet, fetched, unfetchable, pullSet}
 use Rattle.model.specs.Step.{readStart}
@@ -63,8 +61,4 @@ module _ {A : Type 0} (alg : Algebra A) (K : ℕ) (master cache snapshot : Place
 pub upstream-some : (done upstream : ℕ) → upstream < 2 ^ maxJobs
     → not (eqb (without upstream done) 0)
     ≡ anyBelow maxJobs (λ i. testBit upstream i && not (testBit done i))
-upstream-some done upstream h =
-    ap not (mask-none maxJobs (without upstream done) (without-lt upstream done maxJobs h))
-    ∙ not-not (anyBelow maxJobs (testBit (without upstream done)))
-    ∙ any-same maxJobs (testBit (without upstream done))
-    (λ i. testBit upstream i && not (testBit done i)) (λ i _. test-without upstream done i)
+upstream-some done upstream h = without-some maxJobs upstream done h

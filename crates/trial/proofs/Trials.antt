@@ -5,23 +5,28 @@
 -- branch-own: the run's own snapshot and read mask.
 -- Assumes nothing.
 use mathlib.Core.Path.{_≡_, sym, ap, _∙_}
-use mathlib.Core.Bool.{cond}
+use mathlib.Core.Bool.{Bool, cond, _||_}
 use mathlib.Core.List.{List}
 use Prim.Native.Nat.{ℕ, _+_, _<_, _^_}
 use native.Mathlib.Omega.{arith}
+use lib.Bits.{bitOr}
 use lib.Dec.{eqb}
 use lib.ListN.{length, getD}
 use Rattle.words.specs.Tests.{Items}
 use Rattle.masks.specs.Mask.{testBit, maskBelow}
+use Rattle.masks.proofs.Bits.{test-or}
+use Rattle.masks.proofs.Sets.{item-of}
 use Rattle.sizes.specs.declared.Counts.{Counts}
-use Rattle.sizes.specs.Bounds.{everyJob, readOffset, masterAt, siteAt, runAt, snapshotAt}
+use Rattle.sizes.specs.Bounds.{masterAt, siteAt, runAt, snapshotAt}
+use Rattle.sizes.specs.Runs.{everyJob, readOffset}
 use Rattle.model.specs.Algebra.{Algebra, lacking}
 use Rattle.model.specs.Version.{Version, versions}
 use Rattle.model.specs.Sets.{drawSet, fetchSet, fetched, unfetchable}
+use Rattle.model.specs.Tail.{barred}
 use Rattle.model.specs.Store.{Run, Store}
 use Rattle.model.specs.Allowance.{over}
 use Rattle.model.specs.Outcome.{refuse}
-use Rattle.model.specs.Step.{readStart, jobCause, stepCause, stepSite, stepReads, stepStart, stepFetch, stepCache, stepPlan, stepPull}
+use Rattle.model.specs.Step.{readStart, jobCause, stepCause, stepSite, stepReads, stepStart, stepFetch, stepCache, stepPlan, stepPull, stepBarred}
 use Rattle.model.proofs.Steps.{step-below}
 use Rattle.layout.specs.Reading.{readPlace, readRun, storeOf}
 use Rattle.layout.proofs.Readings.{master-in, cache-in, snapshot-in}
@@ -149,28 +154,39 @@ module _ (l : List ℕ) (z : Counts) (r j snapshot : ℕ) (U : UsedRun l z r)
         (readPlace z l (v .cache)) (testBit start))
     taken-read t f = rw (← old-master, ← old-cache, ← site-at) f
 
+    -- What the site must have the right to: the reads, and T.
+    asked-key : (t : ℕ) (T : Items) → t ≡ maskBelow (z .keys) T → (k : ℕ) → k < z .keys
+        → testBit (bitOr (v .reads) t) k ≡ stepReads s r j k || T k
+    asked-key t T e k i = rw old-reads
+        (test-or (v .reads) t k
+        ∙ ap (λ (b : Bool). testBit (v .reads) k || b) (item-of (z .keys) t T e k i))
+
     pub cause-last : (t : ℕ) → jobCause (s .run r) j 0 ≡ 0
         → t ≡ maskBelow (z .keys) (fetchSet alg (z .keys) (s .master) (s .site (v .site) .cache)
         (testBit start))
-        → stepCause s r j ≡ takesCause z s (v .site) t
-    unfolding stepStart stepCache
+        → stepCause s r j ≡ takesCause z s (v .site) (bitOr (v .reads) t) t
+    unfolding stepStart stepFetch stepCache stepBarred
     cause-last t free f =
         let o = stepSite s r j in
         let S = stepStart s r j in
+        let T : Counts → Items = λ y.
+        fetchSet (versions (y .writers)) (y .keys) (s .master) (s .site o .cache) S in
         let rows : Counts → ℕ = λ y.
         let alg = versions (y .writers) in
-        refuse (unfetchable alg (y .keys) (s .master) S) 7
+        refuse (barred (y .keys) (s .tail .mayHold o) (λ k. stepReads s r j k || T y k)) 13
+        (refuse (unfetchable alg (y .keys) (s .master) S) 7
         (refuse (over y (s .site o) (fetched alg (y .keys) (s .master) (s .site o .cache) S)) 12
-        0) in
-        let mask : t
-        ≡ maskBelow (z .keys) (fetchSet alg (z .keys) (s .master) (s .site o .cache) S)
+        0)) in
+        let mask : t ≡ maskBelow (z .keys) (T z)
         = rw (old-reads, old-cache, L .place, old-master, form-counts l z (U .form))
         (taken-mask alg (z .keys) (readPlace z l (v .master)) _ _ _ wanted start w e t
         (taken-read t f)) in
         step-below s r j (rw (form-counts l z (U .form)) (U .run))
         ∙ ap (λ (n : ℕ). cond (eqb n 0) (rows (s .counts)) n) free
         ∙ ap rows (form-counts l z (U .form))
-        ∙ sym (taken-cause z s o S t mask) ∙ ap (λ (o : ℕ). takesCause z s o t) (sym site-at)
+        ∙ sym (taken-cause z s o S (λ k. stepReads s r j k || T z k) (bitOr (v .reads) t) t
+        (asked-key t (T z) mask) mask)
+        ∙ ap (λ (o : ℕ). takesCause z s o (bitOr (v .reads) t) t) (sym site-at)
 
     pub trial-found : (t p : ℕ)
         → t ≡ maskBelow (z .keys) (fetchSet alg (z .keys) (readPlace z l (v .master))

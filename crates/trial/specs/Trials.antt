@@ -10,7 +10,8 @@ use lib.Dec.{eqb}
 use lib.ListN.{length, getD}
 use Rattle.masks.specs.Mask.{maskBelow}
 use Rattle.sizes.specs.declared.Counts.{Counts}
-use Rattle.sizes.specs.Bounds.{everyJob, masterAt, siteAt, snapshotAt}
+use Rattle.sizes.specs.Bounds.{masterAt, siteAt, snapshotAt}
+use Rattle.sizes.specs.Runs.{everyJob}
 use Rattle.model.specs.Store.{Store}
 use Rattle.model.specs.Step.{stepBranch, stepSite, stepFetch, stepPull, stepCause}
 use Rattle.layout.specs.Reading.{readPlace, storeOf}

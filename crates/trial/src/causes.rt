@@ -11,7 +11,7 @@ use states::is_allowed;
 use words::wide;
 ghost use mathlib.Core.Path.{_≡_};
 ghost use Prim.Native.Nat.{_^_, _<_};
-ghost use Rattle.sizes.specs.Bounds.{maxJobs};
+ghost use Rattle.sizes.specs.Runs.{maxJobs};
 ghost use Rattle.model.specs.Step.{jobLimit, notReady, jobCause};
 ghost use Rattle.layout.specs.Reading.{storeOf};
 ghost use Rattle.form.specs.Parts.{FormWith};

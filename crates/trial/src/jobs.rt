@@ -7,7 +7,7 @@ use sizes::run::JobOffset;
 use sizes::run::RunOffset;
 ghost use mathlib.Core.Path.{_≡_};
 ghost use Prim.Native.Nat.{_<_};
-ghost use Rattle.sizes.specs.Bounds.{everyJob};
+ghost use Rattle.sizes.specs.Runs.{everyJob};
 ghost use Rattle.layout.specs.Reading.{storeOf};
 ghost use Rattle.form.specs.Parts.{readsOf};
 ghost use Rattle.trial.specs.Jobs.{UsedRun, plannedJob};

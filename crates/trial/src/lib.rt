@@ -61,7 +61,8 @@ pub fn try_job(words: &[u32], z: Counts, r: usize, j: usize) -> Tried
 }
 
 // The same, of one of the runs, where its snapshot and its read mask stand at two indices. T is
-// found once; C against the cache seen through T, as the fetch would leave it.
+// found once; the site must have the right to it and to what the job reads, even from the
+// snapshot; C is found against the cache seen through T, as the fetch would leave it.
 pub fn try_at(words: &[u32], z: Counts, r: usize, j: usize, snapshot: usize, read: usize) -> Tried
     requires { ⌜ FormWith (now words) z × (r < z .runs) ⌝ }
     requires { ⌜ BranchAt (now words) z r snapshot read ⌝ }
@@ -75,7 +76,7 @@ pub fn try_at(words: &[u32], z: Counts, r: usize, j: usize, snapshot: usize, rea
     let wanted = lacking(words, z, snapshot, visit.reads);
     let start = lacking(words, z, visit.cache, wanted);
     let taken = find_taken(words, z, visit.site, start);
-    let late = taking_cause(words, z, visit.site, taken);
+    let late = taking_cause(words, z, visit.site, visit.reads | taken, taken);
     if late != 0 {
         return Tried::Refused(late);
     }

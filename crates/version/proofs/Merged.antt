@@ -22,7 +22,7 @@ use Rattle.model.specs.Algebra.{Place}
 use Rattle.model.specs.Version.{Version, held, leadsOn, mergedLeaders, larger, merge}
 use Rattle.model.specs.Form.{versionFormed, placeFormed}
 use Rattle.model.proofs.Merges.{merge-idem}
-use Rattle.model.proofs.Formed.{place-out, version-leaders}
+use Rattle.model.proofs.FormedPlaces.{place-out, version-leaders}
 use Rattle.layout.specs.Words.{clockWords, pastWords, versionWords, placeWords}
 use Rattle.layout.specs.Reading.{readClock, readPast, readVersion, readPlace}
 use Rattle.layout.specs.Stored.{putVersion, putPlace}

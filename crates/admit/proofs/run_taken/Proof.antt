@@ -5,7 +5,7 @@ use Prim.Native.Nat.{ℕ, _+_}
 use borrow.Author.Needs.{needs}
 use native.Mathlib.Omega.{arith}
 use Rattle.masks.specs.Mask.{testBit}
-use Rattle.sizes.specs.Bounds.{snapshotOffset}
+use Rattle.sizes.specs.Runs.{snapshotOffset}
 use Rattle.layout.specs.Reading.{readPlace, readRun}
 use Rattle.admit.specs.Parts.{placeTaken}
 use Rattle.admit.proofs.Words.{run-snapshot, run-plan}

@@ -2,7 +2,7 @@
 -- Assumes nothing.
 use mathlib.Core.Path.{_≡_, sym, _∙_}
 use mathlib.Core.Bool.{false}
-use Prim.Native.Nat.{_<_}
+use Prim.Native.Nat.{_<_, _^_}
 use borrow.Author.Needs.{needs}
 use native.Mathlib.Omega.{arith}
 use Rattle.masks.proofs.Sets.{mask-lt}
@@ -57,10 +57,10 @@ find-taken-requires c κs =
 taking-cause-requires : tie.Need-taking-cause-requires
 taking-cause-requires c κs =
     let f = c .before in
-    let e = f .before .before .before in (
-      (holds (e .before), ready e .0),
-      rw (f .find-taken .ensures) (mask-lt _ _ _ (omega arith)),
-    )
+    let e = f .before .before .before in
+    let low : f .find-taken .result < 2 ^ e .before .before .counts .result .keys =
+    rw (f .find-taken .ensures) (mask-lt _ _ _ (omega arith)) in
+    ((holds (e .before), ready e .0), (low, low))
 
 returns-2 : tie.Need-returns-2
 unfolding answeredWords

@@ -6,7 +6,8 @@ use mathlib.Core.List.{List}
 use Prim.Native.Nat.{ℕ}
 use lib.Dec.{ltb}
 use Rattle.words.proofs.Bools.{test}
-use Rattle.model.specs.Store.{Tail, Store, withTail, tailRound}
+use Rattle.model.specs.Tail.{Tail, tailRound}
+use Rattle.model.specs.Store.{Store, withTail}
 use Rattle.model.specs.Calls.{pick}
 use Rattle.model.specs.Calls.Pick.{pickTurn, pickedRun, pickDone, pickRule}
 use Rattle.layout.proofs.Follow.{Fine}
@@ -34,7 +35,7 @@ follows-tail F t = record {
   run = F .run;
 }
 
-inv-tail : {s : Store} {b : Book} {f : ℕ → List ReadSet} → Inv s b f → (t : Tail)
+pub inv-tail : {s : Store} {b : Book} {f : ℕ → List ReadSet} → Inv s b f → (t : Tail)
     → Inv (withTail s t) b f
 unfolding withTail
 inv-tail v t =

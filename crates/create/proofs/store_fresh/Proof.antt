@@ -1,4 +1,4 @@
--- `store_fresh` meets its contract: zeros, the header, the allowances and the round are the words
+-- `store_fresh` meets its contract: zeros, the header, the allowances and the tail are the words
 -- of a fresh store.
 -- Assumes nothing.
 use mathlib.Core.Path.{_∙_}
@@ -35,8 +35,8 @@ store-allowances-requires c κs =
     let R = has-room (h .before .before .before .before .before .before) in
     (R .counts, omega (arith, R .fits, total-is _ _ (R .sizes)))
 
-store-round-requires : tie.Need-store-round-requires
-store-round-requires c κs =
+store-tail-requires : tie.Need-store-tail-requires
+store-tail-requires c κs =
     let a = c .before .before .before in
     let h = a .before .before .before .before in
     let R = has-room (h .before .before .before .before .before .before) in
@@ -57,7 +57,7 @@ returns c =
     let R = has-room (h .before .before .before .before .before .before) in (
       c .narrow .ensures ∙ total-is _ _ (R .sizes),
       fresh-stored _ _ _ _ _ _ _ R (h .before .before .before .before .zero .ensures)
-          (h .store-header .ensures) (a .store-allowances .ensures) (r .store-round .ensures),
+          (h .store-header .ensures) (a .store-allowances .ensures) (r .store-tail .ensures),
     )
 
 pub store-fresh-spec : {M : Type 1} → statement M
@@ -68,7 +68,7 @@ store-fresh-spec =
     zero-requires
     store-header-requires
     store-allowances-requires
-    store-round-requires
+    store-tail-requires
     narrow-requires
     (λ c. search needs)
     returns)

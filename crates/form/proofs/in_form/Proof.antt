@@ -1,4 +1,4 @@
--- `in_form` tests the shape, then the master, the caches, the runs and the round.
+-- `in_form` tests the shape, then the master, the caches, the runs and the tail.
 -- Assumes nothing.
 use mathlib.Core.Path.{sym, _∙_}
 use mathlib.Core.Bool.{So}
@@ -49,7 +49,7 @@ returns-2 c =
       p .place-formed .ensures,
       s .sites-formed .ensures,
       r .runs-formed .ensures,
-      c .round-formed .ensures,
+      c .tail-formed .ensures,
       a .areas .ensures,
       n .counts .ensures,
     )

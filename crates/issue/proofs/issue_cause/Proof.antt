@@ -1,7 +1,7 @@
 -- `issue_cause` tests the causes in the table's order.
 -- Assumes nothing.
 use mathlib.Core.Path.{_≡_, sym, _∙_}
-use mathlib.Core.Bool.{false, not, cond}
+use mathlib.Core.Bool.{false, not, cond, So}
 use borrow.Author.Needs.{needs}
 use borrow.Author.Tests.{not-true, not-false}
 use lib.Dec.{eqb}
@@ -50,54 +50,70 @@ jobs-done-requires c κs =
       in-range (a .words .now) (a .z) (s .pre) (a .r) (a .w) (a .mask) (range e) .0,
     )
 
--- What the test of the jobs says.
-tested : (c : tie.After-jobs-done)
-    → let a = c .before .before .before .before .before .before .args in
+is-barred-requires : tie.Need-is-barred-requires
+is-barred-requires c κs =
+    let e = c .before .before .before in
+    let s = e .before .before .before in
+    let a = s .args in
+    let i = in-range (a .words .now) (a .z) (s .pre) (a .r) (a .w) (a .mask) (range e) in
+    ((s .pre, i .1), i .2)
+
+-- What the tests of the jobs and of the writer's right say.
+tested : (c : tie.After-is-barred)
+    → let a = c .before .before .before .before .before .before .before .args in
     let s = storeOf (a .words .now) in
     issueCause s (a .r) (a .w) (a .mask)
-    ≡ refuse (not (c .jobs-done .result)) 6 (cond (eqb (a .mask) 0) 0 (raiseCause s (a .w)))
+    ≡ refuse (not (c .before .jobs-done .result)) 6
+    (refuse (c .is-barred .result) 13 (cond (eqb (a .mask) 0) 0 (raiseCause s (a .w))))
 tested c =
-    let d = c .before in
+    let n = c .before in
+    let d = n .before in
     let e = d .before .before in
     let s = e .before .before .before in
     let a = s .args in
-    rw (c .jobs-done .ensures)
+    rw (n .jobs-done .ensures, c .is-barred .ensures)
     (cause-jobs (a .words .now) (a .z) (s .pre) (a .r) (a .w) (a .mask) _ (range e)
     (d .before .run-cause .ensures) (d .if2 .left))
 
+-- All jobs are done.
+all-done : (c : tie.Else3) → So (c .before .before .jobs-done .result)
+all-done c = not-false (c .before .before .jobs-done .result) (c .if3 .left)
+
 returns-3 : tie.Need-returns-3
 unfolding refuse
-returns-3 c = rw (tested (c .before), not-true (c .before .jobs-done .result) (c .if3 .taken))
+returns-3 c =
+    let t = c .before in
+    rw (tested t, not-true (t .before .jobs-done .result) (c .if3 .taken))
 
 returns-4 : tie.Need-returns-4
 unfolding refuse
 returns-4 c =
-    let d = c .before in
-    rw (
-      tested (d .before),
-      not-false (d .before .jobs-done .result) (d .if3 .left),
-      eq-eqb _ _ (c .if4 .taken),
-    )
-
-raise-cause-requires : tie.Need-raise-cause-requires
-raise-cause-requires c κs =
-    let e = c .before .before .before .before .before in
-    let s = e .before .before .before in
-    let a = s .args in (
-      s .pre,
-      in-range (a .words .now) (a .z) (s .pre) (a .r) (a .w) (a .mask) (range e) .1,
-    )
+    let d = c .before in rw (tested (d .before), all-done d, c .if4 .taken)
 
 returns-5 : tie.Need-returns-5
 unfolding refuse
 returns-5 c =
     let f = c .before in
     let d = f .before in
-    rw (
-      tested (d .before),
-      not-false (d .before .jobs-done .result) (d .if3 .left),
-      ne-eqb _ _ (f .if4 .left),
+    rw (tested (d .before), all-done d, f .if4 .left, eq-eqb _ _ (c .if5 .taken))
+
+raise-cause-requires : tie.Need-raise-cause-requires
+raise-cause-requires c κs =
+    let d = c .before .before .before .before .before .before in
+    let e = d .before in
+    let s = e .before .before .before in
+    let a = s .args in (
+      s .pre,
+      in-range (a .words .now) (a .z) (s .pre) (a .r) (a .w) (a .mask) (range e) .1,
     )
+
+returns-6 : tie.Need-returns-6
+unfolding refuse
+returns-6 c =
+    let g = c .before in
+    let f = g .before in
+    let d = f .before in
+    rw (tested (d .before), all-done d, f .if4 .left, ne-eqb _ _ (g .if5 .left))
     (c .raise-cause .ensures)
 
 pub issue-cause-spec : {M : Type 1} → statement M
@@ -109,7 +125,9 @@ issue-cause-spec =
     (λ c κs. search needs)
     returns-2
     jobs-done-requires
+    is-barred-requires
     returns-3
     returns-4
+    returns-5
     raise-cause-requires
-    returns-5)
+    returns-6)

@@ -27,7 +27,8 @@ use Rattle.model.proofs.Outcomes.{no-cause}
 use Rattle.layout.proofs.Parts.{FitPast, FitVersion, FitPlace}
 use Rattle.layout.proofs.Whole.{FitStore}
 use Rattle.layout.proofs.Fit.{fit-free, fit-merge, past-out, past-in, place-fit, fit-last, fit-marks, fit-master, fit-writer, fit-run}
-use Rattle.model.proofs.Formed.{PlaceFormed, VersionFormed, version-held, version-merge, Formed, well-out, leaders-in}
+use Rattle.model.proofs.FormedPlaces.{PlaceFormed, VersionFormed, version-held, version-merge, leaders-in}
+use Rattle.model.proofs.Formed.{Formed, well-out}
 use Rattle.model.proofs.FormedNext.{formed-last, formed-master, formed-writer, formed-run}
 use Rattle.model.proofs.Plans.{free-formed}
 use Rattle.layout.proofs.Follow.{Fine}

@@ -15,7 +15,8 @@ use Rattle.words.proofs.Tests.{all-at}
 use Rattle.words.proofs.Lists.{upto-in, upto-out}
 use Rattle.masks.proofs.Bits.{test-none}
 use Rattle.sizes.specs.declared.Counts.{Counts}
-use Rattle.sizes.specs.Bounds.{maxJobs, jobSize, between}
+use Rattle.sizes.specs.Bounds.{between}
+use Rattle.sizes.specs.Runs.{maxJobs, jobSize}
 use Rattle.sizes.proofs.Offsets.{between-out}
 use Rattle.model.specs.Version.{held}
 use Rattle.model.specs.Store.{Store, noJob, withRun}
@@ -26,7 +27,8 @@ use Rattle.model.proofs.Outcomes.{no-cause, no-lack}
 use Rattle.model.proofs.DoneReads.{doneReads-none}
 use Rattle.layout.proofs.Parts.{FitRun}
 use Rattle.layout.proofs.Fit.{fit-empty, fit-run}
-use Rattle.model.proofs.Formed.{formed-empty, well-out}
+use Rattle.model.proofs.FormedPlaces.{formed-empty}
+use Rattle.model.proofs.Formed.{well-out}
 use Rattle.model.proofs.FormedNext.{formed-run}
 use Rattle.model.proofs.Plans.{zero-job, plan-in}
 use Rattle.layout.proofs.Follow.{Fine}

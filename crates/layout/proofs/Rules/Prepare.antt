@@ -3,7 +3,7 @@
 -- Accepted: what a prepare that is not refused has passed. was, unread: the run before it, with no
 -- key read.
 -- Assumes nothing.
-use mathlib.Core.Path.{_≡_, refl, ap, _∙_}
+use mathlib.Core.Path.{_≡_, refl, sym, ap, _∙_}
 use mathlib.Core.Bool.{Bool, true, false, cond, So, _&&_}
 use Prim.Native.Nat.{ℕ, _≤_, _<_}
 use native.Mathlib.Omega.{arith}
@@ -21,15 +21,19 @@ use Rattle.model.specs.Store.{Job, Run, Site, Store, emptyPlace, planned, withS
 use Rattle.model.specs.Allowance.{heldCount}
 use Rattle.model.specs.Form.{runFormed}
 use Rattle.model.specs.Outcome.{allowed, prepareRow, runCause}
-use Rattle.model.specs.Prepare.{jobStart, fetchReads, preparedCaches, usesSite, sitesMerged, siteCaches, anyOver, prepareCause, prepareCaches, prepareSnapshot, prepareDone, prepareRule}
+use Rattle.model.specs.Prepare.{jobStart, fetchReads, preparedCaches, unentitled, usesSite, sitesMerged, siteCaches, anyOver, prepareCause, prepareCaches, prepareSnapshot, prepareDone, prepareRule}
 use Rattle.model.proofs.Merges.{held-unheld, merge-unheld-left}
 use Rattle.model.proofs.Outcomes.{no-cause, no-lack, allowed-used}
 use Rattle.model.proofs.Allowances.{over-no}
+use Rattle.model.proofs.Rights.{unbarred-fetched}
+use Rattle.model.proofs.AtOnce.{prepared-at-once, unentitled-sites}
 use Rattle.model.proofs.DoneReads.{doneReads-none}
 use Rattle.layout.proofs.Codec.{FitMany}
 use Rattle.layout.proofs.Parts.{FitVersion, FitPlace, FitRun}
-use Rattle.layout.proofs.Fit.{fit-unheld, fit-put, fit-merge, fit-caches, fit-run}
-use Rattle.model.proofs.Formed.{VersionFormed, version-unheld, version-merge, PlaceFormed, well-out}
+use Rattle.layout.proofs.Codec.{fit-put}
+use Rattle.layout.proofs.Fit.{fit-unheld, fit-merge, fit-caches, fit-run}
+use Rattle.model.proofs.FormedPlaces.{VersionFormed, version-unheld, version-merge, PlaceFormed}
+use Rattle.model.proofs.Formed.{Unbarred, well-out}
 use Rattle.model.proofs.FormedNext.{formed-caches, formed-run}
 use Rattle.model.proofs.Plans.{valid-out, Jobs, Plan, plan-out, plan-in}
 use Rattle.layout.proofs.Follow.{Fine}
@@ -129,6 +133,8 @@ pub record Accepted (s : Store) (r : ℕ) : Type 0 where
   pub run : r < s .counts .runs
   pub state : 1 ≤ s .run r .state
   pub done : s .run r .done ≡ 0
+  pub entitled : unentitled (versions (s .counts .writers)) (s .counts .keys) (s .master)
+      (s .run r .job) (s .tail .mayHold) (s .run r .jobs) (siteCaches s) ≡ false
   pub fits : (o : ℕ) → o < s .counts .sites
       → heldCount (s .counts .keys) (prepareCaches s r o) ≤ s .site o .allowance
 
@@ -138,12 +144,14 @@ accepted s r e =
     let a = no-cause _ 3 _ (omega arith) e in
     let b = no-lack _ 4 _ (omega arith) (a .1) in
     let c = no-lack _ 6 _ (omega arith) (b .1) in
-    let d = no-cause _ 7 _ (omega arith) (c .1) in
+    let t = no-cause _ 13 _ (omega arith) (c .1) in
+    let d = no-cause _ 7 _ (omega arith) (t .1) in
     let f = no-cause _ 12 0 (omega arith) (d .1) in
     record {
       run = leb-gt _ _ (a .0);
       state = allowed-used prepareRow (s .run r .state) refl (b .0);
       done = eqb-eq (s .run r .done) 0 (c .0);
+      entitled = t .0;
       fits = λ o h. over-no (s .counts) (s .site o) (prepareCaches s r o)
           (any-none (s .counts .sites) _ (f .0) o h);
     }
@@ -160,6 +168,22 @@ module _ (s : Store) (r : ℕ) (F : Fine s) (A : Accepted s r) where
       record { fits = F .fits .master; formed = well-out s (F .formed) .master } in
       prepared (s .counts) (s .master) (a .job) (a .jobs) (siteCaches s) M (was .jobs)
       (store-caches s F)
+
+  -- No cache takes a key that its site may not hold.
+  unbarred : (o : ℕ) → o < s .counts .sites
+      → Unbarred (s .counts) (s .tail .mayHold o) (prepareCaches s r o)
+  unfolding prepareCaches siteCaches
+  unbarred o h =
+      let z = s .counts in
+      let a = s .run r in
+      let alg = versions (z .writers) in
+      let cache = siteCaches s in
+      let none = any-none (z .sites) _ (sym (unentitled-sites alg (z .keys) (s .master) (a .job)
+      cache (s .tail .mayHold) (z .sites) (a .jobs)
+      (λ j l. valid-out z j (a .job j) (was .jobs .valid j l) .site)) ∙ A .entitled) o h in
+      rw (prepared-at-once alg (z .keys) (s .master) (a .job) cache (a .jobs) o)
+      (unbarred-fetched (z .keys) (s .tail .mayHold o) (z .writers) (cache o) _ (s .master)
+      (well-out s (F .formed) .right o h) none)
 
   -- No key is read.
   pub unread : (k : ℕ) → testBit (s .run r .branch .read) k ≡ false
@@ -210,7 +234,7 @@ module _ (s : Store) (r : ℕ) (F : Fine s) (A : Accepted s r) where
       let f₁ = fit-caches s (F .fits) p
       (record { each = λ o h. caches .each o h .fits; rest = caches .rest }) in
       let g₁ = formed-caches s (well-out s (F .formed)) p
-      (λ o h. (caches .each o h .formed, A .fits o h)) in
+      (λ o h. (caches .each o h .formed, A .fits o h, unbarred o h)) in
       kept-done s (withRun s₁ r after) _ F (fit-run s₁ f₁ r after (A .run) after-fits)
       (formed-run s₁ g₁ r after after-formed) refl
 

@@ -3,13 +3,13 @@
 -- the snapshot and the run after it.
 -- Assumes nothing.
 use mathlib.Core.Path.{refl, ap, _∙_}
-use mathlib.Core.Bool.{So}
+use mathlib.Core.Bool.{So, _||_}
 use mathlib.Core.Logic.{inl, inr}
 use Prim.Native.Nat.{ℕ, _<_}
 use native.Mathlib.Omega.{arith}
 use lib.Bits.{bitOr}
 use Rattle.words.specs.Tests.{anyBelow}
-use Rattle.words.proofs.Bools.{test, _∙˙_, or-cases}
+use Rattle.words.proofs.Bools.{test, _∙˙_, or-cases, or-right}
 use Rattle.masks.specs.Mask.{testBit}
 use Rattle.masks.proofs.Bits.{test-or, with-lt}
 use Rattle.model.specs.Algebra.{Place}
@@ -18,14 +18,16 @@ use Rattle.model.specs.Sets.{pullSet, pulled}
 use Rattle.model.specs.Store.{Store, withSites, withCache, withRun, withState, withJobDone}
 use Rattle.model.specs.Form.{runFormed}
 use Rattle.model.specs.Outcome.{brokenState}
-use Rattle.model.specs.Step.{stepBranch, stepSite, stepReads, stepStart, stepCache, stepPlan, stepSnapshot, stepMoved, stepCause, stepBroken, stepDone, stepRule}
+use Rattle.model.specs.Step.{stepBranch, stepSite, stepReads, stepStart, stepCache, stepPlan, stepSnapshot, stepMoved, stepFetch, stepBarred, stepCause, stepBroken, stepDone, stepRule}
 use Rattle.model.proofs.Draws.{pulled-cases}
 use Rattle.model.proofs.Allowances.{over-no}
+use Rattle.model.proofs.Rights.{unbarred-within, unbarred-fetched}
 use Rattle.model.proofs.Steps.{Accepted, accepted, accepted-used, stepSnapshot-keeps, stepSnapshot-held, stepSnapshot-planned, steppedRun}
 use Rattle.model.proofs.DoneReads.{doneReads-mask}
 use Rattle.layout.proofs.Parts.{FitPlace, FitRun}
 use Rattle.layout.proofs.Fit.{fit-choice, fit-merged, fit-cache, fit-run}
-use Rattle.model.proofs.Formed.{VersionFormed, version-merge, PlaceFormed, Formed, well-out}
+use Rattle.model.proofs.FormedPlaces.{VersionFormed, version-merge, PlaceFormed}
+use Rattle.model.proofs.Formed.{Unbarred, Formed, well-out}
 use Rattle.model.proofs.FormedNext.{formed-cache, formed-run}
 use Rattle.model.proofs.Plans.{Valid, valid-out, Plan, plan-out, plan-in}
 use Rattle.layout.proofs.Follow.{Fine}
@@ -61,6 +63,19 @@ module _ (s : Store) (r j : ℕ) (F : Fine s) (A : Accepted s r j) where
   cache-formed =
       fetched-formed (s .counts) (s .master) (s .site (stepSite s r j) .cache) (stepStart s r j)
       (formed .master) (formed .cache (stepSite s r j) site)
+
+  -- T has no key that the site may not hold.
+  cache-unbarred : Unbarred (s .counts) (s .tail .mayHold (stepSite s r j)) (stepCache s r j)
+  unfolding stepCache stepBarred stepFetch
+  cache-unbarred =
+      let z = s .counts in
+      let o = stepSite s r j in
+      let right = s .tail .mayHold o in
+      unbarred-fetched (z .keys) right (z .writers) (s .site o .cache) (stepStart s r j)
+      (s .master)
+      (formed .right o site)
+      (unbarred-within (z .keys) right (λ k. stepReads s r j k || stepFetch s r j k)
+      (stepFetch s r j) (λ k _ p. or-right (stepReads s r j k) p) (A .entitled))
 
   -- ---- the snapshot
 
@@ -133,7 +148,7 @@ module _ (s : Store) (r j : ℕ) (F : Fine s) (A : Accepted s r j) where
       let s₁ = withCache s o p in
       let f₁ = fit-cache s (F .fits) o p site cache-fits in
       let g₁ = formed-cache s formed o p cache-formed
-      (over-no (s .counts) (s .site o) p (A .fits)) in
+      (over-no (s .counts) (s .site o) p (A .fits)) cache-unbarred in
       kept-done s (withRun s₁ r b) _ F (fit-run s₁ f₁ r b (A .run-in) stepped-fits)
       (formed-run s₁ g₁ r b stepped-formed) refl
 

@@ -36,11 +36,30 @@ unfolding calling formAt
 returns-5 c = (rw (c .match .keys5), omega arith)
 
 returns-6 : tie.Need-returns-6
+unfolding calling formAt
 returns-6 c =
+    let a = c .before .before .number-at .ensures in
+    let b = c .before .number-at2 .ensures in
+    (rw (c .match .keys6, a, b), omega arith)
+
+returns-7 : tie.Need-returns-7
+unfolding calling formAt
+returns-7 c =
+    let a = c .before .before .number-at .ensures in
+    let b = c .before .number-at2 .ensures in
+    (rw (c .match .keys7, a, b), omega arith)
+
+returns-8 : tie.Need-returns-8
+returns-8 c =
     let s = c .before .before .before .before in
-    let r = c .match .rest in
-    let far = next (next (next (s .pre .0) (r .0 .0 .0 .0 .1)) (r .0 .0 .0 .1)) (r .0 .0 .1) in
-    let past = next (next far (r .0 .1)) (r .1) in
+    let r6 = c .match .rest in
+    let r5 = r6 .0 in
+    let r4 = r5 .0 in
+    let r3 = r4 .0 in
+    let r2 = r3 .0 in
+    let r1 = r2 .0 in
+    let far = next (next (next (s .pre .0) (r1 .0 .1)) (r1 .1)) (r2 .1) in
+    let past = next (next (next (next far (r3 .1)) (r4 .1)) (r5 .1)) (r6 .1) in
     absurd (not-past (in-table (s .args .number) (s .args .n) (s .pre .1 .0)) past)
 
 pub later-command-spec : {M : Type 1} → statement M
@@ -54,4 +73,6 @@ later-command-spec =
     returns-3
     returns-4
     returns-5
-    returns-6)
+    returns-6
+    returns-7
+    returns-8)

@@ -20,7 +20,8 @@ use Rattle.model.specs.Store.{Store, Run, fresh, withLast, withMaster, w
 use Rattle.model.specs.Form.{wellFormed}
 use Rattle.model.specs.Calls.Look.{lookPlace, lookLimit, rowNumbers, lookStanding, lookNumbers}
 use Rattle.model.specs.Calls.{ask, look}
-use Rattle.model.proofs.Formed.{PlaceFormed, version-row, version-zero, well-out}
+use Rattle.model.proofs.FormedPlaces.{PlaceFormed, version-row, version-zero}
+use Rattle.model.proofs.Formed.{well-out}
 use Rattle.model.proofs.Plans.{run-place}
 use Rattle.model.proofs.Scripts.{seen}
 use Rattle.model.proofs.Readings.{led, version, place, jobs, answered, zero-zero, zero-one, one-one, two-zero}

@@ -5,7 +5,8 @@ use native.Mathlib.Omega.{arith}
 use mathlib.Core.Path.{_≡_, ap, _∙_}
 use mathlib.Core.Bool.{So}
 use Prim.Native.Nat.{ℕ, _≤_, _<_}
-use Rattle.sizes.specs.Bounds.{maxRuns, maxJobs}
+use Rattle.sizes.specs.Bounds.{maxRuns}
+use Rattle.sizes.specs.Runs.{maxJobs}
 use Rattle.model.specs.Calls.Pick.{waiting}
 use Rattle.layout.specs.Reading.{storeOf}
 use Rattle.form.specs.Parts.{FormWith}

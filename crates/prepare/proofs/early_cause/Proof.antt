@@ -5,7 +5,7 @@ use Prim.Native.Nat.{ℕ, _+_, _≤_}
 use borrow.Author.Needs.{needs}
 use native.Mathlib.Omega.{arith}
 use lib.ListN.{length, getD}
-use Rattle.sizes.specs.Bounds.{snapshotOffset}
+use Rattle.sizes.specs.Runs.{snapshotOffset}
 use Rattle.model.specs.Outcome.{prepareRow, runCause}
 use Rattle.layout.specs.Reading.{storeOf}
 use Rattle.trial.specs.Jobs.{UsedRun}

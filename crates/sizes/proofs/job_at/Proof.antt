@@ -2,7 +2,7 @@
 -- Assumes nothing.
 use mathlib.Core.Path.{refl}
 use borrow.Author.Needs.{needs}
-use Rattle.sizes.specs.Bounds.{jobAt}
+use Rattle.sizes.specs.Runs.{jobAt}
 use Rattle.sizes.proofs.job_at.Statement.{statement}
 use Rattle.sizes.proofs.job_at.Tie as tie
 

@@ -6,7 +6,8 @@ use Prim.Native.Nat.{ℕ, _+_, _-_}
 use borrow.Author.Needs.{needs}
 use native.Mathlib.Omega.{arith}
 use Rattle.words.specs.Words.{put}
-use Rattle.sizes.specs.Bounds.{planOffset, runSize}
+use Rattle.sizes.specs.Bounds.{runSize}
+use Rattle.sizes.specs.Runs.{planOffset}
 use Rattle.status.proofs.Freed.{zeros-free}
 use Rattle.status.proofs.Known.{area-ends}
 use Rattle.status.proofs.Statuses.{freed-words, put-on}

@@ -5,7 +5,7 @@ use mathlib.Core.Bool.{Bool, not}
 use Prim.Native.Nat.{_+_, _≤_}
 use native.Mathlib.Omega.{arith}
 use lib.ListN.{length}
-use Rattle.sizes.specs.Bounds.{snapshotOffset}
+use Rattle.sizes.specs.Runs.{snapshotOffset}
 use Rattle.model.specs.Outcome.{refuse, runCause}
 use Rattle.layout.specs.Reading.{storeOf}
 use Rattle.status.proofs.Known.{RunKnown, run-known, cause-high, cause-state}

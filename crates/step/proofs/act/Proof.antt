@@ -5,7 +5,7 @@ use Prim.Native.Nat.{ℕ, _+_, _≤_}
 use borrow.Author.Needs.{needs}
 use native.Mathlib.Omega.{arith}
 use lib.ListN.{length, set}
-use Rattle.sizes.specs.Bounds.{snapshotOffset}
+use Rattle.sizes.specs.Runs.{snapshotOffset}
 use Rattle.model.specs.Outcome.{brokenState}
 use Rattle.form.proofs.Known.{form-area}
 use Rattle.status.proofs.Statuses.{spoiled-words}

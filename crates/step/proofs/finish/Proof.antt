@@ -7,7 +7,7 @@ use borrow.Author.Needs.{needs}
 use native.Mathlib.Omega.{arith}
 use lib.Bits.{bitOr}
 use lib.ListN.{length}
-use Rattle.sizes.specs.Bounds.{snapshotOffset}
+use Rattle.sizes.specs.Runs.{snapshotOffset}
 use Rattle.model.specs.Step.{stepSnapshot}
 use Rattle.layout.specs.Reading.{storeOf}
 use Rattle.layout.specs.Stored.{putPlace}

@@ -4,6 +4,7 @@ use mathlib.Core.Path.{_≡_, sym, ap, _∙_}
 use Prim.Native.Nat.{_<_, _^_}
 use borrow.Author.Needs.{needs}
 use native.Mathlib.Omega.{arith}
+use lib.Bits.{or-lt}
 use Rattle.words.proofs.Bools.{ne-eqb}
 use Rattle.masks.proofs.Sets.{mask-lt}
 use Rattle.model.specs.Step.{jobCause, stepCause}
@@ -85,15 +86,20 @@ taken-low c = rw (c .find-taken .ensures) (mask-lt _ _ _ (omega arith))
 
 taking-cause-requires : tie.Need-taking-cause-requires
 taking-cause-requires c κs =
-    let v = c .before .before .before in
-    let e = v .before in ((ready e .0 .form, known v .site), taken-low c)
+    let t = c .before in
+    let v = t .before .before .before in
+    let e = v .before in
+    let z = e .before .before .before .args .z in (
+      (ready e .0 .form, known v .site),
+      (or-lt (z .keys) _ _ (known v .reads) (taken-low t), taken-low t),
+    )
 
 -- What is left where the causes before it do not hold.
 tested : (c : tie.After-taking-cause)
-    → let a = c .before .before .before .before .before .before .before .before .args in
+    → let a = c .before .before .before .before .before .before .before .before .before .args in
     stepCause (storeOf (a .words .now)) (a .r) (a .j) ≡ c .taking-cause .result
 tested c =
-    let t = c .before in
+    let t = c .before .before in
     let n = t .before in
     let w = n .before in
     let v = w .before in
@@ -109,14 +115,14 @@ tested c =
 returns-2 : tie.Need-returns-2
 returns-2 c =
     let u = c .before in
-    let a = u .before .before .before .before .before .before .before .before .args in
+    let a = u .before .before .before .before .before .before .before .before .before .args in
     tried-no _ (a .r) (a .j) _ _ (tested u) (c .if2 .taken)
 
 -- ---- C
 
 draw-set-requires : tie.Need-draw-set-requires
 draw-set-requires c κs =
-    let w = c .before .before .before .before in
+    let w = c .before .before .before .before .before in
     let v = w .before in
     let K = known v in
     let L = v .before .before .before .before .pre .1 in
@@ -126,7 +132,7 @@ returns-3 : tie.Need-returns-3
 returns-3 c =
     let i = c .before in
     let u = i .before in
-    let t = u .before in
+    let t = u .before .before in
     let n = t .before in
     let w = n .before in
     let v = w .before in

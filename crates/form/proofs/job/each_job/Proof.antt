@@ -8,7 +8,7 @@ use Prim.Native.Nat.{ℕ, _≤_, _-_}
 use borrow.Author.Needs.{needs}
 use native.Mathlib.Omega.{arith}
 use Rattle.words.specs.Tests.{Items, allBelow}
-use Rattle.sizes.specs.Bounds.{maxJobs}
+use Rattle.sizes.specs.Runs.{maxJobs}
 use Rattle.sizes.specs.declared.Counts.{Counts}
 use Rattle.layout.specs.Reading.{readJobs}
 use Rattle.form.specs.Parts.{jobFormed}

@@ -5,7 +5,7 @@ use Prim.Native.Nat.{_+_, _≤_}
 use lib.ListN.{length}
 use borrow.Author.Tests.{lt-ltb, le-ltb}
 use borrow.Author.Needs.{needs}
-use Rattle.sizes.specs.Bounds.{jobSize}
+use Rattle.sizes.specs.Runs.{jobSize}
 use Rattle.sizes.proofs.Offsets.{job-lies}
 use Rattle.form.specs.Parts.{jobFormed}
 use Rattle.form.proofs.Runs.{job-words}

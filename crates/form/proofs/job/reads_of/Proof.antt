@@ -7,7 +7,7 @@ use lib.ListN.{length}
 use borrow.Author.Needs.{needs}
 use native.Mathlib.Omega.{arith}
 use Rattle.masks.specs.Mask.{unionBelow}
-use Rattle.sizes.specs.Bounds.{maxJobs, jobSize}
+use Rattle.sizes.specs.Runs.{maxJobs, jobSize}
 use Rattle.sizes.proofs.Offsets.{job-lies}
 use Rattle.layout.specs.Reading.{readJobs}
 use Rattle.form.specs.Parts.{readsOf}

@@ -4,7 +4,7 @@ use Prim.Native.Nat.{_+_, _≤_}
 use borrow.Author.Needs.{needs}
 use native.Mathlib.Omega.{arith}
 use lib.ListN.{getD}
-use Rattle.sizes.specs.Bounds.{maxJobs, jobsOffset}
+use Rattle.sizes.specs.Runs.{maxJobs, jobsOffset}
 use Rattle.form.proofs.Masks.{jobs-most, masks-test}
 use Rattle.form.proofs.run.masks_formed.Statement.{statement}
 use Rattle.form.proofs.run.masks_formed.Tie as tie

@@ -1,4 +1,4 @@
--- `site_formed` tests the cache, and the mark and the allowance behind it.
+-- `site_formed` tests the cache, the mark behind it, and what it holds.
 -- Assumes nothing.
 use borrow.Author.Needs.{needs}
 use native.Mathlib.Omega.{arith}
@@ -13,8 +13,8 @@ stale-mask-requires c κs =
     let s = c .before .before in
     (s .pre .0, site-cache _ (s .args .z) (s .args .site) (s .pre .1))
 
-allowance-formed-requires : tie.Need-allowance-formed-requires
-allowance-formed-requires c κs = c .before .before .before .pre .1
+holding-formed-requires : tie.Need-holding-formed-requires
+holding-formed-requires c κs = c .before .before .before .pre .1
 
 place-formed-requires : tie.Need-place-formed-requires
 place-formed-requires c κs =
@@ -42,7 +42,7 @@ returns c =
     let m = n .before in
     rw (
       p .place-formed .ensures,
-      n .allowance-formed .ensures,
+      n .holding-formed .ensures,
       m .stale-mask .ensures,
       m .before .stale-at .ensures,
     )
@@ -53,7 +53,7 @@ site-formed-spec =
     (tie.spec
     (λ c κs. search needs)
     stale-mask-requires
-    allowance-formed-requires
+    holding-formed-requires
     place-formed-requires
     mul-result
     shared-slice-read-result

@@ -6,7 +6,7 @@ use mathlib.Core.Path.{_≡_, ap, ap₂, _∙_}
 use mathlib.Core.Bool.{not}
 use Prim.Native.Nat.{ℕ, _+_, _≤_, _<_, _^_}
 use lib.ListN.{length, getD}
-use Rattle.sizes.specs.Bounds.{maxJobs, doneOffset, snapshotOffset}
+use Rattle.sizes.specs.Runs.{maxJobs, doneOffset, snapshotOffset}
 use Rattle.model.specs.Step.{notReady}
 use Rattle.model.specs.Calls.Pick.{ready}
 use Rattle.layout.specs.Reading.{storeOf}

@@ -23,7 +23,7 @@ loop-holds : tie.Need-loop-holds Inv-loop μ-loop
 loop-holds c =
     let s = c .before .before in
     let a = s .args in
-    (omega arith, refl, sites-start (a .words .now) (a .z) (s .pre .0) _ (s .pre .1 .fits))
+    (omega arith, refl, sites-start (a .words .now) (a .z) (s .pre .0) _ (s .pre .1))
 
 -- There is a mask for the site.
 inside : (l : tie.At-loop Inv-loop μ-loop) → let s = l .before .before .before in
@@ -35,7 +35,7 @@ take-keys-requires c κs =
     let l = c .before .before .before in
     let s = l .before .before .before in
     let a = s .args in (
-      sites-form (a .words .now) (a .z) (s .pre .0) _ (s .pre .1 .fits) (l .loop .o) (omega arith)
+      sites-form (a .words .now) (a .z) (s .pre .0) _ (s .pre .1) (l .loop .o) (omega arith)
           (l .loop .words) (l .loop .inv .2),
       omega arith,
     )
@@ -48,7 +48,7 @@ loop-again c =
     let a = s .args in (
       omega arith,
       k .take-keys .kept .0 ∙ l .loop .inv .1,
-      sites-turn (a .words .now) (a .z) (s .pre .0) _ (s .pre .1 .fits) (l .loop .o) (omega arith)
+      sites-turn (a .words .now) (a .z) (s .pre .0) _ (s .pre .1) (l .loop .o) (omega arith)
           (l .loop .words) (l .loop .inv .2) _ (k .take-keys .ensures),
     )
 

@@ -8,7 +8,8 @@ use borrow.Author.Tests.{not-true, not-false}
 use native.Mathlib.Omega.{arith}
 use lib.ListN.{length}
 use Rattle.words.proofs.Bools.{eq-eqb, ne-eqb}
-use Rattle.sizes.specs.Bounds.{maxJobs, jobSize, between}
+use Rattle.sizes.specs.Bounds.{between}
+use Rattle.sizes.specs.Runs.{maxJobs, jobSize}
 use Rattle.sizes.proofs.Offsets.{between-out}
 use Rattle.model.specs.Runs.{listedCount, listValid}
 use Rattle.runs.proofs.jobs.list_valid.Statement.{statement}

@@ -3,7 +3,8 @@
 use mathlib.Core.Path.{refl}
 use Prim.Native.Nat.{ℕ, _+_, _*_, _≤_}
 use native.Mathlib.Omega.{arith}
-use Rattle.sizes.specs.Bounds.{Ranged, countsOf, maxTotal, pastOffset, writerPastOffset, siteRest, snapshotOffset, pastSize, versionSize, placeSize, siteSize, writerSize, runSize, tailSize, masterAt, sitesAt, writersAt, runsAt, tailAt, totalOf, sizesOf}
+use Rattle.sizes.specs.Bounds.{Ranged, countsOf, maxTotal, pastOffset, writerPastOffset, siteRest, pastSize, versionSize, placeSize, siteSize, writerSize, runSize, tailSize, masterAt, sitesAt, writersAt, runsAt, tailAt, totalOf, sizesOf}
+use Rattle.sizes.specs.Runs.{snapshotOffset}
 use Rattle.sizes.proofs.Offsets.{largest}
 use Rattle.sizes.proofs.Sizes.of.Statement.{statement}
 use Rattle.sizes.proofs.Sizes.of.Tie as tie
@@ -40,5 +41,7 @@ of-spec =
     (λ c. omega (arith, most _ _ _ _ (c .pre)))
     (λ c. omega (arith, most _ _ _ _ (c .pre)))
     (λ c. omega (arith, most _ _ _ _ (c .pre)))
-    (λ c. omega (arith, most _ _ _ _ (c .pre)))
+    (λ c. omega (arith, c .pre))
+    (λ c. omega (arith, c .pre))
+    (λ c. omega (arith, c .pre, most _ _ _ _ (c .pre)))
     returns)

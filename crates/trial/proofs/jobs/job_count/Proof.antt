@@ -4,7 +4,7 @@ use mathlib.Core.Path.{ap, _∙_}
 use Prim.Native.Nat.{ℕ, _+_, _≤_}
 use native.Mathlib.Omega.{arith}
 use lib.ListN.{length, getD}
-use Rattle.sizes.specs.Bounds.{snapshotOffset}
+use Rattle.sizes.specs.Runs.{snapshotOffset}
 use Rattle.trial.proofs.Known.{jobs-known, run-index, count-word}
 use Rattle.trial.proofs.jobs.job_count.Statement.{statement}
 use Rattle.trial.proofs.jobs.job_count.Tie as tie

@@ -4,7 +4,7 @@ use mathlib.Core.Path.{ap, _∙_}
 use Prim.Native.Nat.{ℕ, _+_, _≤_, _<_}
 use native.Mathlib.Omega.{arith}
 use lib.ListN.{length}
-use Rattle.sizes.specs.Bounds.{maxJobs, jobSize, planOffset, snapshotOffset, jobAt}
+use Rattle.sizes.specs.Runs.{maxJobs, jobSize, planOffset, snapshotOffset, jobAt}
 use Rattle.sizes.proofs.Offsets.{job-lies}
 use Rattle.trial.proofs.Known.{jobs-known, run-index, job-low, job-found}
 use Rattle.trial.proofs.jobs.job_of.Statement.{statement}

@@ -4,7 +4,7 @@ use Prim.Native.Nat.{_+_, _≤_}
 use borrow.Author.Needs.{needs}
 use native.Mathlib.Omega.{arith}
 use lib.ListN.{length}
-use Rattle.sizes.specs.Bounds.{maxJobs, snapshotOffset}
+use Rattle.sizes.specs.Runs.{maxJobs, snapshotOffset}
 use Rattle.trial.proofs.Known.{jobs-known, run-index, jobs-words}
 use Rattle.trial.proofs.jobs.plan_keys.Statement.{statement}
 use Rattle.trial.proofs.jobs.plan_keys.Tie as tie

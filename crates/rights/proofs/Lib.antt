@@ -1,0 +1,2 @@
+pub mod Away
+pub mod Rights
