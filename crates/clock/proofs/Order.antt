@@ -1,5 +1,6 @@
 -- Clocks are ordered by dominates, and join is the least clock above two.
--- covers-standing, rivals-standing: what document 01 says of both. dominates-..: an order.
+-- covering-not, covers-standing, rivals-standing: what document 01 says of both. dominates-..: an
+-- order.
 -- join-..: the least upper bound. present-..: who is in a clock.
 -- Assumes nothing.
 use mathlib.Core.Path.{_≡_, refl, sym, _∙_, fun-ext}
@@ -16,22 +17,25 @@ use Rattle.clock.proofs.Standings.{exceeds-none, exceeds-no}
 
 -- ---- covering and rivals, by what document 01 says of them
 
+-- It covers the other exactly if no count of the other is larger.
+pub covering-not : (W : ℕ) (p q : Clock) → covering (standing W p q) ≡ not (exceeds W q p)
+unfolding standing
+covering-not W p q = cases (exceeds W p q) (exceeds W q p)
+  where
+    cases : (a b : Bool) → covering (standingOf a b) ≡ not b
+    cases false false = refl
+    cases false true = refl
+    cases true false = refl
+    cases true true = refl
+
 -- "Clock p covers q if every count of p is at least that of q."
 pub covers-standing : (W : ℕ) (p q : Clock)
     → So (dominates W p q) ↔ ((w : ℕ) → w < W → q w ≤ p w)
-unfolding dominates standing
-covers-standing W p q =
-    let a = exceeds W p q in
-    let b = exceeds W q p in (
-      λ s. exceeds-none W q p (not-elim (sym (covers a b) ∙ s)),
-      λ c. covers a b ∙ not-intro (exceeds-no W q p c),
-    )
-  where
-    covers : (a b : Bool) → covering (standingOf a b) ≡ not b
-    covers false false = refl
-    covers false true = refl
-    covers true false = refl
-    covers true true = refl
+unfolding dominates
+covers-standing W p q = (
+  λ s. exceeds-none W q p (not-elim (sym (covering-not W p q) ∙ s)),
+  λ c. covering-not W p q ∙ not-intro (exceeds-no W q p c),
+)
 
 -- "Two clocks are rivals if neither covers the other."
 pub rivals-standing : (W : ℕ) (p q : Clock)

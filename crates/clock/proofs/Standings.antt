@@ -13,7 +13,7 @@ use Rattle.words.proofs.Bools.{test, clash, ltb-lt, lt-ltb, ltb-ge, ge-ltb, eq-
 use Rattle.words.proofs.Tests.{any-intro, any-some, any-none, any-no, any-same, any-more}
 use Rattle.clock.specs.declared.Standing.{Standing}
 use Rattle.clock.specs.declared.Standing.the-variants.{Equal, Older, Newer, Rival}
-use Rattle.clock.specs.Clock.{Clock, exceeds, standingOf, standing, Dominates, differing}
+use Rattle.clock.specs.Clock.{Clock, exceeds, standingOf, standing, flipped, Dominates, differing}
 
 -- ---- some count is larger
 
@@ -117,13 +117,7 @@ module _ (W : ℕ) (p q : Clock) where
 pub standing-self : (W : ℕ) (p : Clock) → standing W p p ≡ Equal
 standing-self W p = standing-equal W p p .1 (λ w l. refl)
 
--- Seen from the other clock, older and newer change places.
-abbrev pub flipped : Standing → Standing
-flipped Equal = Equal
-flipped Older = Newer
-flipped Newer = Older
-flipped Rival = Rival
-
+-- Seen from the other clock.
 pub standing-flip : (W : ℕ) (p q : Clock) → standing W q p ≡ flipped (standing W p q)
 unfolding standing
 standing-flip W p q = cases (exceeds W p q) (exceeds W q p)

@@ -1,7 +1,6 @@
 -- Clocks (document 01: "one count per writer"), of writers below W.
--- standing: how two of them stand. dominates ("covers"), concurrent ("rivals"), differing: tests
--- of
--- it.
+-- standing: how two of them stand; flipped: the other way round. dominates ("covers"), covered,
+-- concurrent ("rivals"), differing: tests of it.
 -- present: not all zero. join: the larger count at each place.
 -- clockAt: the clock in a buffer from an index on.
 -- Assumes nothing.
@@ -53,6 +52,17 @@ covering Rival = false
 
 unfoldable pub dominates : ℕ → Clock → Clock → Bool
 dominates W p q = covering (standing W p q)
+
+-- Seen from the other clock, older and newer change places (`standing-flip`).
+abbrev pub flipped : Standing → Standing
+flipped Equal = Equal
+flipped Older = Newer
+flipped Newer = Older
+flipped Rival = Rival
+
+-- The other clock covers it: it is equal or older.
+abbrev pub covered : Standing → Bool
+covered x = covering (flipped x)
 
 -- ".. if every count of p is at least that of q" (`covers-standing`: the same).
 abbrev pub Dominates : ℕ → Clock → Clock → Type 0

@@ -7,7 +7,7 @@ ghost use mathlib.Core.Path.{_≡_};
 ghost use Prim.Native.Nat.{_+_, _≤_};
 ghost use lib.ListN.{length};
 ghost use Rattle.words.specs.Words.{put, Apart};
-ghost use Rattle.clock.specs.Clock.{standing, standingOf, standingNumber, covering, differing, present, join, clockAt};
+ghost use Rattle.clock.specs.Clock.{standing, standingOf, standingNumber, covering, flipped, covered, differing, present, join, clockAt};
 
 // How two clocks stand.
 pub enum Standing {
@@ -39,6 +39,26 @@ pub fn covering(s: Standing) -> bool
         Standing::Newer => true,
         Standing::Rival => false,
     }
+}
+
+// The standing seen from the other clock.
+fn flipped(s: Standing) -> Standing
+    ensures { λ r. ⌜ r ≡ flipped s ⌝ }
+{
+    match s {
+        Standing::Equal => Standing::Equal,
+        Standing::Older => Standing::Newer,
+        Standing::Newer => Standing::Older,
+        Standing::Rival => Standing::Rival,
+    }
+}
+
+// Whether a clock of this standing is covered by the other: it is equal or older.
+pub fn covered(s: Standing) -> bool
+    ensures { λ r. ⌜ r ≡ covered s ⌝ }
+{
+    let other = flipped(s);
+    covering(other)
 }
 
 // Whether a clock of this standing is another one: it isn't equal.

@@ -20,3 +20,4 @@ pub mod Follow
 pub mod Kept
 pub mod Rules
 pub mod Forms
+pub mod Inside

@@ -14,7 +14,7 @@ use Rattle.model.specs.Version.{Version, mergedLeaders, merge}
 use Rattle.model.specs.Store.{Job, Store, noBranch, noJob, fresh, withMaster, withCache, withRun}
 use Rattle.model.specs.Calls.{StoreCall, openRun, fetch, prepare, step, issue, ask, look}
 use Rattle.model.proofs.Scripts.{answers, ok₁, ok₃, seen, saving}
-use Rattle.model.proofs.Readings.{clock, led, place, sameVersion, zero-zero, one-one, two-zero}
+use Rattle.model.proofs.Readings.{clock, led, place, alike, zero-zero, one-one, two-zero}
 
 -- ---- merges, of key 0 but for the last
 
@@ -23,16 +23,16 @@ merged =
     let a = led 1 3 (two-zero ∷ []) in
     let b = led 2 5 ((1 ∷ 3 ∷ []) ∷ []) in
     let both = led 3 5 ((2 ∷ 3 ∷ []) ∷ []) in
-    sameVersion (merge 2 0 a b) both ∷ sameVersion (merge 2 0 b a) both
+    alike (merge 2 0 a b) both ∷ alike (merge 2 0 b a) both
     -- Nobody is named; a larger count than the other side has; both, with the same count.
-    ∷ sameVersion (merge 2 0 (led 1 1 (one-one ∷ [])) (led 2 2 (one-one ∷ [])))
+    ∷ alike (merge 2 0 (led 1 1 (one-one ∷ [])) (led 2 2 (one-one ∷ [])))
     (led 3 2 (one-one ∷ []))
-    ∷ sameVersion (merge 2 0 (led 1 1 ((3 ∷ 0 ∷ []) ∷ [])) (led 1 2 (two-zero ∷ [])))
+    ∷ alike (merge 2 0 (led 1 1 ((3 ∷ 0 ∷ []) ∷ [])) (led 1 2 (two-zero ∷ [])))
     (led 1 2 ((3 ∷ 0 ∷ []) ∷ []))
-    ∷ sameVersion (merge 2 0 (led 3 1 (one-one ∷ [])) (led 2 2 (one-one ∷ [])))
+    ∷ alike (merge 2 0 (led 3 1 (one-one ∷ [])) (led 2 2 (one-one ∷ [])))
     (led 2 2 (one-one ∷ []))
     -- By the own row: row 0 would name writer 1 alone.
-    ∷ sameVersion (merge 2 1 (led 1 1 (zero-zero ∷ two-zero ∷ []))
+    ∷ alike (merge 2 1 (led 1 1 (zero-zero ∷ two-zero ∷ []))
     (led 2 2 ((5 ∷ 5 ∷ []) ∷ (1 ∷ 3 ∷ []) ∷ [])))
     (led 3 2 ((5 ∷ 5 ∷ []) ∷ (2 ∷ 3 ∷ []) ∷ [])) ∷ []
 

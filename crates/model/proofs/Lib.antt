@@ -23,3 +23,7 @@ pub mod Entitled
 pub mod Marked
 pub mod Admits
 pub mod Sufficing
+pub mod Stays
+pub mod Moved
+pub mod Rows
+pub mod Joining

@@ -45,8 +45,8 @@ version n rows = led 1 n rows
 abbrev pub place : List Version → Place Version
 place l k = getD l k unheld
 
-abbrev pub sameVersion : Version → Version → Bool
-sameVersion a b =
+abbrev pub alike : Version → Version → Bool
+alike a b =
     eqb (a .issue) (b .issue)
     && (eqb (a .leaders) (b .leaders)
     && (same (rowNumbers 2 (a .past 0)) (rowNumbers 2 (b .past 0))
@@ -97,13 +97,13 @@ abbrev pub fourth : Bool
 fourth =
     let a = version 1 (two-zero ∷ []) in
     let b = version 2 ((1 ∷ 3 ∷ []) ∷ []) in
-    sameVersion (merge 2 0 a b) (version 2 ((2 ∷ 3 ∷ []) ∷ []))
+    alike (merge 2 0 a b) (version 2 ((2 ∷ 3 ∷ []) ∷ []))
 
 -- "merge with an unheld version is the other"
 abbrev pub fifth : Bool
 fifth =
     let a = version 3 (two-zero ∷ zero-one ∷ []) in
-    sameVersion (merge 2 0 a unheld) a && sameVersion (merge 2 0 unheld a) a
+    alike (merge 2 0 a unheld) a && alike (merge 2 0 unheld a) a
 
 -- "sheet u needs e at (1,0); the shelf's e is newer and needs k. Evicting k takes e and u, though
 -- u doesn't need k": k is 0, e is 1 and u is 2.

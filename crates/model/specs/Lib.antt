@@ -13,3 +13,4 @@ pub mod Prepare
 pub mod Step
 pub mod Issue
 pub mod Calls
+pub mod Stays

@@ -3,3 +3,4 @@ pub mod Versions
 pub mod Keys
 pub mod Stores
 pub mod Merged
+pub mod Moves

@@ -1,6 +1,7 @@
 // Versions in the words of a buffer: read, copied, cleared, merged.
 pub mod mark;
 pub mod merge;
+pub mod moved;
 
 use clock::compare;
 use clock::covering;

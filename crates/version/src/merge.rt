@@ -75,7 +75,7 @@ fn present_writers(words: &[u32], w: usize, p: usize, q: usize) -> u32
 }
 
 // The leading writers of a merge: of masks m and n, and own rows at p and q.
-fn merged_leaders(words: &[u32], w: usize, m: u32, p: usize, n: u32, q: usize) -> u32
+pub(crate) fn merged_leaders(words: &[u32], w: usize, m: u32, p: usize, n: u32, q: usize) -> u32
     requires { ⌜ (w ≤ maxWriters) × (p + w ≤ length (now words)) × (q + w ≤ length (now words)) ⌝ }
     ensures { λ r. ⌜ r ≡ mergedLeaders w m (clockAt (now (words .entry)) p) n
         (clockAt (now (words .entry)) q) ⌝ }
