@@ -75,9 +75,10 @@ pub reads-entitled : ReadsEntitled
 unfolding ruleOf stepRule stepSite stepReads
 reads-entitled l r j a t e k h p =
     let s = storeOf l in
-    let x = cond (anyBelow (s .counts .keys) (stepMoved s r j)) (stepBroken s r j)
-    (stepDone s r j) in
-    step-entitled s r j k (accepted s r j (free (step r j) l (stepCause s r j) x a t refl e)) h p
+    let x = cond (anyBelow (s .counts .keys) (stepMoved s r j 0)) (stepBroken s r j 0)
+    (stepDone s r j 0) in
+    step-entitled s r j 0 k
+    (accepted s r j 0 (free (step r j) l (stepCause s r j 0) x a t refl e)) h p
 
 pub saves-entitled : SavesEntitled
 unfolding ruleOf issueRule

@@ -31,13 +31,13 @@ use Rattle.consistency.specs.Claim.{Choice, isRefused, isBroken, HoldsAt}
 -- It is refused, broken or done.
 step-is : (P : Outcome → Type 0) → ((n : ℕ) → P (refused n))
     → ((m : ℕ) (u : Store) → P (broken m u)) → ((a : List ℕ) (u : Store) → P (done a u))
-    → (s : Store) (r j : ℕ) → P (stepRule r j s)
+    → (s : Store) (r j n : ℕ) → P (stepRule r j n s)
 unfolding stepRule unless stepBroken stepDone
-step-is P turned breaks works s r j =
-    cases (eqb (stepCause s r j) 0) (anyBelow (s .counts .keys) (stepMoved s r j))
+step-is P turned breaks works s r j n =
+    cases (eqb (stepCause s r j n) 0) (anyBelow (s .counts .keys) (stepMoved s r j n))
   where
     cases : (p q : Bool)
-        → P (cond p (cond q (stepBroken s r j) (stepDone s r j)) (refused (stepCause s r j)))
+        → P (cond p (cond q (stepBroken s r j n) (stepDone s r j n)) (refused (stepCause s r j n)))
     cases false q = turned _
     cases true true = breaks _ _
     cases true false = works _ _
@@ -49,8 +49,8 @@ other n e = n (ap (λ (l : List ℕ). getD l 0 0) (e .1))
 neither : {X Y : Type 0} → ¬ X → ¬ Y → X ↔ Y
 neither f g = (λ x. absurd (f x), λ y. absurd (g y))
 
-broken-answered : (s : Store) (r j : ℕ)
-    → Answers (stepRule r j s) 1 ↔ So (isBroken (stepRule r j s))
+broken-answered : (s : Store) (r j n : ℕ)
+    → Answers (stepRule r j n s) 1 ↔ So (isBroken (stepRule r j n s))
 unfolding answer isBroken
 broken-answered =
     step-is (λ x. Answers x 1 ↔ So (isBroken x))
@@ -58,7 +58,8 @@ broken-answered =
     (λ m u. (λ _. refl, λ _. (m ∷ [], refl)))
     (λ a u. neither (other (λ e. omega (arith, e))) (λ p. clash p refl))
 
-ok-answered : (s : Store) (r j : ℕ) → Answers (stepRule r j s) 0 ↔ So (isOk (stepRule r j s))
+ok-answered : (s : Store) (r j n : ℕ)
+    → Answers (stepRule r j n s) 0 ↔ So (isOk (stepRule r j n s))
 unfolding answer isOk
 ok-answered =
     step-is (λ x. Answers x 0 ↔ So (isOk x))
@@ -68,17 +69,17 @@ ok-answered =
 
 -- ---- the two calls
 
--- In form: as on its store. Otherwise 1 refuses both.
+-- On branch 0. In form: as on its store. Otherwise 1 refuses both.
 pub call-explains : (l : List ℕ) (r j : ℕ)
-    → ExplainsOutcome (storeOf l) r j (callOn (on (ask (explain r j))) l)
+    → ExplainsOutcome (storeOf l) r j 0 (callOn (on (ask (explain r j))) l)
     (callOn (on (step r j)) l)
 unfolding ruleOf replyOf
 call-explains l r j =
     test (inForm l)
     (λ F. rw (form-rule (ask (explain r j)) l F, form-rule (step r j) l F)
-    (explains (storeOf l) r j))
+    (explains (storeOf l) r j 0))
     (λ e. rw (no-form (ask (explain r j)) l e, no-form (step r j) l e)
-    (explains-refused (storeOf l) r j 1))
+    (explains-refused (storeOf l) r j 0 1))
 
 both : {X Y Z : Type 0} → X ↔ Y → Y ↔ Z → X ↔ Z
 both f g = (λ x. g .0 (f .0 x), λ z. f .1 (g .1 z))
@@ -89,14 +90,14 @@ module _ (l : List ℕ) (r j : ℕ) (F : So (inForm l)) where
   unfolding ruleOf
   path-broken =
       both (call-explains l r j .path)
-      (rw (form-rule (step r j) l F) (broken-answered (storeOf l) r j))
+      (rw (form-rule (step r j) l F) (broken-answered (storeOf l) r j 0))
 
   pub clear-ok : (answer (callOn (on (ask (explain r j))) l) ≡ clearWord ∷ [])
       ↔ So (isOk (callOn (on (step r j)) l))
   unfolding ruleOf
   clear-ok =
       both (call-explains l r j .clear)
-      (rw (form-rule (step r j) l F) (ok-answered (storeOf l) r j))
+      (rw (form-rule (step r j) l F) (ok-answered (storeOf l) r j 0))
 
 -- ---- at a point of a list
 
@@ -104,7 +105,7 @@ module _ (t : Trace) (H : HoldsAt t) where
   -- Where the step isn't refused, a path exactly if there is no choice,
   pub path-none : (r j : ℕ) → isRefused (callOn (on (step r j)) (t .buffer)) ≡ false
       → Answers (callOn (on (ask (explain r j))) (t .buffer)) pathWord
-      ↔ ¬ (Choice (storeOf (t .buffer)) r j)
+      ↔ ¬ (Choice (storeOf (t .buffer)) r j 0)
   path-none r j n =
       let p = path-broken (t .buffer) r j (H .formed) in
       let b = H .breaks r j .exactly n in
@@ -119,5 +120,5 @@ module _ (t : Trace) (H : HoldsAt t) where
   -- and then a choice works.
   pub clear-works : (r j : ℕ)
       → answer (callOn (on (ask (explain r j))) (t .buffer)) ≡ clearWord ∷ []
-      → Choice (storeOf (t .buffer)) r j
+      → Choice (storeOf (t .buffer)) r j 0
   clear-works r j e = H .breaks r j .works (clear-exactly r j .0 e)

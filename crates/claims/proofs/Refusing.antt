@@ -82,14 +82,15 @@ by-cause c n x L t p e =
 
 -- ---- the calls
 
-step-taken : (s : Store) (r j : ℕ) (b : Bool) → Taken (cond b (stepBroken s r j) (stepDone s r j))
+step-taken : (s : Store) (r j n : ℕ) (b : Bool)
+    → Taken (cond b (stepBroken s r j n) (stepDone s r j n))
 unfolding stepBroken stepDone
-step-taken s r j true = taken _ refl
-step-taken s r j false = taken _ refl
+step-taken s r j n true = taken _ refl
+step-taken s r j n false = taken _ refl
 
-step-listed : (s : Store) (r j : ℕ) → In (0 ∷ 3 ∷ 4 ∷ 6 ∷ 13 ∷ 7 ∷ 12 ∷ []) (stepCause s r j)
+step-listed : (s : Store) (r j n : ℕ) → In (0 ∷ 3 ∷ 4 ∷ 6 ∷ 13 ∷ 7 ∷ 12 ∷ []) (stepCause s r j n)
 unfolding stepCause jobCause
-step-listed s r j =
+step-listed s r j n =
     row _ _ _ refl (row _ _ _ refl (row _ _ _ refl (row _ _ _ refl (row _ _ _ refl
     (row _ _ _ refl (row _ _ _ refl none))))))
 
@@ -117,7 +118,7 @@ unfolding replyOf askedRefusals lookReply lookCause explainReply staleReply stal
     admitCause
 asked (look p i k) s =
     row _ _ _ refl (row _ _ _ refl (row _ _ _ refl (row _ _ _ refl none)))
-asked (explain r j) s = step-listed s r j
+asked (explain r j) s = step-listed s r j 0
 asked (stale o) s = row _ _ _ refl none
 asked admit s = row _ _ _ refl none
 
@@ -141,8 +142,8 @@ rule-listed (prepare r) s n e =
     (row _ _ _ refl (row _ _ _ refl (row _ _ _ refl (row _ _ _ refl (row _ _ _ refl
     (row _ _ _ refl none)))))) e
 rule-listed (step r j) s n e =
-    by-cause _ n _ _ (step-taken s r j (anyBelow (s .counts .keys) (stepMoved s r j)))
-    (step-listed s r j) e
+    by-cause _ n _ _ (step-taken s r j 0 (anyBelow (s .counts .keys) (stepMoved s r j 0)))
+    (step-listed s r j 0) e
 rule-listed (issue r w S) s n e = by-cause _ n _ _ (taken _ refl) (issue-listed s r w S) e
 rule-listed (dropRun r) s n e =
     by-cause _ n _ _ (taken _ refl) (row _ _ _ refl (row _ _ _ refl none)) e

@@ -52,9 +52,9 @@ rule-rights (prepare r) s =
     unless-cases (Sets (prepare r) s) (prepareCause s r) (prepareDone s r) (λ _. (refl, refl))
     (λ _. (refl, refl))
 rule-rights (step r j) s =
-    let b = anyBelow (s .counts .keys) (stepMoved s r j) in
-    unless-cases (Sets (step r j) s) (stepCause s r j)
-    (cond b (stepBroken s r j) (stepDone s r j))
+    let b = anyBelow (s .counts .keys) (stepMoved s r j 0) in
+    unless-cases (Sets (step r j) s) (stepCause s r j 0)
+    (cond b (stepBroken s r j 0) (stepDone s r j 0))
     (λ _. test b (λ y. rw y (refl, refl)) (λ n. rw n (refl, refl))) (λ _. (refl, refl))
 rule-rights (issue r w S) s =
     unless-cases (Sets (issue r w S) s) (issueCause s r w S) (issueDone s r w S)

@@ -17,19 +17,19 @@ use Rattle.model.specs.Outcome.{Outcome, refused, broken, answer}
 use Rattle.model.specs.Calls.Explain.{pathWord, ExplainsOutcome}
 use Rattle.version.specs.Places.{Outside}
 
-module _ (s : Store) (r j : ℕ) (x y : Outcome) (E : ExplainsOutcome s r j x y) where
+module _ (s : Store) (r j n : ℕ) (x y : Outcome) (E : ExplainsOutcome s r j n x y) where
   pub path-breaks : (l : List ℕ) (m : ℕ) (u : Store) → answer x ≡ pathWord ∷ l → y ≡ broken m u
       → So (testBit m (lastOf l))
   unfolding answer
   path-breaks l m u e f = E .ends l m e (rw f refl)
 
-  pub refused-alike : (n : ℕ) → y ≡ refused n → answer x ≡ 2 ∷ n ∷ []
+  pub refused-alike : (c : ℕ) → y ≡ refused c → answer x ≡ 2 ∷ c ∷ []
   unfolding answer
-  refused-alike n f = E .refused n .1 (rw f refl)
+  refused-alike c f = E .refused c .1 (rw f refl)
 
-  pub refused-alone : (n : ℕ) → x ≡ refused n → answer y ≡ 2 ∷ n ∷ []
+  pub refused-alone : (c : ℕ) → x ≡ refused c → answer y ≡ 2 ∷ c ∷ []
   unfolding answer
-  refused-alone n f = E .refused n .0 (rw f refl)
+  refused-alone c f = E .refused c .0 (rw f refl)
 
 module _ (l m : List ℕ) (at n : ℕ) (O : Outside l m at n) where
   pub words-before : (i : ℕ) → i < at → getD m i 0 ≡ getD l i 0

@@ -43,15 +43,15 @@ module _ {s : Store} {b : Book} (F : Follows s b) where
       ∙ cut-overlapping (now-laws F) (snapshot-closed F r l)
 
   -- A step that is not refused finds what it needs.
-  pub step-ready : Fine s → (r j : ℕ) → Accepted s r j → Ready s r j
+  pub step-ready : Fine s → (r j n : ℕ) → Accepted s r j n → Ready s r j n
   unfolding stepPlan
-  step-ready fine r j a = record {
+  step-ready fine r j n a = record {
     overlaps = overlaps r (a .run-in);
-    cut = causalCut-same (now-simulates F) (stepCache s r j) (copyCache s b r j)
+    cut = causalCut-same (now-simulates F) (stepCache s r j n) (copyCache s b r j n)
         (stepCache-related fine F a)
         ∙ cut-causal (now-laws F) (stepCache-closed fine F a);
-    on-snapshot = was s r j fine a .snapshot .has;
+    on-snapshot = was s r j n fine a .snapshot .has;
   }
 
-  pub breaks : Fine s → (r j : ℕ) → BreakExact (stepRule r j s) s r j
-  breaks fine r j = breaks-exact s r j (step-ready fine r j)
+  pub breaks : Fine s → (r j n : ℕ) → BreakExact (stepRule r j n s) s r j n
+  breaks fine r j n = breaks-exact s r j n (step-ready fine r j n)

@@ -46,7 +46,7 @@ use Rattle.consistency.specs.Claim.{Snapshot, Pick, Pick.ofSnapshot, Pic
 
 -- ---- choices: which work, and which don't
 
-module _ (s : Store) (r j : ℕ) (pick : ℕ → Pick) where
+module _ (s : Store) (r j n : ℕ) (pick : ℕ → Pick) where
   abbrev K : ℕ
   K = s .counts .keys
 
@@ -54,36 +54,36 @@ module _ (s : Store) (r j : ℕ) (pick : ℕ → Pick) where
   W = s .counts .writers
 
   abbrev choice : Place Version
-  choice = chosen s r j pick
+  choice = chosen s r j n pick
 
   -- It "holds all that the job reads, leaves the sheets already read as they were and meets every
   -- need among the plan's sheets".
-  pub works-by : ((k : ℕ) → k < K → So (stepReads s r j k) → So (held (choice k)))
-      → ((k : ℕ) → k < K → So (testBit (stepBranch s r j .read) k)
-      → choice k ≡ stepBranch s r j .snapshot k)
-      → So (needsMet (versions W) K (stepPlan s r j) choice) → Works s r j pick
+  pub works-by : ((k : ℕ) → k < K → So (stepReads s r j n k) → So (held (choice k)))
+      → ((k : ℕ) → k < K → So (testBit (stepBranch s r j n .read) k)
+      → choice k ≡ stepBranch s r j n .snapshot k)
+      → So (needsMet (versions W) K (stepPlan s r j n) choice) → Works s r j n pick
   works-by h k m = record { holds = h; keeps = k; meets = m }
 
   -- One that lacks a read doesn't work,
-  pub lacking-fails : (k : ℕ) → k < K → So (stepReads s r j k) → held (choice k) ≡ false
-      → ¬ (Works s r j pick)
-  lacking-fails k l p n w = clash (w .holds k l p) n
+  pub lacking-fails : (k : ℕ) → k < K → So (stepReads s r j n k) → held (choice k) ≡ false
+      → ¬ (Works s r j n pick)
+  lacking-fails k l p f w = clash (w .holds k l p) f
 
   -- nor one that moves a sheet that was read,
-  pub moving-fails : (k : ℕ) → k < K → So (testBit (stepBranch s r j .read) k)
-      → choice k .issue ≢ stepBranch s r j .snapshot k .issue → ¬ (Works s r j pick)
-  moving-fails k l p n w = n (ap (λ v. v .issue) (w .keeps k l p))
+  pub moving-fails : (k : ℕ) → k < K → So (testBit (stepBranch s r j n .read) k)
+      → choice k .issue ≢ stepBranch s r j n .snapshot k .issue → ¬ (Works s r j n pick)
+  moving-fails k l p f w = f (ap (λ v. v .issue) (w .keeps k l p))
 
   -- nor one that leaves a need among the plan's sheets unmet.
-  pub unmet-fails : (k d : ℕ) → k < K → d < K → So (stepPlan s r j k) → So (stepPlan s r j d)
+  pub unmet-fails : (k d : ℕ) → k < K → d < K → So (stepPlan s r j n k) → So (stepPlan s r j n d)
       → So (held (choice k)) → So (dependency W k (choice k) d)
-      → supersedes W d (choice d) (choice k .past d) ≡ false → ¬ (Works s r j pick)
-  unmet-fails k d lk ld pk pd h n u w =
-      clash (needsMet-at (versions W) K (stepPlan s r j) choice (w .meets) k d lk ld pk pd h n) u
+      → supersedes W d (choice d) (choice k .past d) ≡ false → ¬ (Works s r j n pick)
+  unmet-fails k d lk ld pk pd h c u w =
+      clash (needsMet-at (versions W) K (stepPlan s r j n) choice (w .meets) k d lk ld pk pd h c) u
 
   -- A choice of the card's version.
-  snapshot-kept : (k : ℕ) → So (stepPlan s r j k) → pick k ≡ ofSnapshot
-      → choice k ≡ stepBranch s r j .snapshot k
+  snapshot-kept : (k : ℕ) → So (stepPlan s r j n k) → pick k ≡ ofSnapshot
+      → choice k ≡ stepBranch s r j n .snapshot k
   unfolding chosen pickOf
   snapshot-kept k p e = rw (p, e)
 
@@ -130,10 +130,10 @@ pub record Computed : Type 0 where
   -- After sheet 1 alone was saved that choice works. After both were, sheet 1 needs the newer
   -- sheet 0: the choice leaves this need unmet, one moves the sheet that was read, one lacks a
   -- read.
-  pub works : Works (store 2) 0 1 older
-  pub unmet : ¬ (Works (store 3) 0 1 older)
-  pub moves : ¬ (Works (store 3) 0 1 (λ k. ofCache))
-  pub lacks : ¬ (Works (store 3) 0 1 (λ k. ofSnapshot))
+  pub works : Works (store 2) 0 1 0 older
+  pub unmet : ¬ (Works (store 3) 0 1 0 older)
+  pub moves : ¬ (Works (store 3) 0 1 0 (λ k. ofCache))
+  pub lacks : ¬ (Works (store 3) 0 1 0 (λ k. ofSnapshot))
 
 pub computed : Computed
 unfolding anyBelow allBelow only foldBelow countBelow largest when putAt upto blocks testBit
@@ -165,10 +165,10 @@ computed = record {
   one = refl;
   issued = refl;
   dropped = refl;
-  works = works-by (store 2) 0 1 older holds keeps refl;
-  unmet = unmet-fails (store 3) 0 1 older 1 0 one-low zero-low refl refl refl refl refl;
-  moves = moving-fails (store 3) 0 1 (λ k. ofCache) 0 zero-low refl two-one;
-  lacks = lacking-fails (store 3) 0 1 (λ k. ofSnapshot) 1 one-low refl refl;
+  works = works-by (store 2) 0 1 0 older holds keeps refl;
+  unmet = unmet-fails (store 3) 0 1 0 older 1 0 one-low zero-low refl refl refl refl refl;
+  moves = moving-fails (store 3) 0 1 0 (λ k. ofCache) 0 zero-low refl two-one;
+  lacks = lacking-fails (store 3) 0 1 0 (λ k. ofSnapshot) 1 one-low refl refl;
 }
   where
     zero-low : 0 < 2
@@ -180,15 +180,15 @@ computed = record {
     two-one : _≡_ {A = ℕ} 2 1 → ⊥
     two-one e = absurd (omega (arith, e))
 
-    holds : (k : ℕ) → k < 2 → So (stepReads (store 2) 0 1 k)
-        → So (held (chosen (store 2) 0 1 older k))
+    holds : (k : ℕ) → k < 2 → So (stepReads (store 2) 0 1 0 k)
+        → So (held (chosen (store 2) 0 1 0 older k))
     holds zero l p = absurd (false≢true p)
     holds (suc zero) l p = refl
     holds (suc (suc k)) l p = absurd (omega (arith, l))
 
-    keeps : (k : ℕ) → k < 2 → So (testBit (stepBranch (store 2) 0 1 .read) k)
-        → chosen (store 2) 0 1 older k ≡ stepBranch (store 2) 0 1 .snapshot k
-    keeps zero l p = snapshot-kept (store 2) 0 1 older 0 refl refl
+    keeps : (k : ℕ) → k < 2 → So (testBit (stepBranch (store 2) 0 1 0 .read) k)
+        → chosen (store 2) 0 1 0 older k ≡ stepBranch (store 2) 0 1 0 .snapshot k
+    keeps zero l p = snapshot-kept (store 2) 0 1 0 older 0 refl refl
     keeps (suc zero) l p = absurd (false≢true p)
     keeps (suc (suc k)) l p = absurd (omega (arith, l))
 

@@ -17,7 +17,7 @@ use Rattle.model.proofs.Steps.{Accepted, step-planned}
 use Rattle.layout.proofs.Rules.Step.{site}
 use Rattle.layout.proofs.Follow.{Fine}
 use Rattle.history.specs.Listing.{noBase, BookCopy, bookCopies}
-use Rattle.history.specs.Book.{Book, BookBranch, BookRun, bookStepJob, withBookRun, withBookCaches}
+use Rattle.history.specs.Book.{Book, BookBranch, BookRun, bookBranch, bookStepJob, withBookRun, withBookCaches}
 use Rattle.consistency.specs.Leading.{Named}
 use Rattle.consistency.proofs.Simulation.{Agree, Related, readStart-same, fetched-rel, pullSet-same, pulled-rel}
 use Rattle.consistency.proofs.Closing.{ClosedIn, ClosedAll}
@@ -25,121 +25,125 @@ use Rattle.consistency.proofs.ClosingSets.{fetched-closed, pulled-close
 use Rattle.consistency.proofs.Invariant.{Follows}
 use Rattle.consistency.proofs.Following.{Stands, now-simulates, now-laws, now-named, master-closed, master-related, cache-related, cache-part, snapshot-related, snapshot-closed}
 
--- ---- the book's run r and its cache after job j, with the store's counts and jobs
+-- ---- the book's run r and its cache after job j on branch n, with the store's counts and jobs
 
-module _ (s : Store) (b : Book) (r j : ℕ) where
+module _ (s : Store) (b : Book) (r j n : ℕ) where
   -- What the step goes by.
   abbrev pub copyBranch : BookBranch
-  copyBranch = b .run r .branch
+  copyBranch = bookBranch n (b .run r)
 
   unfoldable pub copyCache : Place BookCopy
   copyCache =
       let K = s .counts .keys in
       let alg = bookCopies K (s .counts .writers) (b .history) in
-      let cache = b .cache (stepSite s r j) in
+      let cache = b .cache (stepSite s r j n) in
       fetched alg K (b .master) cache
-      (readStart alg K (copyBranch .snapshot) cache (stepReads s r j))
+      (readStart alg K (copyBranch .snapshot) cache (stepReads s r j n))
 
   -- C
   unfoldable pub copyPull : Items
   copyPull =
       let K = s .counts .keys in
-      pullSet (bookCopies K (s .counts .writers) (b .history)) K (stepPlan s r j)
-      (copyBranch .snapshot) copyCache (stepReads s r j)
+      pullSet (bookCopies K (s .counts .writers) (b .history)) K (stepPlan s r j n)
+      (copyBranch .snapshot) copyCache (stepReads s r j n)
 
   unfoldable pub copySnapshot : Place BookCopy
   copySnapshot =
       let K = s .counts .keys in
-      pulled (bookCopies K (s .counts .writers) (b .history)) K (stepPlan s r j)
-      (copyBranch .snapshot) copyCache (stepReads s r j)
+      pulled (bookCopies K (s .counts .writers) (b .history)) K (stepPlan s r j n)
+      (copyBranch .snapshot) copyCache (stepReads s r j n)
 
   unfoldable pub copyRun : BookRun
   copyRun = record {
     jobs = s .run r .jobs;
     job = s .run r .job;
     branch = record {
-      read = λ k. copyBranch .read k || stepReads s r j k;
+      read = λ k. copyBranch .read k || stepReads s r j n k;
       snapshot = copySnapshot;
     };
   }
 
   pub book-step : Follows s b → r < s .counts .runs
-      → bookStepJob r j b
-      ≡ withBookRun (withBookCaches b (putAt (b .cache) (stepSite s r j) copyCache)) r copyRun
+      → bookStepJob r j n b
+      ≡ withBookRun (withBookCaches b (putAt (b .cache) (stepSite s r j n) copyCache)) r copyRun
   unfolding bookStepJob copyRun copySnapshot copyCache stepSite stepReads stepPlan
   book-step F l = rw (← F .counts, ← F .run r l .jobs, ← F .run r l .job)
 
 -- ---- a step that is not refused
 
-module _ {s : Store} {b : Book} {r j : ℕ} (fine : Fine s) (F : Follows s b)
-    (a : Accepted s r j) where
+module _ {s : Store} {b : Book} {r j n : ℕ} (fine : Fine s) (F : Follows s b)
+    (a : Accepted s r j n) where
   -- ---- the cache
 
   pub stepCache-related : Related (s .counts .keys) (Stands s b)
-      (stepCache s r j) (copyCache s b r j)
+      (stepCache s r j n) (copyCache s b r j n)
   unfolding stepCache stepStart copyCache
   stepCache-related =
       let L = now-simulates F in
-      let o = stepSite s r j in
-      let reads = stepReads s r j in
-      let rc = cache-related F o (site s r j fine a) in
+      let o = stepSite s r j n in
+      let reads = stepReads s r j n in
+      let rc = cache-related F o (site s r j n fine a) in
       fetched-rel L (s .master) (s .site o .cache) (b .master) (b .cache o) _ _ (master-related F)
       rc
-      (readStart-same L (stepBranch s r j .snapshot) (s .site o .cache)
-      (copyBranch s b r j .snapshot) (b .cache o) reads reads
+      (readStart-same L (stepBranch s r j n .snapshot) (s .site o .cache)
+      (copyBranch s b r j n .snapshot) (b .cache o) reads reads
       (snapshot-related F r (a .run-in)) rc (λ _ _. refl))
 
   pub stepCache-closed : ClosedAll (s .counts .keys) (s .counts .writers) (b .history) (b .base)
-      (copyCache s b r j)
+      (copyCache s b r j n)
   unfolding copyCache
   stepCache-closed =
-      let o = stepSite s r j in
-      let l = site s r j fine a in
+      let o = stepSite s r j n in
+      let l = site s r j n fine a in
       fetched-closed (now-laws F) (s .counts .keys) (b .master) (b .cache o) _
       (cache-part F o l) (master-closed F) (F .closed o l)
 
   -- ---- C
 
-  stepPull-same : Agree (s .counts .keys) (stepPull s r j) (copyPull s b r j)
+  stepPull-same : Agree (s .counts .keys) (stepPull s r j n) (copyPull s b r j n)
   unfolding stepPull copyPull
   stepPull-same =
-      let reads = stepReads s r j in
-      pullSet-same (now-simulates F) (stepPlan s r j) (stepPlan s r j) (stepBranch s r j .snapshot)
-      (stepCache s r j) (copyBranch s b r j .snapshot) (copyCache s b r j) reads reads
+      let reads = stepReads s r j n in
+      pullSet-same (now-simulates F) (stepPlan s r j n) (stepPlan s r j n)
+      (stepBranch s r j n .snapshot) (stepCache s r j n) (copyBranch s b r j n .snapshot)
+      (copyCache s b r j n) reads reads
       (λ _ _. refl) (snapshot-related F r (a .run-in)) stepCache-related (λ _ _. refl)
 
   -- ---- the snapshot
 
   pub stepSnapshot-related : Related (s .counts .keys) (Stands s b)
-      (stepSnapshot s r j) (copySnapshot s b r j)
+      (stepSnapshot s r j n) (copySnapshot s b r j n)
   unfolding stepSnapshot copySnapshot
   stepSnapshot-related =
-      let reads = stepReads s r j in
-      pulled-rel (now-simulates F) (stepPlan s r j) (stepPlan s r j) (stepBranch s r j .snapshot)
-      (stepCache s r j) (copyBranch s b r j .snapshot) (copyCache s b r j) reads reads
+      let reads = stepReads s r j n in
+      pulled-rel (now-simulates F) (stepPlan s r j n) (stepPlan s r j n)
+      (stepBranch s r j n .snapshot) (stepCache s r j n) (copyBranch s b r j n .snapshot)
+      (copyCache s b r j n) reads reads
       (λ _ _. refl) (snapshot-related F r (a .run-in)) stepCache-related (λ _ _. refl)
 
   -- The merges that it takes name somebody.
   pub step-named : b .base ≡ noBase → (k : ℕ) → k < s .counts .keys
-      → Named (s .counts .writers) k (stepBranch s r j .snapshot k) (stepCache s r j k)
+      → Named (s .counts .writers) k (stepBranch s r j n .snapshot k) (stepCache s r j n k)
   step-named e k l =
-      now-named F e k (stepBranch s r j .snapshot k) (stepCache s r j k)
-      (copyBranch s b r j .snapshot k) (copyCache s b r j k)
+      now-named F e k (stepBranch s r j n .snapshot k) (stepCache s r j n k)
+      (copyBranch s b r j n .snapshot k) (copyCache s b r j n k)
       (snapshot-related F r (a .run-in) k l) (stepCache-related k l)
 
   pub stepSnapshot-closed : ClosedIn (s .counts .keys) (s .counts .writers) (b .history) (b .base)
-      (stepPlan s r j) (copySnapshot s b r j)
+      (stepPlan s r j n) (copySnapshot s b r j n)
   unfolding copySnapshot stepPlan
   stepSnapshot-closed =
-      pulled-closed (now-laws F) (s .counts .keys) (stepPlan s r j)
-      (copyBranch s b r j .snapshot) (copyCache s b r j) (stepReads s r j)
-      (snapshot-closed F r (a .run-in)) stepCache-closed (λ k _. step-planned s r j k (a .job-in))
+      pulled-closed (now-laws F) (s .counts .keys) (stepPlan s r j n)
+      (copyBranch s b r j n .snapshot) (copyCache s b r j n) (stepReads s r j n)
+      (snapshot-closed F r (a .run-in)) stepCache-closed
+      (λ k _. step-planned s r j n k (a .job-in))
 
   -- Outside of C the book's too is as it was.
-  pub copySnapshot-out : (k : ℕ) → k < s .counts .keys → stepPull s r j k ≡ false
-      → copySnapshot s b r j k ≡ copyBranch s b r j .snapshot k
+  pub copySnapshot-out : (k : ℕ) → k < s .counts .keys → stepPull s r j n k ≡ false
+      → copySnapshot s b r j n k ≡ copyBranch s b r j n .snapshot k
   unfolding copySnapshot copyPull
   copySnapshot-out k h e =
       pulled-out (bookCopies (s .counts .keys) (s .counts .writers) (b .history)) (s .counts .keys)
-      (stepPlan s r j) (copyBranch s b r j .snapshot) (copyCache s b r j) (stepReads s r j) k
+      (stepPlan s r j n) (copyBranch s b r j n .snapshot) (copyCache s b r j n)
+      (stepReads s r j n) k
       (sym (stepPull-same k h) ∙ e)

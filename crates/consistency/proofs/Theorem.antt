@@ -89,7 +89,7 @@ point-holds t A =
       holds = rw back (inv-holds s (t .book) (t .finished) (A .fine) (A .inv));
       breaks = λ r j.
           rw (form-rule (step r j) (t .buffer) form, back)
-          (breaks (A .inv .follows) (A .fine) r j);
+          (breaks (A .inv .follows) (A .fine) r j 0);
     }
 
 -- Lists from new and from an admission: one proof, by how they begin.

@@ -166,27 +166,27 @@ module _ (t : Trace) (H : HoldsAt t) where
 
   -- The step of run r's job j as a call on the buffer: a done one has a choice that works,
   pub done-works : (r j : ℕ) (a : List ℕ) (u : Store)
-      → callOn (on (step r j)) (t .buffer) ≡ done a u → Choice s r j
+      → callOn (on (step r j)) (t .buffer) ≡ done a u → Choice s r j 0
   unfolding isOk
   done-works r j a u e = H .breaks r j .works (rw e refl)
 
   pub done-pick : (r j : ℕ) (a : List ℕ) (u : Store)
-      → callOn (on (step r j)) (t .buffer) ≡ done a u → (pick : ℕ → Pick) × Works s r j pick
+      → callOn (on (step r j)) (t .buffer) ≡ done a u → (pick : ℕ → Pick) × Works s r j 0 pick
   done-pick = done-works
 
   -- a broken one has none,
   pub broken-none : (r j m : ℕ) (u : Store) → callOn (on (step r j)) (t .buffer) ≡ broken m u
-      → ¬ (Choice s r j)
+      → ¬ (Choice s r j 0)
   unfolding isRefused isBroken
   broken-none r j m u e = H .breaks r j .exactly (rw e refl) .0 (rw e refl)
 
   pub broken-pick : (r j m : ℕ) (u : Store) → callOn (on (step r j)) (t .buffer) ≡ broken m u
-      → (pick : ℕ → Pick) → ¬ (Works s r j pick)
+      → (pick : ℕ → Pick) → ¬ (Works s r j 0 pick)
   broken-pick r j m u e pick w = broken-none r j m u e (pick, w)
 
   -- and one that is not refused is broken if there is none.
   pub none-broken : (r j : ℕ) → isRefused (callOn (on (step r j)) (t .buffer)) ≡ false
-      → ¬ (Choice s r j) → So (isBroken (callOn (on (step r j)) (t .buffer)))
+      → ¬ (Choice s r j 0) → So (isBroken (callOn (on (step r j)) (t .buffer)))
   none-broken r j n g = H .breaks r j .exactly n .1 g
 
 -- ---- lists

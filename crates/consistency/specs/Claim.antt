@@ -101,22 +101,22 @@ pickOf W k ofCache snapshot cache = cache
 pickOf W k merged snapshot cache = merge W k snapshot cache
 pickOf W k neither snapshot cache = unheld
 
--- The choice made for run r's job j: nothing outside of the plan.
-unfoldable pub chosen : Store → ℕ → ℕ → (ℕ → Pick) → Place Version
-chosen s r j pick k =
-    cond (stepPlan s r j k)
-    (pickOf (s .counts .writers) k (pick k) (stepBranch s r j .snapshot k) (stepCache s r j k))
+-- The choice made for run r's job j on branch n: nothing outside of the plan.
+unfoldable pub chosen : Store → ℕ → ℕ → ℕ → (ℕ → Pick) → Place Version
+chosen s r j n pick k =
+    cond (stepPlan s r j n k)
+    (pickOf (s .counts .writers) k (pick k) (stepBranch s r j n .snapshot k) (stepCache s r j n k))
     unheld
 
 -- It "holds all that the job reads, leaves the sheets already read as they were and meets every
 -- need among the plan's sheets".
-pub record Works (s : Store) (r j : ℕ) (pick : ℕ → Pick) : Type 0 where
-  pub holds : (k : ℕ) → k < s .counts .keys → So (stepReads s r j k)
-      → So (held (chosen s r j pick k))
-  pub keeps : (k : ℕ) → k < s .counts .keys → So (testBit (stepBranch s r j .read) k)
-      → chosen s r j pick k ≡ stepBranch s r j .snapshot k
-  pub meets : So (needsMet (versions (s .counts .writers)) (s .counts .keys) (stepPlan s r j)
-      (chosen s r j pick))
+pub record Works (s : Store) (r j n : ℕ) (pick : ℕ → Pick) : Type 0 where
+  pub holds : (k : ℕ) → k < s .counts .keys → So (stepReads s r j n k)
+      → So (held (chosen s r j n pick k))
+  pub keeps : (k : ℕ) → k < s .counts .keys → So (testBit (stepBranch s r j n .read) k)
+      → chosen s r j n pick k ≡ stepBranch s r j n .snapshot k
+  pub meets : So (needsMet (versions (s .counts .writers)) (s .counts .keys) (stepPlan s r j n)
+      (chosen s r j n pick))
 
 unfoldable pub isRefused : Outcome → Bool
 isRefused (refused n) = true
@@ -130,15 +130,15 @@ isBroken (broken m s) = true
 isBroken (done a s) = false
 isBroken (told w a) = false
 
-abbrev pub Choice : Store → ℕ → ℕ → Type 0
-Choice s r j = (pick : ℕ → Pick) × Works s r j pick
+abbrev pub Choice : Store → ℕ → ℕ → ℕ → Type 0
+Choice s r j n = (pick : ℕ → Pick) × Works s r j n pick
 
--- Of what a step of run r's job j on the store s came to.
-pub record BreakExact (x : Outcome) (s : Store) (r j : ℕ) : Type 0 where
+-- Of what a step of run r's job j, on branch n, on the store s came to.
+pub record BreakExact (x : Outcome) (s : Store) (r j n : ℕ) : Type 0 where
   -- "that is not turned down breaks its run exactly if no choice .."
-  pub exactly : isRefused x ≡ false → So (isBroken x) ↔ ¬ (Choice s r j)
+  pub exactly : isRefused x ≡ false → So (isBroken x) ↔ ¬ (Choice s r j n)
   -- and one that is done has a choice that works.
-  pub works : So (isOk x) → Choice s r j
+  pub works : So (isOk x) → Choice s r j n
 
 -- ---- all of it, at one point of the list: store, book, and what finished jobs have read
 
@@ -196,12 +196,12 @@ pub record Holds (s : Store) (b : Book) (finished : ℕ → List ReadSet) : Type
       → So (held (s .site o .cache k)) → So (testBit (s .tail .mayHold o) k)
 
 -- At a point: the buffer is in form too, so that a store that spoils itself and then refuses all
--- won't do. (d) is about the step as a call on that buffer.
+-- won't do. (d) is about the step as a call on that buffer, on branch 0.
 pub record HoldsAt (t : Trace) : Type 0 where
   pub formed : So (inForm (t .buffer))
   pub holds : Holds (storeOf (t .buffer)) (t .book) (t .finished)
   pub breaks : (r j : ℕ)
-      → BreakExact (callOn (on (step r j)) (t .buffer)) (storeOf (t .buffer)) r j
+      → BreakExact (callOn (on (step r j)) (t .buffer)) (storeOf (t .buffer)) r j 0
 
 -- ---- the claim about the list: it holds at each of its points, the first and the last included
 

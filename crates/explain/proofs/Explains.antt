@@ -89,78 +89,81 @@ module _ {b : Bool} {l : List ℕ} {m : ℕ} where
   mask-is (breaking p t) n e = sym (first (rest e))
   mask-is (working a t) n e = absurd (omega (arith, first e))
 
-module _ (s : Store) (r j : ℕ) where
+module _ (s : Store) (r j n : ℕ) where
   abbrev K : ℕ
   K = s .counts .keys
 
   abbrev Both : Outcome → Outcome → Type 0
-  Both = Beside (anyBelow K (stepMoved s r j)) (explainPath s r j) (maskBelow K (stepMoved s r j))
+  Both =
+      Beside (anyBelow K (stepMoved s r j n)) (explainPath s r j n)
+      (maskBelow K (stepMoved s r j n))
 
-  beside : Both (replied (explainReply r j s)) (stepRule r j s)
+  beside : Both (replied (explainReply r j n s)) (stepRule r j n s)
   unfolding replied explainReply stepRule unless breaks stepBroken stepDone
-  beside = cases (eqb (stepCause s r j) 0) (anyBelow K (stepMoved s r j)) refl
+  beside = cases (eqb (stepCause s r j n) 0) (anyBelow K (stepMoved s r j n)) refl
     where
-      cases : (p q : Bool) → anyBelow K (stepMoved s r j) ≡ q → Both
-          (cond p (told (cond q pathWord clearWord) (cond q (explainPath s r j) []))
-          (refused (stepCause s r j)))
-          (cond p (cond q (stepBroken s r j) (stepDone s r j)) (refused (stepCause s r j)))
-      cases false q e = turned (stepCause s r j)
+      cases : (p q : Bool) → anyBelow K (stepMoved s r j n) ≡ q → Both
+          (cond p (told (cond q pathWord clearWord) (cond q (explainPath s r j n) []))
+          (refused (stepCause s r j n)))
+          (cond p (cond q (stepBroken s r j n) (stepDone s r j n)) (refused (stepCause s r j n)))
+      cases false q e = turned (stepCause s r j n)
       cases true true e = breaking e _
       cases true false e = working _ _
 
   -- ---- the path
 
   abbrev Shown : List ℕ → Type 0
-  Shown = ShortestPath K (explainEdge s r j) (explainStart s r j) (explainGoal s r j)
+  Shown = ShortestPath K (explainEdge s r j n) (explainStart s r j n) (explainGoal s r j n)
 
   -- C is what is reached from the reads that the card lacks.
-  moved-reached : stepMoved s r j
-      ≡ reaches K (explainEdge s r j) (explainGoal s r j) (explainStart s r j)
+  moved-reached : stepMoved s r j n
+      ≡ reaches K (explainEdge s r j n) (explainGoal s r j n) (explainStart s r j n)
   unfolding stepMoved stepPull pullSet drawSet explainEdge explainGoal explainStart
   moved-reached = refl
 
-  path-shown : So (anyBelow K (stepMoved s r j)) → Shown (explainPath s r j)
+  path-shown : So (anyBelow K (stepMoved s r j n)) → Shown (explainPath s r j n)
   unfolding explainPath
   path-shown h =
-      path-shortest K (explainEdge s r j) (explainGoal s r j) (explainStart s r j)
+      path-shortest K (explainEdge s r j n) (explainGoal s r j n) (explainStart s r j n)
       (rw moved-reached at h)
 
   -- Its last key would move though the run has read it.
-  path-moved : (l : List ℕ) → Path K (explainEdge s r j) (explainStart s r j) (explainGoal s r j) l
-      → So (testBit (maskBelow K (stepMoved s r j)) (lastOf l))
+  path-moved : (l : List ℕ)
+      → Path K (explainEdge s r j n) (explainStart s r j n) (explainGoal s r j n) l
+      → So (testBit (maskBelow K (stepMoved s r j n)) (lastOf l))
   path-moved l p =
-      let e = path-last K (explainEdge s r j) (explainGoal s r j) (explainStart s r j) l p in
-      test-mask K (stepMoved s r j) (lastOf l) (e .0) ∙ rw moved-reached (e .1)
+      let e = path-last K (explainEdge s r j n) (explainGoal s r j n) (explainStart s r j n) l p in
+      test-mask K (stepMoved s r j n) (lastOf l) (e .0) ∙ rw moved-reached (e .1)
 
-  explains-both : {x y : Outcome} → Both x y → ExplainsOutcome s r j x y
+  explains-both : {x y : Outcome} → Both x y → ExplainsOutcome s r j n x y
   explains-both q = record {
     clear = clear-exactly q;
     path = path-exactly q;
     shortest = λ l e. let p = path-is q l e in rw (p .1) (path-shown (p .0));
     ends = λ l m e f. let p = path-is q l e in
-        rw (p .1, mask-is q m f) (path-moved (explainPath s r j) (path-shown (p .0) .path));
+        rw (p .1, mask-is q m f) (path-moved (explainPath s r j n) (path-shown (p .0) .path));
     refused = refused-exactly q;
   }
 
-  pub explains : Explains s r j (replied (explainReply r j s))
+  pub explains : Explains s r j n (replied (explainReply r j n s))
   explains = explains-both beside
 
   -- A refusal explains the same refusal.
-  pub explains-refused : (n : ℕ) → ExplainsOutcome s r j (refused n) (refused n)
-  explains-refused n = explains-both (turned n)
+  pub explains-refused : (c : ℕ) → ExplainsOutcome s r j n (refused c) (refused c)
+  explains-refused c = explains-both (turned c)
 
   -- ---- how long it is
 
   -- This path is answered.
   abbrev Told : List ℕ → Type 0
-  Told l = answer (replied (explainReply r j s)) ≡ pathWord ∷ l
+  Told l = answer (replied (explainReply r j n s)) ≡ pathWord ∷ l
 
   -- At most all keys.
   pub explain-long : (l : List ℕ) → Told l → length l ≤ K
   unfolding explainPath
   explain-long l e =
       rw (path-is beside l e .1)
-      (path-long K (explainEdge s r j) (explainGoal s r j) (explainStart s r j))
+      (path-long K (explainEdge s r j n) (explainGoal s r j n) (explainStart s r j n))
 
   -- At least two, where the run is in form: what it has read is on its card, and a read of the
   -- job that the card lacks isn't one of these.
@@ -169,24 +172,24 @@ module _ (s : Store) (r j : ℕ) where
   unfolding explainStart explainGoal lacking Path Onward
   two-keys u f [] p = absurd (p .path)
   two-keys u f (t ∷ []) p =
-      let a = stepReads s r j t in
-      let b = held (stepBranch s r j .snapshot t) in
+      let a = stepReads s r j n t in
+      let b = held (stepBranch s r j n .snapshot t) in
       let has = plan-out (s .counts) (s .run r) u f .snapshot .has in
       clash (has t (p .path .0) (p .path .2)) (not-elim (and-right a (not b) (p .path .1)))
   two-keys u f (t ∷ d ∷ l) p = omega arith
 
   -- A path is answered only where the step isn't refused.
-  path-taken : (l : List ℕ) → Told l → stepCause s r j ≡ 0
+  path-taken : (l : List ℕ) → Told l → stepCause s r j n ≡ 0
   unfolding answer explainReply
-  path-taken l e = test (eqb (stepCause s r j) 0) (λ y. eqb-eq _ 0 y)
+  path-taken l e = test (eqb (stepCause s r j n) 0) (λ y. eqb-eq _ 0 y)
       (λ y. absurd (omega (
         arith,
         first
-            (ap answer (sym (replied-refused (explainReply r j s) (eqb-ne _ 0 y))) ∙ e),
+            (ap answer (sym (replied-refused (explainReply r j n s) (eqb-ne _ 0 y))) ∙ e),
       )))
 
   -- A path that is answered on a store in form has at least two keys.
   pub explain-two : So (wellFormed s) → (l : List ℕ) → Told l → 2 ≤ length l
   explain-two f l e =
-      let a = accepted s r j (path-taken l e) in
+      let a = accepted s r j n (path-taken l e) in
       two-keys (accepted-used a) (well-out s f .run r (a .run-in)) l (explains .shortest l e)

@@ -48,8 +48,8 @@ use Rattle.explain.specs.declared.Finding.{Finding}
 use Rattle.explain.specs.declared.Explained.{Explained}
 use Rattle.explain.specs.Answers.{foundWords, explainedWords, Fits, Listed}
 
-module _ (l : List ℕ) (z : Counts) (r j : ℕ) (v : Visit) (t : Trial)
-    (F : Finds l z r j v t) where
+module _ (l : List ℕ) (z : Counts) (r j n : ℕ) (v : Visit) (t : Trial)
+    (F : Finds l z r j n v t) where
   abbrev s : Store
   s = storeOf l
 
@@ -57,112 +57,120 @@ module _ (l : List ℕ) (z : Counts) (r j : ℕ) (v : Visit) (t : Trial)
   K = z .keys
 
   counts : s .counts ≡ z
-  counts = found-counts l z r j v t F
+  counts = found-counts l z r j n v t F
 
-  reads : stepReads s r j ≡ testBit (v .reads)
+  reads : stepReads s r j n ≡ testBit (v .reads)
   reads =
-      let U = found-run l z r j v t F in
-      old-reads l z r j (snapshotAt z r) (U .0) (U .1) v (F .visit)
+      let U = found-run l z r j n v t F in
+      old-reads l z r j n (snapshotAt z r) (U .0) (U .1) v (F .visit)
 
-  plan : stepPlan s r j ≡ testBit (v .plan)
+  plan : stepPlan s r j n ≡ testBit (v .plan)
   plan =
-      let U = found-run l z r j v t F in
-      old-plan l z r j (snapshotAt z r) (U .0) (U .1) v (F .visit)
+      let U = found-run l z r j n v t F in
+      old-plan l z r j n (snapshotAt z r) (U .0) (U .1) v (F .visit)
 
   -- The cache as the fetch would leave it.
-  source : (k : ℕ) → k < K → stepCache s r j k ≡ viewed z l (sourceOf v t) k
+  source : (k : ℕ) → k < K → stepCache s r j n k ≡ viewed z l (sourceOf v t) k
   unfolding stepCache fetched stepFetch viewed
   source k h =
-      let same : testBit (t .taken) k ≡ stepFetch s r j k =
-      item-of (s .counts .keys) (t .taken) (stepFetch s r j) (found-taken l z r j v t F) k
+      let same : testBit (t .taken) k ≡ stepFetch s r j n k =
+      item-of (s .counts .keys) (t .taken) (stepFetch s r j n) (found-taken l z r j n v t F) k
       (rw counts h) in
-      let old = s .site (stepSite s r j) .cache in
+      let old = s .site (stepSite s r j n) .cache in
       ap (λ (b : Bool). cond b (s .master k) (old k)) (sym same)
       ∙ ap₂ (λ (p q : Place Version). cond (testBit (t .taken) k) (p k) (q k))
-      (found-master l z r j v t F) (found-cache l z r j v t F)
+      (found-master l z r j n v t F) (found-cache l z r j n v t F)
 
   -- ---- the parts of a path
 
-  edge : (a d : ℕ) → a < K → d < K → drawnEdge z l v t a d ≡ explainEdge s r j a d
+  edge : (a d : ℕ) → a < K → d < K → drawnEdge z l v t a d ≡ explainEdge s r j n a d
   unfolding drawnEdge leadsTo led draws explainEdge
   edge a d i h =
-      rw (plan, found-snapshot l z r j v t F, source a i, source d h, counts)
+      rw (plan, found-snapshot l z r j n v t F, source a i, source d h, counts)
 
-  start : drawnStart z l v ≡ explainStart s r j
+  start : drawnStart z l v ≡ explainStart s r j n
   unfolding drawnStart explainStart
-  start = rw (reads, found-snapshot l z r j v t F, counts)
+  start = rw (reads, found-snapshot l z r j n v t F, counts)
 
   -- ---- C, and the path
 
   pulled : t .pulled ≡ maskBelow K (closure K (drawnEdge z l v t) (drawnStart z l v))
   unfolding stepPull pullSet drawSet explainEdge explainStart
   pulled =
-      let same : maskBelow (s .counts .keys) (stepPull s r j)
-      ≡ maskBelow K (closure K (explainEdge s r j) (explainStart s r j)) =
-      ap (λ (n : ℕ). maskBelow n (closure n (explainEdge s r j) (explainStart s r j)))
+      let same : maskBelow (s .counts .keys) (stepPull s r j n)
+      ≡ maskBelow K (closure K (explainEdge s r j n) (explainStart s r j n)) =
+      ap (λ (x : ℕ). maskBelow x (closure x (explainEdge s r j n) (explainStart s r j n)))
       (ap (λ (y : Counts). y .keys) counts) in
-      found-pulled l z r j v t F ∙ same
-      ∙ mask-same K (closure K (explainEdge s r j) (explainStart s r j))
+      found-pulled l z r j n v t F ∙ same
+      ∙ mask-same K (closure K (explainEdge s r j n) (explainStart s r j n))
       (closure K (drawnEdge z l v t) (drawnStart z l v))
-      (closure-same K (explainEdge s r j) (drawnEdge z l v t) (explainStart s r j)
+      (closure-same K (explainEdge s r j n) (drawnEdge z l v t) (explainStart s r j n)
       (drawnStart z l v) (λ a d i h. sym (edge a d i h))
       (λ d _. ap (λ (p : Items). p d) (sym start)))
 
   pub draws-found : Draws l z v t
   draws-found =
-      let U = found-run l z r j v t F in
-      let seen = visit-known l z r j (snapshotAt z r) (U .0) (U .1) v (F .visit) in
-      let L = branch-own l z r (F .form) (U .0 .run) in
+      let U = found-run l z r j n v t F in
+      let seen = visit-known l z r j n (snapshotAt z r) (U .0) (U .1) v (F .visit) in
+      let L = branch-own l z r n (F .form) (U .0 .run) in
       record {
         area = record {
-          target-in = rw (found-snapshot-at l z r j v t F) (L .area);
+          target-in = rw (found-snapshot-at l z r j n v t F) (L .area);
           first-in = seen .master;
           second-in = seen .cache;
         };
         reads = seen .reads;
-        read = rw (found-read l z r j v t F, jobs-known l z r (U .0) .plan .masks .reads)
+        read = rw (found-read l z r j n v t F, jobs-known l z r (U .0) .plan .masks .reads)
             (mask-lt K _ K (omega arith));
         pulled = pulled;
       }
 
-  path-found : drawnPath z l v t ≡ explainPath s r j
+  path-found : drawnPath z l v t ≡ explainPath s r j n
   unfolding drawnPath explainPath explainGoal
   path-found =
-      path-same K (drawnEdge z l v t) (explainEdge s r j) (drawnStart z l v) (explainStart s r j)
-      (testBit (v .read)) (λ a d i h _. edge a d i h) (λ d _. ap (λ (p : Items). p d) start)
-      ∙ ap₂ (λ (n m : ℕ). shortestPath n (explainEdge s r j) (explainStart s r j) (testBit m))
-      (sym (ap (λ (y : Counts). y .keys) counts)) (found-read l z r j v t F)
+      path-same K (drawnEdge z l v t) (explainEdge s r j n) (drawnStart z l v)
+      (explainStart s r j n) (testBit (v .read)) (λ a d i h _. edge a d i h)
+      (λ d _. ap (λ (p : Items). p d) start)
+      ∙ ap₂ (λ (x m : ℕ). shortestPath x (explainEdge s r j n) (explainStart s r j n) (testBit m))
+      (sym (ap (λ (y : Counts). y .keys) counts)) (found-read l z r j n v t F)
 
   -- ---- the answer
 
-  moved : stepMoved s r j ≡ (λ k. stepPull s r j k && testBit (v .read) k)
+  moved : stepMoved s r j n ≡ (λ k. stepPull s r j n k && testBit (v .read) k)
   unfolding stepMoved
-  moved = rw (found-read l z r j v t F)
+  moved = rw (found-read l z r j n v t F)
 
   -- It would break exactly if C has a key of the read mask.
-  breaks-found : breaks s r j ≡ not (eqb (bitAnd (t .pulled) (v .read)) 0)
+  breaks-found : breaks s r j n ≡ not (eqb (bitAnd (t .pulled) (v .read)) 0)
   unfolding breaks
   breaks-found =
-      let n = s .counts .keys in
-      let p = found-pulled l z r j v t F in
+      let x = s .counts .keys in
+      let p = found-pulled l z r j n v t F in
       let both = bitAnd (t .pulled) (v .read) in
       rw moved
       (test (eqb both 0)
-      (λ y. rw y (moved-none n (t .pulled) (v .read) (stepPull s r j) p (eqb-eq both 0 y)))
-      (λ x. rw x (moved-some n (t .pulled) (v .read) (stepPull s r j) p (eqb-ne both 0 x))))
+      (λ y. rw y (moved-none x (t .pulled) (v .read) (stepPull s r j n) p (eqb-eq both 0 y)))
+      (λ y. rw y (moved-some x (t .pulled) (v .read) (stepPull s r j n) p (eqb-ne both 0 y))))
 
+-- The call explains on branch 0.
+module _ (l : List ℕ) (z : Counts) (r j : ℕ) (v : Visit) (t : Trial)
+    (F : Finds l z r j 0 v t) where
   pub words-found : drawnWords z l v t ≡ answer (callOn (on (ask (explain r j))) l)
   unfolding drawnWords answer replyOf explainReply
   words-found =
-      rw (ask-told (explain r j) l (F .form .form) (F .free), breaks-found, path-found)
+      rw (
+        ask-told (explain r j) l (F .form .form) (F .free),
+        breaks-found l z r j 0 v t F,
+        path-found l z r j 0 v t F,
+      )
       (cases (eqb (bitAnd (t .pulled) (v .read)) 0))
     where
-      cases : (b : Bool) → cond b (clearWord ∷ []) (pathWord ∷ explainPath s r j)
-          ≡ cond (not b) pathWord clearWord ∷ cond (not b) (explainPath s r j) []
+      cases : (b : Bool) → cond b (clearWord ∷ []) (pathWord ∷ explainPath (storeOf l) r j 0)
+          ≡ cond (not b) pathWord clearWord ∷ cond (not b) (explainPath (storeOf l) r j 0) []
       cases true = refl
       cases false = refl
 
-pub words-refused : (l : List ℕ) (r j n : ℕ) → So (inForm l) → n ≡ stepCause (storeOf l) r j
+pub words-refused : (l : List ℕ) (r j n : ℕ) → So (inForm l) → n ≡ stepCause (storeOf l) r j 0
     → n ≢ 0 → 2 ∷ n ∷ [] ≡ answer (callOn (on (ask (explain r j))) l)
 unfolding answer replyOf explainReply
 words-refused l r j n F e h =

@@ -1,6 +1,6 @@
 -- The history model (document 01: "the book"), fed each call with its arguments and whether it
 -- was answered ok.
--- BookBranch, BookRun, Book, freshBook; bookStep: one call.
+-- BookBranch, BookRun, bookBranch, Book, freshBook; bookStep: one call.
 -- Assumes nothing.
 use mathlib.Core.Bool.{Bool, cond, _&&_, _||_}
 use mathlib.Core.List.{List, [], _∷_}
@@ -35,6 +35,10 @@ pub record BookRun : Type 0 where
   pub jobs : ℕ
   pub job : ℕ → Job
   pub branch : BookBranch
+
+-- Branch ("line") n of a run: it has one.
+abbrev pub bookBranch : ℕ → BookRun → BookBranch
+bookBranch n a = a .branch
 
 -- base: what was admitted, if the book began so (CR 6).
 pub record Book : Type 0 where
@@ -133,12 +137,12 @@ bookPrepare r b =
       };
     })
 
-unfoldable pub bookStepJob : ℕ → ℕ → Book → Book
-bookStepJob r j b =
+unfoldable pub bookStepJob : ℕ → ℕ → ℕ → Book → Book
+bookStepJob r j n b =
     let K = b .counts .keys in
     let alg = bookCopies K (b .counts .writers) (b .history) in
     let a = b .run r in
-    let v = a .branch in
+    let v = bookBranch n a in
     let o = a .job j .site in
     let reads = testBit (a .job j .reads) in
     let missing = readStart alg K (v .snapshot) (b .cache o) reads in
@@ -194,7 +198,7 @@ bookRule (openRun r l) b = bookOpen r l b
 bookRule (fetch o k) b = bookFetch o k b
 bookRule (evict o k) b = bookEvict o k b
 bookRule (prepare r) b = bookPrepare r b
-bookRule (step r j) b = bookStepJob r j b
+bookRule (step r j) b = bookStepJob r j 0 b
 bookRule (issue r w S) b = bookIssued r w S b
 bookRule (dropRun r) b = withBookRun b r noRun
 bookRule (allow o n) b = b

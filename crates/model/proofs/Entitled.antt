@@ -35,13 +35,13 @@ use Rattle.model.proofs.Formed.{Unbarred, Formed}
 use Rattle.model.proofs.Plans.{valid-out, plan-out}
 
 -- "a job may not read it at that office, even from the card"
-pub step-entitled : (s : Store) (r j k : ℕ) → Accepted s r j → k < s .counts .keys
-    → So (stepReads s r j k) → So (testBit (s .tail .mayHold (stepSite s r j)) k)
+pub step-entitled : (s : Store) (r j n k : ℕ) → Accepted s r j n → k < s .counts .keys
+    → So (stepReads s r j n k) → So (testBit (s .tail .mayHold (stepSite s r j n)) k)
 unfolding stepBarred
-step-entitled s r j k a l p =
-    unbarred-at (s .counts .keys) (s .tail .mayHold (stepSite s r j))
-    (λ k. stepReads s r j k || stepFetch s r j k) (a .entitled) k l
-    (or-left (stepFetch s r j k) p)
+step-entitled s r j n k a l p =
+    unbarred-at (s .counts .keys) (s .tail .mayHold (stepSite s r j n))
+    (λ k. stepReads s r j n k || stepFetch s r j n k) (a .entitled) k l
+    (or-left (stepFetch s r j n k) p)
 
 pub issue-entitled : (s : Store) (r w S k : ℕ) → issueCause s r w S ≡ 0 → k < s .counts .keys
     → So (testBit S k) → So (testBit (s .tail .maySave w) k)

@@ -27,21 +27,21 @@ use Rattle.model.proofs.Draws.{lacking-iff, fetched-held, pulled-out}
 use Rattle.model.proofs.Pulls.{pulled-held, pulled-keeps, pulled-planned, pulled-overlap}
 
 -- Every row of step is passed.
-pub record Accepted (s : Store) (r j : ℕ) : Type 0 where
+pub record Accepted (s : Store) (r j n : ℕ) : Type 0 where
   pub run-in : r < s .counts .runs
   pub open-run : So (allowed stepRow (s .run r .state))
   pub job-in : j < s .run r .jobs
   pub ready : notReady (s .run r .done) (s .run r .job j .upstream) j ≡ false
-  pub entitled : stepBarred s r j ≡ false
+  pub entitled : stepBarred s r j n ≡ false
   pub fetchable : unfetchable (versions (s .counts .writers)) (s .counts .keys) (s .master)
-      (stepStart s r j) ≡ false
-  pub fits : over (s .counts) (s .site (stepSite s r j)) (stepCache s r j) ≡ false
+      (stepStart s r j n) ≡ false
+  pub fits : over (s .counts) (s .site (stepSite s r j n)) (stepCache s r j n) ≡ false
 
 pub step-used : (n : ℕ) → So (allowed stepRow n) → 1 ≤ n
 unfolding allowed
 step-used n p = allowed-used stepRow n refl p
 
-pub accepted-used : {s : Store} {r j : ℕ} → Accepted s r j → 1 ≤ s .run r .state
+pub accepted-used : {s : Store} {r j n : ℕ} → Accepted s r j n → 1 ≤ s .run r .state
 accepted-used {s} {r} a = step-used (s .run r .state) (a .open-run)
 
 -- In a run that isn't free its jobs are the limit.
@@ -50,16 +50,16 @@ unfolding jobLimit
 job-limit state jobs p =
     let l = step-used state p in rw (ne-eqb state freeState (λ e. absurd (omega arith)))
 
-pub accepted : (s : Store) (r j : ℕ) → stepCause s r j ≡ 0 → Accepted s r j
+pub accepted : (s : Store) (r j n : ℕ) → stepCause s r j n ≡ 0 → Accepted s r j n
 unfolding stepCause jobCause
-accepted s r j e =
+accepted s r j n e =
     let x = s .run r in
     let limit = jobLimit (x .state) (x .jobs) in
     let a = no-cause (leb (s .counts .runs) r) 3 _ (omega arith) e in
     let b = no-cause (leb limit j) 3 _ (omega arith) (a .1) in
     let c = no-lack (allowed stepRow (s .run r .state)) 4 _ (omega arith) (b .1) in
     let d = no-cause (notReady (x .done) (x .job j .upstream) j) 6 _ (omega arith) (c .1) in
-    let h = no-cause (stepBarred s r j) 13 _ (omega arith) (d .1) in
+    let h = no-cause (stepBarred s r j n) 13 _ (omega arith) (d .1) in
     let f = no-cause _ 7 _ (omega arith) (h .1) in
     let g = no-cause _ 12 0 (omega arith) (f .1) in
     record {
@@ -83,17 +83,17 @@ rows false true c rest = refl
 rows false false true rest = refl
 rows false false false rest = refl
 
-module _ (s : Store) (r j : ℕ) where
-  pub step-high : s .counts .runs ≤ r → stepCause s r j ≡ 3
+module _ (s : Store) (r j n : ℕ) where
+  pub step-high : s .counts .runs ≤ r → stepCause s r j n ≡ 3
   unfolding stepCause refuse
   step-high h = rw (le-leb _ _ h)
 
-  pub step-below : r < s .counts .runs → let n = jobCause (s .run r) j 0 in
-      stepCause s r j
-      ≡ cond (eqb n 0) (refuse (stepBarred s r j) 13
+  pub step-below : r < s .counts .runs → let c = jobCause (s .run r) j 0 in
+      stepCause s r j n
+      ≡ cond (eqb c 0) (refuse (stepBarred s r j n) 13
       (refuse (unfetchable (versions (s .counts .writers)) (s .counts .keys) (s .master)
-      (stepStart s r j)) 7
-      (refuse (over (s .counts) (s .site (stepSite s r j)) (stepCache s r j)) 12 0))) n
+      (stepStart s r j n)) 7
+      (refuse (over (s .counts) (s .site (stepSite s r j n)) (stepCache s r j n)) 12 0))) c
   unfolding stepCause jobCause refuse
   step-below h =
       let a = s .run r in
@@ -102,7 +102,7 @@ module _ (s : Store) (r j : ℕ) where
       (notReady (a .done) (a .job j .upstream) j) _)
 
   -- Where there is no cause at all.
-  pub step-free : stepCause s r j ≡ 0
+  pub step-free : stepCause s r j n ≡ 0
       → (r < s .counts .runs) × (jobCause (s .run r) j 0 ≡ 0)
   unfolding stepCause
   step-free e =
@@ -118,79 +118,80 @@ module _ (s : Store) (r j : ℕ) where
 -- ---- what the job reads
 
 -- What a job reads is in the plan,
-pub step-planned : (s : Store) (r j k : ℕ) → j < s .run r .jobs → So (stepReads s r j k)
-    → So (stepPlan s r j k)
+pub step-planned : (s : Store) (r j n k : ℕ) → j < s .run r .jobs → So (stepReads s r j n k)
+    → So (stepPlan s r j n k)
 unfolding stepReads stepPlan planned
-step-planned s r j k l p = any-intro (s .run r .jobs) _ j l p
+step-planned s r j n k l p = any-intro (s .run r .jobs) _ j l p
 
 -- and where the snapshot lacks it the cache holds it, after the fetch.
-pub step-cached : (s : Store) (r j k : ℕ) → Accepted s r j → k < s .counts .keys
-    → So (stepReads s r j k) → held (stepBranch s r j .snapshot k) ≡ false
-    → So (held (stepCache s r j k))
+pub step-cached : (s : Store) (r j n k : ℕ) → Accepted s r j n → k < s .counts .keys
+    → So (stepReads s r j n k) → held (stepBranch s r j n .snapshot k) ≡ false
+    → So (held (stepCache s r j n k))
 unfolding stepCache stepStart readStart
-step-cached s r j k a l p n =
+step-cached s r j n k a l p f =
     let alg = versions (s .counts .writers) in
     let K = s .counts .keys in
-    let snapshot = stepBranch s r j .snapshot in
-    let cache = s .site (stepSite s r j) .cache in
-    let gone = lacking-iff alg K snapshot (stepReads s r j) k .1 (p, n) in
-    fetched-held alg K (s .master) cache (stepStart s r j) (a .fetchable) k l
+    let snapshot = stepBranch s r j n .snapshot in
+    let cache = s .site (stepSite s r j n) .cache in
+    let gone = lacking-iff alg K snapshot (stepReads s r j n) k .1 (p, f) in
+    fetched-held alg K (s .master) cache (stepStart s r j n) (a .fetchable) k l
     (test (held (cache k)) (λ y. inr y)
-    (λ m. inl (lacking-iff alg K cache (lacking alg K snapshot (stepReads s r j)) k .1 (gone, m))))
+    (λ m. inl (lacking-iff alg K cache (lacking alg K snapshot (stepReads s r j n)) k .1
+    (gone, m))))
 
 -- ---- the snapshot after it
 
-module _ (s : Store) (r j : ℕ) where
+module _ (s : Store) (r j n : ℕ) where
   -- Outside of C it is as it was.
-  pub stepSnapshot-out : (k : ℕ) → stepPull s r j k ≡ false
-      → stepSnapshot s r j k ≡ stepBranch s r j .snapshot k
+  pub stepSnapshot-out : (k : ℕ) → stepPull s r j n k ≡ false
+      → stepSnapshot s r j n k ≡ stepBranch s r j n .snapshot k
   unfolding stepSnapshot stepPull
   stepSnapshot-out =
-      pulled-out (versions (s .counts .writers)) (s .counts .keys) (stepPlan s r j)
-      (stepBranch s r j .snapshot) (stepCache s r j) (stepReads s r j)
+      pulled-out (versions (s .counts .writers)) (s .counts .keys) (stepPlan s r j n)
+      (stepBranch s r j n .snapshot) (stepCache s r j n) (stepReads s r j n)
 
   -- It holds what it held, and all that the job reads,
-  pub stepSnapshot-keeps : (k : ℕ) → So (held (stepBranch s r j .snapshot k))
-      → So (held (stepSnapshot s r j k))
+  pub stepSnapshot-keeps : (k : ℕ) → So (held (stepBranch s r j n .snapshot k))
+      → So (held (stepSnapshot s r j n k))
   unfolding stepSnapshot
   stepSnapshot-keeps =
-      pulled-keeps (s .counts .writers) (s .counts .keys) (stepPlan s r j)
-      (stepBranch s r j .snapshot) (stepCache s r j) (stepReads s r j)
+      pulled-keeps (s .counts .writers) (s .counts .keys) (stepPlan s r j n)
+      (stepBranch s r j n .snapshot) (stepCache s r j n) (stepReads s r j n)
 
-  module _ (a : Accepted s r j) where
-    pub stepSnapshot-held : (k : ℕ) → k < s .counts .keys → So (stepReads s r j k)
-        → So (held (stepSnapshot s r j k))
+  module _ (a : Accepted s r j n) where
+    pub stepSnapshot-held : (k : ℕ) → k < s .counts .keys → So (stepReads s r j n k)
+        → So (held (stepSnapshot s r j n k))
     unfolding stepSnapshot
     stepSnapshot-held k l p =
-        pulled-held (s .counts .writers) (s .counts .keys) (stepPlan s r j)
-        (stepBranch s r j .snapshot) (stepCache s r j) (stepReads s r j) k p
-        (step-cached s r j k a l p)
+        pulled-held (s .counts .writers) (s .counts .keys) (stepPlan s r j n)
+        (stepBranch s r j n .snapshot) (stepCache s r j n) (stepReads s r j n) k p
+        (step-cached s r j n k a l p)
 
     -- only keys of the plan, if that was so,
     pub stepSnapshot-planned :
-        Within (s .counts .keys) (λ k. held (stepBranch s r j .snapshot k)) (stepPlan s r j)
-        → Within (s .counts .keys) (λ k. held (stepSnapshot s r j k)) (stepPlan s r j)
+        Within (s .counts .keys) (λ k. held (stepBranch s r j n .snapshot k)) (stepPlan s r j n)
+        → Within (s .counts .keys) (λ k. held (stepSnapshot s r j n k)) (stepPlan s r j n)
     unfolding stepSnapshot
     stepSnapshot-planned =
-        pulled-planned (s .counts .writers) (s .counts .keys) (stepPlan s r j)
-        (stepBranch s r j .snapshot) (stepCache s r j) (stepReads s r j)
-        (λ k _. step-planned s r j k (a .job-in))
+        pulled-planned (s .counts .writers) (s .counts .keys) (stepPlan s r j n)
+        (stepBranch s r j n .snapshot) (stepCache s r j n) (stepReads s r j n)
+        (λ k _. step-planned s r j n k (a .job-in))
 
     -- and is still a cut for the plan.
     pub stepSnapshot-overlaps :
-        So (overlappingCut (versions (s .counts .writers)) (s .counts .keys) (stepPlan s r j)
-        (stepBranch s r j .snapshot))
-        → So (causalCut (versions (s .counts .writers)) (s .counts .keys) (stepCache s r j))
-        → So (overlappingCut (versions (s .counts .writers)) (s .counts .keys) (stepPlan s r j)
-        (stepSnapshot s r j))
+        So (overlappingCut (versions (s .counts .writers)) (s .counts .keys) (stepPlan s r j n)
+        (stepBranch s r j n .snapshot))
+        → So (causalCut (versions (s .counts .writers)) (s .counts .keys) (stepCache s r j n))
+        → So (overlappingCut (versions (s .counts .writers)) (s .counts .keys) (stepPlan s r j n)
+        (stepSnapshot s r j n))
     unfolding stepSnapshot
     stepSnapshot-overlaps o c =
-        pulled-overlap (s .counts .writers) (s .counts .keys) (stepPlan s r j)
-        (stepBranch s r j .snapshot) (stepCache s r j) (stepReads s r j) o c
-        (λ k _. step-planned s r j k (a .job-in))
+        pulled-overlap (s .counts .writers) (s .counts .keys) (stepPlan s r j n)
+        (stepBranch s r j n .snapshot) (stepCache s r j n) (stepReads s r j n) o c
+        (λ k _. step-planned s r j n k (a .job-in))
 
 -- The run after it.
-abbrev pub steppedRun : Store → ℕ → ℕ → Run
-steppedRun s r j =
+abbrev pub steppedRun : Store → ℕ → ℕ → ℕ → Run
+steppedRun s r j n =
     withJobDone (s .run r) (withBit (s .run r .done) j)
-    (bitOr (stepBranch s r j .read) (s .run r .job j .reads)) (stepSnapshot s r j)
+    (bitOr (stepBranch s r j n .read) (s .run r .job j .reads)) (stepSnapshot s r j n)

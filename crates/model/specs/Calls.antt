@@ -35,7 +35,7 @@ pub data Query : Type 0 where
 
 unfoldable pub replyOf : Query → Store → Reply
 replyOf (look p i k) = lookReply p i k
-replyOf (explain r j) = explainReply r j
+replyOf (explain r j) = explainReply r j 0
 replyOf (stale o) = staleReply o
 replyOf admit = admitReply
 
@@ -59,7 +59,7 @@ ruleOf (openRun r l) = openRule r l
 ruleOf (fetch o k) = fetchRule o k
 ruleOf (evict o k) = evictRule o k
 ruleOf (prepare r) = prepareRule r
-ruleOf (step r j) = stepRule r j
+ruleOf (step r j) = stepRule r j 0
 ruleOf (issue r w S) = issueRule r w S
 ruleOf (dropRun r) = dropRule r
 ruleOf (allow o n) = allowRule o n

@@ -1,4 +1,5 @@
--- Step: a job reads its keys, from the snapshot ("card"), its site's cache or the master.
+-- Step: a job reads its keys, on a branch ("line") of its run, from the snapshot ("card"), its
+-- site's cache or the master.
 -- stepBranch (read mask and card), stepReads (R), stepStart (what is fetched), stepCache (the
 -- cache after the fetch), stepPull (C), stepMoved. jobLimit, notReady, jobCause: the causes that
 -- the run decides alone.
@@ -15,7 +16,7 @@ use Rattle.model.specs.Algebra.{Algebra, Place, lacking}
 use Rattle.model.specs.Version.{Version, versions}
 use Rattle.model.specs.Sets.{fetchSet, fetched, unfetchable, pullSet, pulled}
 use Rattle.model.specs.Tail.{barred}
-use Rattle.model.specs.Store.{Branch, Run, Store, planned, withCache, withRun, withState, withJobDone}
+use Rattle.model.specs.Store.{Branch, branchOf, Run, Store, planned, withCache, withRun, withState, withJobDone}
 use Rattle.model.specs.Allowance.{over}
 use Rattle.model.specs.Outcome.{Outcome, broken, done, refuse, unless, allowed, stepRow, freeState, brokenState}
 
@@ -40,10 +41,10 @@ jobCause a j rest =
     (refuse (notReady (a .done) (a .job j .upstream) j) 6
     rest))
 
-module _ (s : Store) (r j : ℕ) where
+module _ (s : Store) (r j n : ℕ) where
   -- The read mask and the card that the step goes by.
   abbrev pub stepBranch : Branch
-  stepBranch = s .run r .branch
+  stepBranch = branchOf n (s .run r)
 
   unfoldable pub stepSite : ℕ
   stepSite = s .run r .job j .site
@@ -121,7 +122,7 @@ module _ (s : Store) (r j : ℕ) where
       (withJobDone (s .run r) (withBit (s .run r .done) j)
       (bitOr (stepBranch .read) (s .run r .job j .reads)) stepSnapshot))
 
-unfoldable pub stepRule : ℕ → ℕ → Store → Outcome
-stepRule r j s =
-    unless (stepCause s r j)
-    (cond (anyBelow (s .counts .keys) (stepMoved s r j)) (stepBroken s r j) (stepDone s r j))
+unfoldable pub stepRule : ℕ → ℕ → ℕ → Store → Outcome
+stepRule r j n s =
+    unless (stepCause s r j n)
+    (cond (anyBelow (s .counts .keys) (stepMoved s r j n)) (stepBroken s r j n) (stepDone s r j n))

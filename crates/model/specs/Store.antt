@@ -39,6 +39,10 @@ pub record Run : Type 0 where
   pub job : ℕ → Job
   pub branch : Branch
 
+-- The branch ("line") n of a run: it has one.
+abbrev pub branchOf : ℕ → Run → Branch
+branchOf n a = a .branch
+
 -- An office: its shelf, the mask of the sheets on it that are behind (CR 4), and how many it may
 -- hold (CR 7).
 pub record Site : Type 0 where

@@ -38,8 +38,9 @@ rule-round (evict o k) s =
 rule-round (prepare r) s =
     inr (unless-cases (Leaves s) (prepareCause s r) (prepareDone s r) (λ _. refl) (λ _. refl))
 rule-round (step r j) s =
-    let b = anyBelow (s .counts .keys) (stepMoved s r j) in
-    inr (unless-cases (Leaves s) (stepCause s r j) (cond b (stepBroken s r j) (stepDone s r j))
+    let b = anyBelow (s .counts .keys) (stepMoved s r j 0) in
+    inr (unless-cases (Leaves s) (stepCause s r j 0)
+    (cond b (stepBroken s r j 0) (stepDone s r j 0))
     (λ _. test b (λ y. rw y refl) (λ n. rw n refl)) (λ _. refl))
 rule-round (issue r w S) s =
     inr (unless-cases (Leaves s) (issueCause s r w S) (issueDone s r w S)

@@ -33,53 +33,56 @@ use Rattle.step.specs.declared.Stepped.{Stepped}
 use Rattle.step.specs.Answers.{steppedWords}
 
 -- What is done where there is no cause.
-abbrev act : Store → ℕ → ℕ → Outcome
-act s r j = cond (anyBelow (s .counts .keys) (stepMoved s r j)) (stepBroken s r j) (stepDone s r j)
+abbrev act : Store → ℕ → ℕ → ℕ → Outcome
+act s r j n =
+    cond (anyBelow (s .counts .keys) (stepMoved s r j n)) (stepBroken s r j n) (stepDone s r j n)
 
-step-rule : (r j : ℕ) (s : Store) → ruleOf (step r j) s ≡ unless (stepCause s r j) (act s r j)
+-- The call steps on branch 0.
+step-rule : (r j : ℕ) (s : Store)
+    → ruleOf (step r j) s ≡ unless (stepCause s r j 0) (act s r j 0)
 unfolding ruleOf stepRule
 step-rule r j s = refl
 
-pub step-refused : (l : List ℕ) (r j n : ℕ) → So (inForm l) → n ≡ stepCause (storeOf l) r j
+pub step-refused : (l : List ℕ) (r j n : ℕ) → So (inForm l) → n ≡ stepCause (storeOf l) r j 0
     → n ≢ 0 → Ends (step r j) l (2 ∷ n ∷ []) l
 step-refused l r j n F e h =
     let s = storeOf l in
-    let rule : ruleOf (step r j) s ≡ unless n (act s r j) = rw e (step-rule r j s) in
-    ends-refused (step r j) l n (act s r j) F rule h
+    let rule : ruleOf (step r j) s ≡ unless n (act s r j 0) = rw e (step-rule r j s) in
+    ends-refused (step r j) l n (act s r j 0) F rule h
 
 -- ---- by what was found
 
 module _ (l : List ℕ) (z : Counts) (r j : ℕ) (v : Visit) (t : Trial)
-    (F : Finds l z r j v t) where
+    (F : Finds l z r j 0 v t) where
   abbrev s : Store
   s = storeOf l
 
   counts : s .counts ≡ z
-  counts = found-counts l z r j v t F
+  counts = found-counts l z r j 0 v t F
 
   -- C's keys that the run has read.
-  moved : stepMoved s r j ≡ (λ k. stepPull s r j k && testBit (v .read) k)
+  moved : stepMoved s r j 0 ≡ (λ k. stepPull s r j 0 k && testBit (v .read) k)
   unfolding stepMoved
-  moved = rw (found-read l z r j v t F)
+  moved = rw (found-read l z r j 0 v t F)
 
   pub step-broken : (m : List ℕ) → bitAnd (t .pulled) (v .read) ≢ 0
       → m ≡ set l (runAt z r) brokenState
       → Ends (step r j) l (1 ∷ bitAnd (t .pulled) (v .read) ∷ []) m
   unfolding answer leaves stepBroken
   step-broken m h e =
-      let p = found-pulled l z r j v t F in
+      let p = found-pulled l z r j 0 v t F in
       let K = s .counts .keys in
-      let some = moved-some K (t .pulled) (v .read) (stepPull s r j) p h in
-      let rule : ruleOf (step r j) s ≡ unless (stepCause s r j) (stepBroken s r j) =
+      let some = moved-some K (t .pulled) (v .read) (stepPull s r j 0) p h in
+      let rule : ruleOf (step r j) s ≡ unless (stepCause s r j 0) (stepBroken s r j 0) =
       step-rule r j s ∙ rw (moved, some) in
-      let mask : bitAnd (t .pulled) (v .read) ≡ maskBelow (s .counts .keys) (stepMoved s r j) =
-      rw moved (moved-mask K (t .pulled) (v .read) (stepPull s r j) p) in
+      let mask : bitAnd (t .pulled) (v .read) ≡ maskBelow (s .counts .keys) (stepMoved s r j 0) =
+      rw moved (moved-mask K (t .pulled) (v .read) (stepPull s r j 0) p) in
       let put : set (written s l) (runAt z r) brokenState
       ≡ written (withRun s r (withState (s .run r) brokenState)) l =
       rw (← counts)
-      (put-state s l r brokenState (rw counts (found-run l z r j v t F .0 .run))) in
-      ends-done (step r j) l (stepCause s r j) (stepBroken s r j) (F .form .form) rule (F .free) _
-      m (ap (λ (n : ℕ). 1 ∷ n ∷ []) mask)
+      (put-state s l r brokenState (rw counts (found-run l z r j 0 v t F .0 .run))) in
+      ends-done (step r j) l (stepCause s r j 0) (stepBroken s r j 0) (F .form .form) rule
+      (F .free) _ m (ap (λ (n : ℕ). 1 ∷ n ∷ []) mask)
       (e ∙ ap (λ (m : List ℕ). set m (runAt z r) brokenState) (sym (form-again l z (F .form)))
       ∙ put)
 
@@ -87,34 +90,34 @@ module _ (l : List ℕ) (z : Counts) (r j : ℕ) (v : Visit) (t : Trial)
   divided : 0 ∷ without (v .reads) (t .pulled)
       ∷ without (bitAnd (v .reads) (t .pulled)) (t .taken)
       ∷ bitAnd (bitAnd (v .reads) (t .pulled)) (t .taken) ∷ []
-      ≡ answer (stepDone s r j)
+      ≡ answer (stepDone s r j 0)
   unfolding answer stepDone stepReads
   divided =
       let K = s .counts .keys in
-      let U = found-run l z r j v t F in
+      let U = found-run l z r j 0 v t F in
       let low : v .reads < 2 ^ K =
-      rw counts (visit-known l z r j (snapshotAt z r) (U .0) (U .1) v (F .visit) .reads) in
-      let C = stepPull s r j in
-      let T = stepFetch s r j in
-      let p = found-pulled l z r j v t F in
-      let q = found-taken l z r j v t F in
+      rw counts (visit-known l z r j 0 (snapshotAt z r) (U .0) (U .1) v (F .visit) .reads) in
+      let C = stepPull s r j 0 in
+      let T = stepFetch s r j 0 in
+      let p = found-pulled l z r j 0 v t F in
+      let q = found-taken l z r j 0 v t F in
       let a = from-snapshot K (v .reads) (t .pulled) (t .taken) C T low p q in
       let b = from-cache K (v .reads) (t .pulled) (t .taken) C T low p q in
       let c = from-master K (v .reads) (t .pulled) (t .taken) C T low p q in
-      rw (← found-reads l z r j v t F) (λ i. 0 ∷ a i ∷ b i ∷ c i ∷ [])
+      rw (← found-reads l z r j 0 v t F) (λ i. 0 ∷ a i ∷ b i ∷ c i ∷ [])
 
   pub step-done : (m : List ℕ) → bitAnd (t .pulled) (v .read) ≡ 0
-      → m ≡ leaves (stepDone s r j) l
+      → m ≡ leaves (stepDone s r j 0) l
       → Ends (step r j) l (0 ∷ without (v .reads) (t .pulled)
       ∷ without (bitAnd (v .reads) (t .pulled)) (t .taken)
       ∷ bitAnd (bitAnd (v .reads) (t .pulled)) (t .taken) ∷ []) m
   step-done m h e =
-      let p = found-pulled l z r j v t F in
-      let none = moved-none (s .counts .keys) (t .pulled) (v .read) (stepPull s r j) p h in
-      let rule : ruleOf (step r j) s ≡ unless (stepCause s r j) (stepDone s r j) =
+      let p = found-pulled l z r j 0 v t F in
+      let none = moved-none (s .counts .keys) (t .pulled) (v .read) (stepPull s r j 0) p h in
+      let rule : ruleOf (step r j) s ≡ unless (stepCause s r j 0) (stepDone s r j 0) =
       step-rule r j s ∙ rw (moved, none) in
-      ends-done (step r j) l (stepCause s r j) (stepDone s r j) (F .form .form) rule (F .free) _ m
-      divided e
+      ends-done (step r j) l (stepCause s r j 0) (stepDone s r j 0) (F .form .form) rule
+      (F .free) _ m divided e
 
 -- How many words the answer has.
 pub few-stepped : (r : Stepped) → length (steppedWords r) ≤ maxAnswer

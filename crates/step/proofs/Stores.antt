@@ -17,7 +17,7 @@ use Rattle.sizes.specs.Runs.{doneOffset, readOffset}
 use Rattle.model.specs.Algebra.{Place}
 use Rattle.model.specs.Version.{Version, merge, versions}
 use Rattle.model.specs.Sets.{fetchSet, fetched, pulled}
-use Rattle.model.specs.Store.{Run, Site, Store, siteWith, withSites, withCache, withRun, withSnapshot, withJobDone}
+use Rattle.model.specs.Store.{branchOf, Run, Site, Store, siteWith, withSites, withCache, withRun, withSnapshot, withJobDone}
 use Rattle.model.specs.Step.{stepBranch, stepSite, stepStart, stepFetch, stepCache, stepPull, stepSnapshot, stepDone}
 use Rattle.layout.specs.Reading.{readPlace, countsIn, storeOf}
 use Rattle.layout.specs.Stored.{putPlace}
@@ -76,30 +76,30 @@ step-stored l z r o p q x y H h =
 -- ---- by what was found
 
 -- The store with the cache that has taken T, and a true mark.
-abbrev pub shelved : Store → ℕ → ℕ → Store
-shelved s r j = withCache s (stepSite s r j) (stepCache s r j)
+abbrev pub shelved : Store → ℕ → ℕ → ℕ → Store
+shelved s r j n = withCache s (stepSite s r j n) (stepCache s r j n)
 
-module _ (l : List ℕ) (z : Counts) (r j : ℕ) (v : Visit) (t : Trial)
-    (F : Finds l z r j v t) where
+module _ (l : List ℕ) (z : Counts) (r j n : ℕ) (v : Visit) (t : Trial)
+    (F : Finds l z r j n v t) where
   abbrev s : Store
   s = storeOf l
 
   used : UsedRun l z r × (j < s .run r .jobs)
-  used = found-run l z r j v t F
+  used = found-run l z r j n v t F
 
   counts : s .counts ≡ z
-  counts = found-counts l z r j v t F
+  counts = found-counts l z r j n v t F
 
-  site-low : stepSite s r j < z .sites
-  site-low = found-site l z r j v t F
+  site-low : stepSite s r j n < z .sites
+  site-low = found-site l z r j n v t F
 
   -- ---- where the places lie
 
-  site-at : v .cache ≡ siteAt z (stepSite s r j)
-  site-at = found-cache-at l z r j v t F
+  site-at : v .cache ≡ siteAt z (stepSite s r j n)
+  site-at = found-cache-at l z r j n v t F
 
   snapshot-at : v .snapshot ≡ snapshotAt z r
-  snapshot-at = found-snapshot-at l z r j v t F
+  snapshot-at = found-snapshot-at l z r j n v t F
 
   pub merge-areas : Areas (length l) z (v .snapshot) (v .cache)
   merge-areas =
@@ -109,104 +109,104 @@ module _ (l : List ℕ) (z : Counts) (r j : ℕ) (v : Visit) (t : Trial)
 
   -- ---- the cache
 
-  fits : (FitPlace z (s .master)) × (FitPlace z (s .site (stepSite s r j) .cache))
+  fits : (FitPlace z (s .master)) × (FitPlace z (s .site (stepSite s r j n) .cache))
   fits =
       let P = place-laws z .fits l in (
-        rw (found-master l z r j v t F) (P (v .master)),
-        rw (found-cache l z r j v t F) (P (v .cache)),
+        rw (found-master l z r j n v t F) (P (v .master)),
+        rw (found-cache l z r j n v t F) (P (v .cache)),
       )
 
   -- The cache with the keys of T.
-  taken-as : choice (testBit (t .taken)) (s .master) (s .site (stepSite s r j) .cache)
-      ≡ stepCache s r j
+  taken-as : choice (testBit (t .taken)) (s .master) (s .site (stepSite s r j n) .cache)
+      ≡ stepCache s r j n
   unfolding stepCache stepFetch
   taken-as =
-      let start = stepStart s r j in
-      let old = s .site (stepSite s r j) .cache in
+      let start = stepStart s r j n in
+      let old = s .site (stepSite s r j n) .cache in
       let mask : t .taken
       ≡ maskBelow (z .keys) (fetchSet (versions (z .writers)) (z .keys) (s .master) old start) =
-      found-taken l z r j v t F
+      found-taken l z r j n v t F
       ∙ ap (λ (y : Counts). maskBelow (y .keys) (fetchSet (versions (y .writers)) (y .keys)
       (s .master) old start)) counts in
       taken-cache z (s .master) old start (t .taken) mask (fits .0) (fits .1)
       ∙ ap (λ (y : Counts). fetched (versions (y .writers)) (y .keys) (s .master) old start)
       (sym counts)
 
-  cache-fits : FitPlace z (stepCache s r j)
+  cache-fits : FitPlace z (stepCache s r j n)
   cache-fits = rw (← taken-as) (fit-choice z (testBit (t .taken)) _ _ (fits .0) (fits .1))
 
   pub site-taken : (m : List ℕ)
       → m ≡ written (withCache s (v .site)
       (choice (testBit (t .taken)) (s .master) (s .site (v .site) .cache))) l
-      → m ≡ written (shelved s r j) l
+      → m ≡ written (shelved s r j n) l
   site-taken m e =
-      let o = stepSite s r j in
+      let o = stepSite s r j n in
       let at-site : m ≡ written (withCache s o
       (choice (testBit (t .taken)) (s .master) (s .site o .cache))) l =
-      rw (← found-site-at l z r j v t F) e in
+      rw (← found-site-at l z r j n v t F) e in
       at-site ∙ ap (λ (p : Place Version). written (withCache s o p) l) taken-as
 
   -- ---- the snapshot, on the buffer with that cache
 
-  module _ (m : List ℕ) (e : m ≡ written (shelved s r j) l) where
-    store-there : storeOf m ≡ shelved s r j
+  module _ (m : List ℕ) (e : m ≡ written (shelved s r j n) l) where
+    store-there : storeOf m ≡ shelved s r j n
     store-there =
-        let o = stepSite s r j in
-        let p = stepCache s r j in
-        rw e (store-back (shelved s r j) l (fit-cache s (form-fine l (F .form .form) .fits) o p
+        let o = stepSite s r j n in
+        let p = stepCache s r j n in
+        rw e (store-back (shelved s r j n) l (fit-cache s (form-fine l (F .form .form) .fits) o p
         (subst (λ (y : Counts). o < y .sites) (sym counts) site-low)
         (subst (λ (y : Counts). FitPlace y p) (sym counts) cache-fits)))
 
     counts-there : z ≡ countsIn m
     unfolding withCache withSites
-    counts-there = sym counts ∙ rw e (sym (counts-back (shelved s r j) l))
+    counts-there = sym counts ∙ rw e (sym (counts-back (shelved s r j n) l))
 
-    cache-back : readPlace z m (v .cache) ≡ stepCache s r j
+    cache-back : readPlace z m (v .cache) ≡ stepCache s r j n
     unfolding withCache withSites siteWith
     cache-back =
-        let o = stepSite s r j in
+        let o = stepSite s r j n in
         rw site-at (sym (cache-in m z counts-there o site-low)
         ∙ ap (λ (t : Store). t .site o .cache) store-there
         ∙ ap (λ (x : Site). x .cache) (putAt-same (s .site) o _))
 
-    snapshot-back : readPlace z m (v .snapshot) ≡ stepBranch s r j .snapshot
+    snapshot-back : readPlace z m (v .snapshot) ≡ stepBranch s r j n .snapshot
     unfolding withCache withSites
     snapshot-back =
         rw snapshot-at (sym (snapshot-in m z counts-there r (used .0 .run))
-        ∙ ap (λ (t : Store). t .run r .branch .snapshot) store-there)
+        ∙ ap (λ (t : Store). branchOf n (t .run r) .snapshot) store-there)
 
     pub merged : putPlace z m (v .snapshot) (choice (testBit (t .pulled))
         (λ k. merge (z .writers) k (readPlace z m (v .snapshot) k) (readPlace z m (v .cache) k))
         (readPlace z m (v .snapshot)))
-        ≡ putPlace z m (v .snapshot) (stepSnapshot s r j)
+        ≡ putPlace z m (v .snapshot) (stepSnapshot s r j n)
     unfolding stepSnapshot pulled stepPull
     merged =
-        let old = stepBranch s r j .snapshot in
+        let old = stepBranch s r j n .snapshot in
         let new : Counts → Place Version =
-        λ y k. merge (y .writers) k (old k) (stepCache s r j k) in
+        λ y k. merge (y .writers) k (old k) (stepCache s r j n k) in
         rw (snapshot-back, cache-back)
         (ap (λ (y : Counts). putPlace z m (v .snapshot) (choice (testBit (t .pulled)) (new y) old))
         (sym counts)
-        ∙ chosen z m (v .snapshot) (t .pulled) (stepPull s r j) (new (s .counts)) old
-        (found-pulled l z r j v t F
-        ∙ ap (λ (y : Counts). maskBelow (y .keys) (stepPull s r j)) counts))
+        ∙ chosen z m (v .snapshot) (t .pulled) (stepPull s r j n) (new (s .counts)) old
+        (found-pulled l z r j n v t F
+        ∙ ap (λ (y : Counts). maskBelow (y .keys) (stepPull s r j n)) counts))
 
   -- ---- all that is stored
 
   -- at: where the run begins.
   pub step-left : (at : ℕ) → at ≡ runAt z r
-      → set (set (putPlace z (written (shelved s r j) l) (v .snapshot)
-      (stepSnapshot s r j)) (at + doneOffset) (withBit (getD l (at + doneOffset) 0) j))
+      → set (set (putPlace z (written (shelved s r j n) l) (v .snapshot)
+      (stepSnapshot s r j n)) (at + doneOffset) (withBit (getD l (at + doneOffset) 0) j))
       (at + readOffset) (bitOr (v .read) (v .reads))
-      ≡ leaves (stepDone s r j) l
+      ≡ leaves (stepDone s r j n) l
   unfolding leaves stepDone
   step-left at e =
       rw (
         e,
         done-word l z r (used .0),
-        found-read l z r j v t F,
-        found-reads l z r j v t F,
+        found-read l z r j n v t F,
+        found-reads l z r j n v t F,
         snapshot-at,
       )
-      (step-stored l z r (stepSite s r j) (stepCache s r j) (stepSnapshot s r j) _ _ (F .form)
-      (used .0 .run))
+      (step-stored l z r (stepSite s r j n) (stepCache s r j n) (stepSnapshot s r j n) _ _
+      (F .form) (used .0 .run))

@@ -58,7 +58,7 @@ pub fn step(words: &mut [u32], run: u32, job: u32) -> Stepped
 
 // Breaks the run or finishes the job, by what the trial found.
 fn act(words: &mut [u32], z: Counts, r: usize, job: u32, visit: Visit, trial: Trial) -> Stepped
-    requires { ⌜ Finds (now words) z r job visit trial ⌝ }
+    requires { ⌜ Finds (now words) z r job 0 visit trial ⌝ }
     ensures answers { λ a. ⌜ steppedWords a
         ≡ answer (callOn (on (step r job)) (now (words .entry))) ⌝ }
     ensures leaves { λ _. ⌜ now (words .exit)
@@ -77,9 +77,9 @@ fn act(words: &mut [u32], z: Counts, r: usize, job: u32, visit: Visit, trial: Tr
 // The cache takes T, and its mark is set; the snapshot takes C; the job is done, and its reads are
 // read.
 fn finish(words: &mut [u32], z: Counts, r: usize, job: u32, visit: Visit, trial: Trial)
-    requires { ⌜ Finds (now words) z r job visit trial ⌝ }
+    requires { ⌜ Finds (now words) z r job 0 visit trial ⌝ }
     ensures { λ _. ⌜ now (words .exit)
-        ≡ leaves (stepDone (storeOf (now (words .entry))) r job) (now (words .entry)) ⌝ }
+        ≡ leaves (stepDone (storeOf (now (words .entry))) r job 0) (now (words .entry)) ⌝ }
 {
     let at = z.run_at(r);
     let jobs_done = with_item(words[at + RunOffset::DONE], job);

@@ -31,37 +31,37 @@ trial : Trial → Tried → Trial
 trial u (Tried.Refused n) = u
 trial u (Tried.Found v t) = t
 
-module _ (s : Store) (r j snapshot : ℕ) where
-  pub tried-no : (n : ℕ) → stepCause s r j ≡ n → n ≢ 0
-      → Tried.Refused n ≡ triedOf s r j snapshot
+module _ (s : Store) (r j n snapshot : ℕ) where
+  pub tried-no : (m : ℕ) → stepCause s r j n ≡ m → m ≢ 0
+      → Tried.Refused m ≡ triedOf s r j n snapshot
   unfolding triedOf
-  tried-no n e h = rw (e, ne-eqb n 0 h)
+  tried-no m e h = rw (e, ne-eqb m 0 h)
 
-  pub tried-yes : (v : Visit) (t : Trial) → stepCause s r j ≡ 0 → v ≡ visitOf s r j snapshot
-      → t ≡ trialOf s r j → Tried.Found v t ≡ triedOf s r j snapshot
+  pub tried-yes : (v : Visit) (t : Trial) → stepCause s r j n ≡ 0 → v ≡ visitOf s r j n snapshot
+      → t ≡ trialOf s r j n → Tried.Found v t ≡ triedOf s r j n snapshot
   unfolding triedOf
   tried-yes v t e f g = rw e (λ i. Tried.Found (f i) (g i))
 
-  pub refused-as : (n : ℕ) → Tried.Refused n ≡ triedOf s r j snapshot
-      → (n ≡ stepCause s r j) × (n ≢ 0)
+  pub refused-as : (m : ℕ) → Tried.Refused m ≡ triedOf s r j n snapshot
+      → (m ≡ stepCause s r j n) × (m ≢ 0)
   unfolding triedOf isFound number
-  refused-as n e =
-      let c = stepCause s r j in
+  refused-as m e =
+      let c = stepCause s r j n in
       test (eqb c 0) (λ y.
-      let same : Tried.Refused n ≡ Tried.Found (visitOf s r j snapshot) (trialOf s r j) =
+      let same : Tried.Refused m ≡ Tried.Found (visitOf s r j n snapshot) (trialOf s r j n) =
       rw y at e in
       clash {b = true} refl (sym (ap isFound same))) (λ y.
-      let equal : Tried.Refused n ≡ Tried.Refused c = rw y at e in
-      let same : n ≡ c = ap number equal in
+      let equal : Tried.Refused m ≡ Tried.Refused c = rw y at e in
+      let same : m ≡ c = ap number equal in
       (same, λ z. eqb-ne c 0 y (sym same ∙ z)))
 
-  pub found-as : (v : Visit) (t : Trial) → Tried.Found v t ≡ triedOf s r j snapshot
-      → (stepCause s r j ≡ 0) × (v ≡ visitOf s r j snapshot) × (t ≡ trialOf s r j)
+  pub found-as : (v : Visit) (t : Trial) → Tried.Found v t ≡ triedOf s r j n snapshot
+      → (stepCause s r j n ≡ 0) × (v ≡ visitOf s r j n snapshot) × (t ≡ trialOf s r j n)
   unfolding triedOf isFound visit trial
   found-as v t e =
-      let c = stepCause s r j in
+      let c = stepCause s r j n in
       test (eqb c 0) (λ y.
-      let same : Tried.Found v t ≡ Tried.Found (visitOf s r j snapshot) (trialOf s r j) =
+      let same : Tried.Found v t ≡ Tried.Found (visitOf s r j n snapshot) (trialOf s r j n) =
       rw y at e in
       (eqb-eq c 0 y, ap (visit v) same, ap (trial t) same))
       (λ y.

@@ -17,7 +17,7 @@ use Rattle.masks.proofs.Sets.{mask-lt, set-none, mask-is, item-of}
 use Rattle.sizes.specs.declared.Counts.{Counts}
 use Rattle.sizes.specs.Bounds.{masterAt, siteAt, snapshotAt}
 use Rattle.model.specs.Store.{Store}
-use Rattle.model.specs.Step.{stepSite, stepFetch, stepPull}
+use Rattle.model.specs.Step.{stepBranch, stepSite, stepFetch, stepPull}
 use Rattle.model.proofs.Steps.{step-free}
 use Rattle.layout.specs.Reading.{readPlace, storeOf}
 use Rattle.layout.proofs.Readings.{snapshot-in}
@@ -31,8 +31,8 @@ use Rattle.trial.proofs.Trials.{site-at, master-at, cache-at, old-maste
 
 -- ---- the visit and the trial
 
-module _ (l : List ℕ) (z : Counts) (r j : ℕ) (v : Visit) (t : Trial)
-    (F : Finds l z r j v t) where
+module _ (l : List ℕ) (z : Counts) (r j n : ℕ) (v : Visit) (t : Trial)
+    (F : Finds l z r j n v t) where
   abbrev s : Store
   s = storeOf l
 
@@ -41,22 +41,22 @@ module _ (l : List ℕ) (z : Counts) (r j : ℕ) (v : Visit) (t : Trial)
 
   pub found-run : UsedRun l z r × (j < s .run r .jobs)
   found-run =
-      let f = step-free s r j (F .free) in
+      let f = step-free s r j n (F .free) in
       job-ready l z r j (F .form) (rw (← found-counts) (f .0)) (f .1)
 
-  pub found-site : stepSite s r j < z .sites
+  pub found-site : stepSite s r j n < z .sites
   unfolding stepSite
   found-site = job-known l z r (found-run .0) j (found-run .1) .site
 
-  pub found-taken : t .taken ≡ maskBelow (s .counts .keys) (stepFetch s r j)
+  pub found-taken : t .taken ≡ maskBelow (s .counts .keys) (stepFetch s r j n)
   unfolding trialOf
   found-taken = ap (λ (t : Trial). t .taken) (F .trial)
 
-  pub found-pulled : t .pulled ≡ maskBelow (s .counts .keys) (stepPull s r j)
+  pub found-pulled : t .pulled ≡ maskBelow (s .counts .keys) (stepPull s r j n)
   unfolding trialOf
   found-pulled = ap (λ (t : Trial). t .pulled) (F .trial)
 
-  pub found-read : v .read ≡ s .run r .branch .read
+  pub found-read : v .read ≡ stepBranch s r j n .read
   unfolding visitOf
   found-read = ap (λ (v : Visit). v .read) (F .visit)
 
@@ -68,22 +68,22 @@ module _ (l : List ℕ) (z : Counts) (r j : ℕ) (v : Visit) (t : Trial)
   unfolding visitOf
   found-snapshot-at = ap (λ (v : Visit). v .snapshot) (F .visit)
 
-  pub found-site-at : v .site ≡ stepSite s r j
-  found-site-at = site-at l z r j (snapshotAt z r) (found-run .0) (found-run .1) v (F .visit)
+  pub found-site-at : v .site ≡ stepSite s r j n
+  found-site-at = site-at l z r j n (snapshotAt z r) (found-run .0) (found-run .1) v (F .visit)
 
-  pub found-cache-at : v .cache ≡ siteAt z (stepSite s r j)
-  found-cache-at = cache-at l z r j (snapshotAt z r) (found-run .0) (found-run .1) v (F .visit)
+  pub found-cache-at : v .cache ≡ siteAt z (stepSite s r j n)
+  found-cache-at = cache-at l z r j n (snapshotAt z r) (found-run .0) (found-run .1) v (F .visit)
 
   pub found-master-at : v .master ≡ masterAt z
-  found-master-at = master-at l z r j (snapshotAt z r) (found-run .0) (found-run .1) v (F .visit)
+  found-master-at = master-at l z r j n (snapshotAt z r) (found-run .0) (found-run .1) v (F .visit)
 
   pub found-master : s .master ≡ readPlace z l (v .master)
-  found-master = old-master l z r j (snapshotAt z r) (found-run .0) (found-run .1) v (F .visit)
+  found-master = old-master l z r j n (snapshotAt z r) (found-run .0) (found-run .1) v (F .visit)
 
-  pub found-cache : s .site (stepSite s r j) .cache ≡ readPlace z l (v .cache)
-  found-cache = old-cache l z r j (snapshotAt z r) (found-run .0) (found-run .1) v (F .visit)
+  pub found-cache : s .site (stepSite s r j n) .cache ≡ readPlace z l (v .cache)
+  found-cache = old-cache l z r j n (snapshotAt z r) (found-run .0) (found-run .1) v (F .visit)
 
-  pub found-snapshot : s .run r .branch .snapshot ≡ readPlace z l (v .snapshot)
+  pub found-snapshot : stepBranch s r j n .snapshot ≡ readPlace z l (v .snapshot)
   found-snapshot = rw found-snapshot-at (snapshot-in l z (F .form .counts) r (found-run .0 .run))
 
 -- ---- C's keys in the read mask m

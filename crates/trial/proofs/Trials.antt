@@ -23,7 +23,7 @@ use Rattle.model.specs.Algebra.{Algebra, lacking}
 use Rattle.model.specs.Version.{Version, versions}
 use Rattle.model.specs.Sets.{drawSet, fetchSet, fetched, unfetchable}
 use Rattle.model.specs.Tail.{barred}
-use Rattle.model.specs.Store.{Run, Store}
+use Rattle.model.specs.Store.{branchOf, Run, Store}
 use Rattle.model.specs.Allowance.{over}
 use Rattle.model.specs.Outcome.{refuse}
 use Rattle.model.specs.Step.{readStart, jobCause, stepCause, stepSite, stepReads, stepStart, stepFetch, stepCache, stepPlan, stepPull, stepBarred}
@@ -50,8 +50,8 @@ use Rattle.trial.proofs.Masks.{fetchable, taken-mask, pulled-mask}
 -- ---- the visit of a job of a run that isn't free
 
 -- m, c, p, x: what the code finds.
-pub visit-is : (l : List ℕ) (z : Counts) (r j snapshot read : ℕ) → FormWith l z
-    → BranchAt l z r snapshot read → let a = storeOf l .run r in
+pub visit-is : (l : List ℕ) (z : Counts) (r j n snapshot read : ℕ) → FormWith l z
+    → BranchAt l z r n snapshot read → let a = storeOf l .run r in
     (o m c p : ℕ) (x : PlannedJob) → o ≡ x .site → m ≡ masterAt z → c ≡ siteAt z o
     → p ≡ readsOf (a .jobs) (a .job) everyJob → x ≡ plannedJob (a .job j)
     → _≡_ {A = Visit} (record {
@@ -63,9 +63,9 @@ pub visit-is : (l : List ℕ) (z : Counts) (r j snapshot read : ℕ) → FormWit
       reads = x .reads;
       read = getD l read 0;
     })
-    (visitOf (storeOf l) r j snapshot)
+    (visitOf (storeOf l) r j n snapshot)
 unfolding visitOf stepSite
-visit-is l z r j snapshot read H L o m c p x b d e f g =
+visit-is l z r j n snapshot read H L o m c p x b d e f g =
     let site = b ∙ ap (λ (x : PlannedJob). x .site) g in
     rw (form-counts l z H, L .mask) (λ i. record {
       site = site i;
@@ -83,17 +83,17 @@ pub record VisitKnown (l : List ℕ) (z : Counts) (v : Visit) : Type 0 where
   pub cache : Area (length l) z (v .cache)
   pub reads : v .reads < 2 ^ z .keys
 
-module _ (l : List ℕ) (z : Counts) (r j snapshot : ℕ) (U : UsedRun l z r)
+module _ (l : List ℕ) (z : Counts) (r j n snapshot : ℕ) (U : UsedRun l z r)
     (h : j < storeOf l .run r .jobs) (v : Visit)
-    (seen : v ≡ visitOf (storeOf l) r j snapshot) where
+    (seen : v ≡ visitOf (storeOf l) r j n snapshot) where
   abbrev s : Store
   s = storeOf l
 
-  site-low : stepSite s r j < z .sites
+  site-low : stepSite s r j n < z .sites
   unfolding stepSite
   site-low = job-known l z r U j h .site
 
-  pub site-at : v .site ≡ stepSite s r j
+  pub site-at : v .site ≡ stepSite s r j n
   unfolding visitOf
   site-at = ap (λ (v : Visit). v .site) seen
 
@@ -101,23 +101,23 @@ module _ (l : List ℕ) (z : Counts) (r j snapshot : ℕ) (U : UsedRun l z r)
   unfolding visitOf
   master-at = ap (λ (v : Visit). v .master) seen ∙ ap masterAt (form-counts l z (U .form))
 
-  pub cache-at : v .cache ≡ siteAt z (stepSite s r j)
+  pub cache-at : v .cache ≡ siteAt z (stepSite s r j n)
   unfolding visitOf
   cache-at =
       ap (λ (v : Visit). v .cache) seen
-      ∙ ap (λ (z : Counts). siteAt z (stepSite s r j)) (form-counts l z (U .form))
+      ∙ ap (λ (z : Counts). siteAt z (stepSite s r j n)) (form-counts l z (U .form))
 
   pub old-master : s .master ≡ readPlace z l (v .master)
   old-master = rw master-at (master-in l z (U .form .counts))
 
-  pub old-cache : s .site (stepSite s r j) .cache ≡ readPlace z l (v .cache)
-  old-cache = rw cache-at (cache-in l z (U .form .counts) (stepSite s r j) site-low)
+  pub old-cache : s .site (stepSite s r j n) .cache ≡ readPlace z l (v .cache)
+  old-cache = rw cache-at (cache-in l z (U .form .counts) (stepSite s r j n) site-low)
 
-  pub old-reads : stepReads s r j ≡ testBit (v .reads)
+  pub old-reads : stepReads s r j n ≡ testBit (v .reads)
   unfolding stepReads visitOf
   old-reads = rw seen
 
-  pub old-plan : stepPlan s r j ≡ testBit (v .plan)
+  pub old-plan : stepPlan s r j n ≡ testBit (v .plan)
   unfolding stepPlan visitOf
   old-plan = rw seen (sym (test-plan _ _ (jobs-known l z r U .plan .jobs .high)))
 
@@ -133,7 +133,7 @@ module _ (l : List ℕ) (z : Counts) (r j snapshot : ℕ) (U : UsedRun l z r)
       }
 
   -- wanted, start: what the code finds one after the other.
-  module _ (read : ℕ) (L : BranchAt l z r snapshot read) (wanted start : ℕ)
+  module _ (read : ℕ) (L : BranchAt l z r n snapshot read) (wanted start : ℕ)
       (w : wanted ≡ maskBelow (z .keys) (lacking (versions (z .writers)) (z .keys)
       (readPlace z l snapshot) (testBit (v .reads))))
       (e : start ≡ maskBelow (z .keys) (lacking (versions (z .writers)) (z .keys)
@@ -156,7 +156,7 @@ module _ (l : List ℕ) (z : Counts) (r j snapshot : ℕ) (U : UsedRun l z r)
 
     -- What the site must have the right to: the reads, and T.
     asked-key : (t : ℕ) (T : Items) → t ≡ maskBelow (z .keys) T → (k : ℕ) → k < z .keys
-        → testBit (bitOr (v .reads) t) k ≡ stepReads s r j k || T k
+        → testBit (bitOr (v .reads) t) k ≡ stepReads s r j n k || T k
     asked-key t T e k i = rw old-reads
         (test-or (v .reads) t k
         ∙ ap (λ (b : Bool). testBit (v .reads) k || b) (item-of (z .keys) t T e k i))
@@ -164,16 +164,16 @@ module _ (l : List ℕ) (z : Counts) (r j snapshot : ℕ) (U : UsedRun l z r)
     pub cause-last : (t : ℕ) → jobCause (s .run r) j 0 ≡ 0
         → t ≡ maskBelow (z .keys) (fetchSet alg (z .keys) (s .master) (s .site (v .site) .cache)
         (testBit start))
-        → stepCause s r j ≡ takesCause z s (v .site) (bitOr (v .reads) t) t
+        → stepCause s r j n ≡ takesCause z s (v .site) (bitOr (v .reads) t) t
     unfolding stepStart stepFetch stepCache stepBarred
     cause-last t free f =
-        let o = stepSite s r j in
-        let S = stepStart s r j in
+        let o = stepSite s r j n in
+        let S = stepStart s r j n in
         let T : Counts → Items = λ y.
         fetchSet (versions (y .writers)) (y .keys) (s .master) (s .site o .cache) S in
         let rows : Counts → ℕ = λ y.
         let alg = versions (y .writers) in
-        refuse (barred (y .keys) (s .tail .mayHold o) (λ k. stepReads s r j k || T y k)) 13
+        refuse (barred (y .keys) (s .tail .mayHold o) (λ k. stepReads s r j n k || T y k)) 13
         (refuse (unfetchable alg (y .keys) (s .master) S) 7
         (refuse (over y (s .site o) (fetched alg (y .keys) (s .master) (s .site o .cache) S)) 12
         0)) in
@@ -181,10 +181,10 @@ module _ (l : List ℕ) (z : Counts) (r j snapshot : ℕ) (U : UsedRun l z r)
         = rw (old-reads, old-cache, L .place, old-master, form-counts l z (U .form))
         (taken-mask alg (z .keys) (readPlace z l (v .master)) _ _ _ wanted start w e t
         (taken-read t f)) in
-        step-below s r j (rw (form-counts l z (U .form)) (U .run))
-        ∙ ap (λ (n : ℕ). cond (eqb n 0) (rows (s .counts)) n) free
+        step-below s r j n (rw (form-counts l z (U .form)) (U .run))
+        ∙ ap (λ (c : ℕ). cond (eqb c 0) (rows (s .counts)) c) free
         ∙ ap rows (form-counts l z (U .form))
-        ∙ sym (taken-cause z s o S (λ k. stepReads s r j k || T z k) (bitOr (v .reads) t) t
+        ∙ sym (taken-cause z s o S (λ k. stepReads s r j n k || T z k) (bitOr (v .reads) t) t
         (asked-key t (T z) mask) mask)
         ∙ ap (λ (o : ℕ). takesCause z s o (bitOr (v .reads) t) t) (sym site-at)
 
@@ -195,13 +195,13 @@ module _ (l : List ℕ) (z : Counts) (r j snapshot : ℕ) (U : UsedRun l z r)
         (readPlace z l snapshot)
         (viewed z l (record { mask = t; first = v .master; second = v .cache }))
         (testBit wanted))
-        → _≡_ {A = Trial} (record { taken = t; pulled = p }) (trialOf s r j)
+        → _≡_ {A = Trial} (record { taken = t; pulled = p }) (trialOf s r j n)
     unfolding trialOf stepFetch stepPull stepCache stepStart viewed
     trial-found t p f g =
-        let taken : t ≡ maskBelow (s .counts .keys) (stepFetch s r j) =
+        let taken : t ≡ maskBelow (s .counts .keys) (stepFetch s r j n) =
         rw (old-reads, old-cache, L .place, old-master, form-counts l z (U .form))
         (taken-mask alg (z .keys) (readPlace z l (v .master)) _ _ _ wanted start w e t f) in
-        let pulled : p ≡ maskBelow (s .counts .keys) (stepPull s r j) =
+        let pulled : p ≡ maskBelow (s .counts .keys) (stepPull s r j n) =
         rw (old-reads, old-plan, old-cache, L .place, old-master, form-counts l z (U .form))
         (pulled-mask alg (z .keys) (readPlace z l (v .master)) _ _ _ wanted start w e t f
         (testBit (v .plan)) p g) in
@@ -209,15 +209,15 @@ module _ (l : List ℕ) (z : Counts) (r j snapshot : ℕ) (U : UsedRun l z r)
 
 -- ---- the run's own
 
-pub branch-own : (l : List ℕ) (z : Counts) (r : ℕ) → FormWith l z → r < z .runs
-    → BranchAt l z r (snapshotAt z r) (runAt z r + readOffset)
+pub branch-own : (l : List ℕ) (z : Counts) (r n : ℕ) → FormWith l z → r < z .runs
+    → BranchAt l z r n (snapshotAt z r) (runAt z r + readOffset)
 unfolding readRun
-branch-own l z r H h =
+branch-own l z r n H h =
     let S = form-area l z H in
     let K = run-known l z r H h in
     record {
       area = snapshot-area (length l) z (S .ranged) (S .fits) r h;
       place = snapshot-in l z (H .counts) r h;
       low = omega (arith, K .area .fits);
-      mask = ap (λ (a : Run). a .branch .read) (K .run);
+      mask = ap (λ (a : Run). branchOf n a .read) (K .run);
     }

@@ -1,6 +1,6 @@
 -- What a step would do, by the model's sets.
 -- visitOf: what it looks at. trialOf: T and C. triedOf: refused for its cause, or these.
--- BranchAt: where the snapshot and the read mask of a run stand. Finds: what was found.
+-- BranchAt: where the snapshot and the read mask of a branch stand. Finds: what was found.
 -- Assumes nothing.
 use mathlib.Core.Path.{_≡_}
 use mathlib.Core.Bool.{cond}
@@ -12,7 +12,7 @@ use Rattle.masks.specs.Mask.{maskBelow}
 use Rattle.sizes.specs.declared.Counts.{Counts}
 use Rattle.sizes.specs.Bounds.{masterAt, siteAt, snapshotAt}
 use Rattle.sizes.specs.Runs.{everyJob}
-use Rattle.model.specs.Store.{Store}
+use Rattle.model.specs.Store.{branchOf, Store}
 use Rattle.model.specs.Step.{stepBranch, stepSite, stepFetch, stepPull, stepCause}
 use Rattle.layout.specs.Reading.{readPlace, storeOf}
 use Rattle.version.specs.Places.{Area}
@@ -21,44 +21,45 @@ use Rattle.trial.specs.declared.Visit.{Visit}
 use Rattle.trial.specs.declared.Trial.{Trial}
 use Rattle.trial.specs.declared.Tried.{Tried}
 
-module _ (s : Store) (r j : ℕ) where
-  -- Site, master, cache and reads (R) of job j of run r, the plan's keys, and the snapshot at an
-  -- index.
+module _ (s : Store) (r j n : ℕ) where
+  -- Site, master, cache and reads (R) of job j of run r, the plan's keys, the snapshot at an
+  -- index, and what branch n has read.
   unfoldable pub visitOf : ℕ → Visit
   visitOf snapshot =
       let a = s .run r in
       record {
-        site = stepSite s r j;
+        site = stepSite s r j n;
         master = masterAt (s .counts);
-        cache = siteAt (s .counts) (stepSite s r j);
+        cache = siteAt (s .counts) (stepSite s r j n);
         snapshot = snapshot;
         plan = readsOf (a .jobs) (a .job) everyJob;
         reads = a .job j .reads;
-        read = stepBranch s r j .read;
+        read = stepBranch s r j n .read;
       }
 
   -- T and C.
   unfoldable pub trialOf : Trial
   trialOf =
       let K = s .counts .keys in
-      record { taken = maskBelow K (stepFetch s r j); pulled = maskBelow K (stepPull s r j) }
+      record { taken = maskBelow K (stepFetch s r j n); pulled = maskBelow K (stepPull s r j n) }
 
   -- The cause of step, or where there is none what it looks at and would do.
   unfoldable pub triedOf : ℕ → Tried
   triedOf snapshot =
-      cond (eqb (stepCause s r j) 0) (Tried.Found (visitOf snapshot) trialOf)
-      (Tried.Refused (stepCause s r j))
+      cond (eqb (stepCause s r j n) 0) (Tried.Found (visitOf snapshot) trialOf)
+      (Tried.Refused (stepCause s r j n))
 
--- The snapshot and the read mask of run r stand at two indices of the buffer.
-pub record BranchAt (l : List ℕ) (z : Counts) (r snapshot read : ℕ) : Type 0 where
+-- The snapshot and the read mask of branch n of run r stand at two indices of the buffer.
+pub record BranchAt (l : List ℕ) (z : Counts) (r n snapshot read : ℕ) : Type 0 where
   pub area : Area (length l) z snapshot
-  pub place : storeOf l .run r .branch .snapshot ≡ readPlace z l snapshot
+  pub place : branchOf n (storeOf l .run r) .snapshot ≡ readPlace z l snapshot
   pub low : read < length l
-  pub mask : storeOf l .run r .branch .read ≡ getD l read 0
+  pub mask : branchOf n (storeOf l .run r) .read ≡ getD l read 0
 
--- What a trial of job j of run r found: no cause, and what the step looks at and would do.
-pub record Finds (l : List ℕ) (z : Counts) (r j : ℕ) (v : Visit) (t : Trial) : Type 0 where
+-- What a trial of job j of run r on branch n found: no cause, and what the step looks at and would
+-- do.
+pub record Finds (l : List ℕ) (z : Counts) (r j n : ℕ) (v : Visit) (t : Trial) : Type 0 where
   pub form : FormWith l z
-  pub free : stepCause (storeOf l) r j ≡ 0
-  pub visit : v ≡ visitOf (storeOf l) r j (snapshotAt z r)
-  pub trial : t ≡ trialOf (storeOf l) r j
+  pub free : stepCause (storeOf l) r j n ≡ 0
+  pub visit : v ≡ visitOf (storeOf l) r j n (snapshotAt z r)
+  pub trial : t ≡ trialOf (storeOf l) r j n

@@ -46,10 +46,10 @@ pub enum Tried {
     Found(Visit, Trial),
 }
 
-// What a step of job j of run r would do, with the run's own snapshot and read mask.
+// What a step of job j of run r would do, on branch 0: with the run's own snapshot and read mask.
 pub fn try_job(words: &[u32], z: Counts, r: usize, j: usize) -> Tried
     requires { ⌜ FormWith (now words) z ⌝ }
-    ensures { λ t. ⌜ t ≡ triedOf (storeOf (now (words .entry))) r j (snapshotAt z r) ⌝ }
+    ensures { λ t. ⌜ t ≡ triedOf (storeOf (now (words .entry))) r j 0 (snapshotAt z r) ⌝ }
 {
     let runs = z.runs;
     if runs <= r {
@@ -65,8 +65,8 @@ pub fn try_job(words: &[u32], z: Counts, r: usize, j: usize) -> Tried
 // snapshot; C is found against the cache seen through T, as the fetch would leave it.
 pub fn try_at(words: &[u32], z: Counts, r: usize, j: usize, snapshot: usize, read: usize) -> Tried
     requires { ⌜ FormWith (now words) z × (r < z .runs) ⌝ }
-    requires { ⌜ BranchAt (now words) z r snapshot read ⌝ }
-    ensures { λ t. ⌜ t ≡ triedOf (storeOf (now (words .entry))) r j snapshot ⌝ }
+    requires { ⌜ BranchAt (now words) z r 0 snapshot read ⌝ }
+    ensures { λ t. ⌜ t ≡ triedOf (storeOf (now (words .entry))) r j 0 snapshot ⌝ }
 {
     let early = job_cause(words, z, r, j);
     if early != 0 {
@@ -92,8 +92,8 @@ pub fn try_at(words: &[u32], z: Counts, r: usize, j: usize, snapshot: usize, rea
 // What a step of job j of run r looks at.
 fn visit_of(words: &[u32], z: Counts, r: usize, j: usize, snapshot: usize, read: usize) -> Visit
     requires { ⌜ UsedRun (now words) z r × (j < storeOf (now words) .run r .jobs) ⌝ }
-    requires { ⌜ BranchAt (now words) z r snapshot read ⌝ }
-    ensures { λ v. ⌜ v ≡ visitOf (storeOf (now (words .entry))) r j snapshot ⌝ }
+    requires { ⌜ BranchAt (now words) z r 0 snapshot read ⌝ }
+    ensures { λ v. ⌜ v ≡ visitOf (storeOf (now (words .entry))) r j 0 snapshot ⌝ }
 {
     let job = job_of(words, z, r, j);
     let plan = plan_keys(words, z, r);

@@ -16,14 +16,15 @@ counts-requires c κs = form-long _ (c .before .pre)
 -- What the trial found.
 found : (c : tie.After-tried2) → let n = c .before .before .before in
     let a = n .before .before .args in
-    Finds (a .words .now) (n .counts .result) (a .run) (a .job) (c .tried2 .given .0 .0)
+    Finds (a .words .now) (n .counts .result) (a .run) (a .job) 0 (c .tried2 .given .0 .0)
     (c .tried2 .given .0 .1 .0)
 found c =
     let t = c .before .before in
     let n = t .before in
     let s = n .before .before in
     let a = s .args in
-    let f = found-as _ (a .run) (a .job) _ _ _ (sym (c .tried2 .given .1) ∙ t .try-job .ensures) in
+    let f = found-as _ (a .run) (a .job) 0 _ _ _
+    (sym (c .tried2 .given .1) ∙ t .try-job .ensures) in
     record {
       form = record { form = s .pre; counts = n .counts .ensures };
       free = f .0;
@@ -34,7 +35,7 @@ found c =
 judge-requires : tie.Need-judge-requires
 judge-requires c κs =
     let f = found (c .before) in
-    draws-found _ _ _ _ _ _ f
+    draws-found _ _ _ _ _ _ _ f
 
 returns : tie.Need-returns
 unfolding explainedWords foundWords Fits
@@ -44,7 +45,8 @@ returns c =
     let n = t .before in
     let s = n .before .before in
     let a = s .args in
-    let f = refused-as _ (a .run) (a .job) _ _ (sym (k .tried .given .1) ∙ t .try-job .ensures) in
+    let f = refused-as _ (a .run) (a .job) 0 _ _
+    (sym (k .tried .given .1) ∙ t .try-job .ensures) in
     rw (c .alone .ensures)
     (words-refused (a .words .now) (a .run) (a .job) _ (s .pre) (f .0) (f .1), tt)
 

@@ -33,7 +33,7 @@ use Rattle.model.proofs.Plans.{Valid, valid-out, Plan, plan-out, plan-in}
 use Rattle.layout.proofs.Follow.{Fine}
 use Rattle.layout.proofs.Kept.{Kept, kept-done, kept-broken, kept-unless, fetched-fits, fetched-formed}
 
-module _ (s : Store) (r j : ℕ) (F : Fine s) (A : Accepted s r j) where
+module _ (s : Store) (r j n : ℕ) (F : Fine s) (A : Accepted s r j n) where
   formed : Formed s
   formed = well-out s (F .formed)
 
@@ -43,7 +43,7 @@ module _ (s : Store) (r j : ℕ) (F : Fine s) (A : Accepted s r j) where
   pub valid : Valid (s .counts) j (s .run r .job j)
   valid = valid-out (s .counts) j (s .run r .job j) (was .jobs .valid j (A .job-in))
 
-  pub site : stepSite s r j < s .counts .sites
+  pub site : stepSite s r j n < s .counts .sites
   unfolding stepSite
   site = valid .site
 
@@ -52,79 +52,79 @@ module _ (s : Store) (r j : ℕ) (F : Fine s) (A : Accepted s r j) where
 
   -- ---- the cache
 
-  pub cache-fits : FitPlace (s .counts) (stepCache s r j)
+  pub cache-fits : FitPlace (s .counts) (stepCache s r j n)
   unfolding stepCache
   cache-fits =
-      fetched-fits (s .counts) (s .master) (s .site (stepSite s r j) .cache) (stepStart s r j)
-      (F .fits .master) (F .fits .site .each (stepSite s r j) site .cache)
+      fetched-fits (s .counts) (s .master) (s .site (stepSite s r j n) .cache) (stepStart s r j n)
+      (F .fits .master) (F .fits .site .each (stepSite s r j n) site .cache)
 
-  pub cache-formed : PlaceFormed (s .counts) (stepCache s r j)
+  pub cache-formed : PlaceFormed (s .counts) (stepCache s r j n)
   unfolding stepCache
   cache-formed =
-      fetched-formed (s .counts) (s .master) (s .site (stepSite s r j) .cache) (stepStart s r j)
-      (formed .master) (formed .cache (stepSite s r j) site)
+      fetched-formed (s .counts) (s .master) (s .site (stepSite s r j n) .cache)
+      (stepStart s r j n) (formed .master) (formed .cache (stepSite s r j n) site)
 
   -- T has no key that the site may not hold.
-  cache-unbarred : Unbarred (s .counts) (s .tail .mayHold (stepSite s r j)) (stepCache s r j)
+  cache-unbarred : Unbarred (s .counts) (s .tail .mayHold (stepSite s r j n)) (stepCache s r j n)
   unfolding stepCache stepBarred stepFetch
   cache-unbarred =
       let z = s .counts in
-      let o = stepSite s r j in
+      let o = stepSite s r j n in
       let right = s .tail .mayHold o in
-      unbarred-fetched (z .keys) right (z .writers) (s .site o .cache) (stepStart s r j)
+      unbarred-fetched (z .keys) right (z .writers) (s .site o .cache) (stepStart s r j n)
       (s .master)
       (formed .right o site)
-      (unbarred-within (z .keys) right (λ k. stepReads s r j k || stepFetch s r j k)
-      (stepFetch s r j) (λ k _ p. or-right (stepReads s r j k) p) (A .entitled))
+      (unbarred-within (z .keys) right (λ k. stepReads s r j n k || stepFetch s r j n k)
+      (stepFetch s r j n) (λ k _ p. or-right (stepReads s r j n k) p) (A .entitled))
 
   -- ---- the snapshot
 
-  pub snapshot-fits : FitPlace (s .counts) (stepSnapshot s r j)
+  pub snapshot-fits : FitPlace (s .counts) (stepSnapshot s r j n)
   unfolding stepSnapshot pulled
   snapshot-fits =
       let z = s .counts in
-      let old = stepBranch s r j .snapshot in
-      let both : Place Version = λ k. merge (z .writers) k (old k) (stepCache s r j k) in
-      let C = pullSet (versions (z .writers)) (z .keys) (stepPlan s r j) old (stepCache s r j)
-      (stepReads s r j) in
-      fit-choice z C both old (fit-merged z old (stepCache s r j) (fitting .snapshot) cache-fits)
+      let old = stepBranch s r j n .snapshot in
+      let both : Place Version = λ k. merge (z .writers) k (old k) (stepCache s r j n k) in
+      let C = pullSet (versions (z .writers)) (z .keys) (stepPlan s r j n) old (stepCache s r j n)
+      (stepReads s r j n) in
+      fit-choice z C both old (fit-merged z old (stepCache s r j n) (fitting .snapshot) cache-fits)
       (fitting .snapshot)
 
-  pub snapshot-formed : PlaceFormed (s .counts) (stepSnapshot s r j)
+  pub snapshot-formed : PlaceFormed (s .counts) (stepSnapshot s r j n)
   unfolding stepSnapshot
   snapshot-formed k h =
       let z = s .counts in
-      let old = stepBranch s r j .snapshot in
+      let old = stepBranch s r j n .snapshot in
       let place = was .snapshot .place in
-      pulled-cases (versions (z .writers)) (z .keys) (stepPlan s r j) old (stepCache s r j)
-      (stepReads s r j) (VersionFormed z k) k
-      (λ _. version-merge z k (old k) (stepCache s r j k) (place k h) (cache-formed k h))
+      pulled-cases (versions (z .writers)) (z .keys) (stepPlan s r j n) old (stepCache s r j n)
+      (stepReads s r j n) (VersionFormed z k) k
+      (λ _. version-merge z k (old k) (stepCache s r j n k) (place k h) (cache-formed k h))
       (λ _. place k h)
 
   -- ---- the run and the store
 
-  stepped-fits : FitRun (s .counts) (steppedRun s r j)
+  stepped-fits : FitRun (s .counts) (steppedRun s r j n)
   unfolding withJobDone
   stepped-fits = record { job = fitting .job; snapshot = snapshot-fits }
 
   read-held : (k : ℕ) → k < s .counts .keys
-      → So (testBit (bitOr (stepBranch s r j .read) (s .run r .job j .reads)) k)
-      → So (held (stepSnapshot s r j k))
+      → So (testBit (bitOr (stepBranch s r j n .read) (s .run r .job j .reads)) k)
+      → So (held (stepSnapshot s r j n k))
   unfolding stepReads
   read-held k l p =
       let a = s .run r in
-      elim (or-cases (testBit (stepBranch s r j .read) k) (testBit (a .job j .reads) k)
-      (test-or (stepBranch s r j .read) (a .job j .reads) k ∙˙ p)) [
-        | inl h ↦ stepSnapshot-keeps s r j k (was .snapshot .has k l h)
-        | inr h ↦ stepSnapshot-held s r j A k l h
+      elim (or-cases (testBit (stepBranch s r j n .read) k) (testBit (a .job j .reads) k)
+      (test-or (stepBranch s r j n .read) (a .job j .reads) k ∙˙ p)) [
+        | inl h ↦ stepSnapshot-keeps s r j n k (was .snapshot .has k l h)
+        | inr h ↦ stepSnapshot-held s r j n A k l h
       ]
 
-  stepped-formed : So (runFormed (s .counts) (steppedRun s r j))
+  stepped-formed : So (runFormed (s .counts) (steppedRun s r j n))
   unfolding withJobDone stepPlan
   stepped-formed =
       let z = s .counts in
       let a = s .run r in
-      plan-in z (steppedRun s r j) (accepted-used A) (record {
+      plan-in z (steppedRun s r j n) (accepted-used A) (record {
         state = was .state;
         jobs = was .jobs;
         masks = record {
@@ -134,17 +134,17 @@ module _ (s : Store) (r j : ℕ) (F : Fine s) (A : Accepted s r j) where
         };
         snapshot = record {
           place = snapshot-formed;
-          carried = stepSnapshot-planned s r j A (was .snapshot .carried);
+          carried = stepSnapshot-planned s r j n A (was .snapshot .carried);
           has = read-held;
         };
       })
 
-  done-kept : Kept s (stepDone s r j)
+  done-kept : Kept s (stepDone s r j n)
   unfolding stepDone withCache withSites withRun
   done-kept =
-      let o = stepSite s r j in
-      let p = stepCache s r j in
-      let b = steppedRun s r j in
+      let o = stepSite s r j n in
+      let p = stepCache s r j n in
+      let b = steppedRun s r j n in
       let s₁ = withCache s o p in
       let f₁ = fit-cache s (F .fits) o p site cache-fits in
       let g₁ = formed-cache s formed o p cache-formed
@@ -152,7 +152,7 @@ module _ (s : Store) (r j : ℕ) (F : Fine s) (A : Accepted s r j) where
       kept-done s (withRun s₁ r b) _ F (fit-run s₁ f₁ r b (A .run-in) stepped-fits)
       (formed-run s₁ g₁ r b stepped-formed) refl
 
-  broken-kept : Kept s (stepBroken s r j)
+  broken-kept : Kept s (stepBroken s r j n)
   unfolding stepBroken withState withRun
   broken-kept =
       let z = s .counts in
@@ -167,10 +167,10 @@ module _ (s : Store) (r j : ℕ) (F : Fine s) (A : Accepted s r j) where
         snapshot = was .snapshot;
       }))) refl
 
-pub step-kept : (r j : ℕ) (s : Store) → Fine s → Kept s (stepRule r j s)
+pub step-kept : (r j n : ℕ) (s : Store) → Fine s → Kept s (stepRule r j n s)
 unfolding stepRule
-step-kept r j s F =
-    kept-unless s (stepCause s r j) _ F (λ e.
-    let A = accepted s r j e in
-    test (anyBelow (s .counts .keys) (stepMoved s r j))
-    (λ t. rw t (broken-kept s r j F A)) (λ t. rw t (done-kept s r j F A)))
+step-kept r j n s F =
+    kept-unless s (stepCause s r j n) _ F (λ e.
+    let A = accepted s r j n e in
+    test (anyBelow (s .counts .keys) (stepMoved s r j n))
+    (λ t. rw t (broken-kept s r j n F A)) (λ t. rw t (done-kept s r j n F A)))

@@ -25,23 +25,23 @@ clearWord = 3
 abbrev pub pathWord : ℕ
 pathWord = 4
 
-module _ (s : Store) (r j : ℕ) where
+module _ (s : Store) (r j n : ℕ) where
   -- "first a read of the job that the card lacks"
   unfoldable pub explainStart : Items
   explainStart =
-      lacking (versions (s .counts .writers)) (s .counts .keys) (stepBranch s r j .snapshot)
-      (stepReads s r j)
+      lacking (versions (s .counts .writers)) (s .counts .keys) (stepBranch s r j n .snapshot)
+      (stepReads s r j n)
 
   -- "each next one a plan's sheet on the shelf (as the step's fetch would leave it), needed by the
   -- shelf's version of the one before, a need the card doesn't meet": as C is drawn.
   unfoldable pub explainEdge : ℕ → Items
   explainEdge =
-      draws (versions (s .counts .writers)) (s .counts .keys) (stepPlan s r j)
-      (stepBranch s r j .snapshot) (stepCache s r j)
+      draws (versions (s .counts .writers)) (s .counts .keys) (stepPlan s r j n)
+      (stepBranch s r j n .snapshot) (stepCache s r j n)
 
   -- "the last already read"
   unfoldable pub explainGoal : Items
-  explainGoal = testBit (stepBranch s r j .read)
+  explainGoal = testBit (stepBranch s r j n .read)
 
   -- "a shortest such path; of equally short ones, the smallest sheet by sheet"
   unfoldable pub explainPath : List ℕ
@@ -49,15 +49,15 @@ module _ (s : Store) (r j : ℕ) where
 
   -- The step would break: C has a key of the read mask.
   unfoldable pub breaks : Bool
-  breaks = anyBelow (s .counts .keys) (stepMoved s r j)
+  breaks = anyBelow (s .counts .keys) (stepMoved s r j n)
 
 -- "explains a job of an open run without stepping it": refused for step's cause, else clear, or
 -- the path.
-unfoldable pub explainReply : ℕ → ℕ → Store → Reply
-explainReply r j s = record {
-  cause = stepCause s r j;
-  word = cond (breaks s r j) pathWord clearWord;
-  numbers = cond (breaks s r j) (explainPath s r j) [];
+unfoldable pub explainReply : ℕ → ℕ → ℕ → Store → Reply
+explainReply r j n s = record {
+  cause = stepCause s r j n;
+  word = cond (breaks s r j n) pathWord clearWord;
+  numbers = cond (breaks s r j n) (explainPath s r j n) [];
 }
 
 -- ---- what it is for
@@ -67,21 +67,21 @@ abbrev pub Answers : Outcome → ℕ → Type 0
 Answers x w = (l : List ℕ) × (answer x ≡ w ∷ l)
 
 -- An outcome x explains an outcome y of the step of job j of run r.
-pub record ExplainsOutcome (s : Store) (r j : ℕ) (x y : Outcome) : Type 0 where
+pub record ExplainsOutcome (s : Store) (r j n : ℕ) (x y : Outcome) : Type 0 where
   -- "The answer is "clear" exactly if the step would be answered `ok`."
   pub clear : (answer x ≡ clearWord ∷ []) ↔ Answers y 0
   -- "If the job would break, it gives a path",
   pub path : Answers x pathWord ↔ Answers y 1
   -- "a shortest such path; of equally short ones, the smallest sheet by sheet"
   pub shortest : (l : List ℕ) → answer x ≡ pathWord ∷ l
-      → ShortestPath (s .counts .keys) (explainEdge s r j) (explainStart s r j)
-      (explainGoal s r j) l
+      → ShortestPath (s .counts .keys) (explainEdge s r j n) (explainStart s r j n)
+      (explainGoal s r j n) l
   -- Its last sheet is one of those with which the step breaks.
   pub ends : (l : List ℕ) (m : ℕ) → answer x ≡ pathWord ∷ l → answer y ≡ 1 ∷ m ∷ []
       → So (testBit m (lastOf l))
   -- "It turns down what step does, by the same numbers",
-  pub refused : (n : ℕ) → (answer x ≡ 2 ∷ n ∷ []) ↔ (answer y ≡ 2 ∷ n ∷ [])
+  pub refused : (c : ℕ) → (answer x ≡ 2 ∷ c ∷ []) ↔ (answer y ≡ 2 ∷ c ∷ [])
 
 -- It explains what the step comes to.
-abbrev pub Explains : Store → ℕ → ℕ → Outcome → Type 0
-Explains s r j x = ExplainsOutcome s r j x (stepRule r j s)
+abbrev pub Explains : Store → ℕ → ℕ → ℕ → Outcome → Type 0
+Explains s r j n x = ExplainsOutcome s r j n x (stepRule r j n s)

@@ -19,14 +19,14 @@ use Rattle.step.proofs.act.Tie as tie
 run-at-requires : tie.Need-run-at-requires
 run-at-requires c κs =
     let s = c .before in
-    (form-area _ _ (s .pre .form) .ranged, found-run _ _ _ _ _ _ (s .pre) .0 .run)
+    (form-area _ _ (s .pre .form) .ranged, found-run _ _ _ _ _ _ _ (s .pre) .0 .run)
 
 -- The first words of the run.
 here : (c : tie.After-run-at)
     → c .run-at .result + snapshotOffset ≤ length (c .before .before .args .words .now)
 here c =
     let s = c .before .before in
-    run-index _ _ _ (found-run _ _ _ _ _ _ (s .pre) .0) _ (c .run-at .ensures)
+    run-index _ _ _ (found-run _ _ _ _ _ _ _ (s .pre) .0) _ (c .run-at .ensures)
 
 -- ---- broken
 

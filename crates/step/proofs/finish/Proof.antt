@@ -23,19 +23,19 @@ use Rattle.step.proofs.finish.Tie as tie
 run-at-requires : tie.Need-run-at-requires
 run-at-requires c κs =
     let s = c .before in
-    (form-area _ _ (s .pre .form) .ranged, found-run _ _ _ _ _ _ (s .pre) .0 .run)
+    (form-area _ _ (s .pre .form) .ranged, found-run _ _ _ _ _ _ _ (s .pre) .0 .run)
 
 -- The first words of the run.
 here : (c : tie.After-run-at)
     → c .run-at .result + snapshotOffset ≤ length (c .before .before .args .words .now)
 here c =
     let s = c .before .before in
-    run-index _ _ _ (found-run _ _ _ _ _ _ (s .pre) .0) _ (c .run-at .ensures)
+    run-index _ _ _ (found-run _ _ _ _ _ _ _ (s .pre) .0) _ (c .run-at .ensures)
 
 with-item-requires : tie.Need-with-item-requires
 with-item-requires c κs =
     let s = c .before .before .before in
-    let U = found-run _ _ _ _ _ _ (s .pre) in
+    let U = found-run _ _ _ _ _ _ _ (s .pre) in
     omega (arith, job-low _ _ _ (U .0) (s .args .job) (U .1))
 
 take-keys-requires : tie.Need-take-keys-requires
@@ -43,18 +43,18 @@ take-keys-requires c κs =
     let s = c .before .before .before .before .before in
     let a = s .args in (
       s .pre .form,
-      rw (found-site-at _ _ _ _ _ _ (s .pre)) (found-site _ _ _ _ _ _ (s .pre)),
+      rw (found-site-at _ _ _ _ _ _ _ (s .pre)) (found-site _ _ _ _ _ _ _ (s .pre)),
     )
 
 -- The cache has taken T.
 fetched : (c : tie.After-take-keys)
     → let a = c .before .before .before .before .before .before .args in
     c .take-keys .last .0
-    ≡ written (shelved (storeOf (a .words .now)) (a .r) (a .job)) (a .words .now)
+    ≡ written (shelved (storeOf (a .words .now)) (a .r) (a .job) 0) (a .words .now)
 fetched c =
     let s = c .before .before .before .before .before .before in
     let a = s .args in
-    site-taken (a .words .now) (a .z) (a .r) (a .job) (a .visit) (a .trial) (s .pre) _
+    site-taken (a .words .now) (a .z) (a .r) (a .job) 0 (a .visit) (a .trial) (s .pre) _
     (c .take-keys .ensures)
 
 merge-keys-requires : tie.Need-merge-keys-requires
@@ -63,7 +63,7 @@ merge-keys-requires c κs =
     let s = n .before .before .before .before .before .before in
     let a = s .args in
     rw (n .take-keys .kept .0)
-    (merge-areas (a .words .now) (a .z) (a .r) (a .job) (a .visit) (a .trial) (s .pre))
+    (merge-areas (a .words .now) (a .z) (a .r) (a .job) 0 (a .visit) (a .trial) (s .pre))
 
 mark-done-requires : tie.Need-mark-done-requires
 mark-done-requires c κs =
@@ -85,17 +85,17 @@ returns c =
     let v = a .visit in
     let x = storeOf l in
     let places : m .merge-keys .last .0
-    ≡ putPlace (a .z) (written (shelved x (a .r) (a .job)) l) (v .snapshot)
-    (stepSnapshot x (a .r) (a .job)) =
+    ≡ putPlace (a .z) (written (shelved x (a .r) (a .job) 0) l) (v .snapshot)
+    (stepSnapshot x (a .r) (a .job) 0) =
     m .merge-keys .ensures .0
-    ∙ merged l (a .z) (a .r) (a .job) v (a .trial) (s .pre) (n .take-keys .last .0) (fetched n)
-    ∙ ap (λ (m : List ℕ). putPlace (a .z) m (v .snapshot) (stepSnapshot x (a .r) (a .job)))
+    ∙ merged l (a .z) (a .r) (a .job) 0 v (a .trial) (s .pre) (n .take-keys .last .0) (fetched n)
+    ∙ ap (λ (m : List ℕ). putPlace (a .z) m (v .snapshot) (stepSnapshot x (a .r) (a .job) 0))
     (fetched n) in
     d .mark-done .ensures
     ∙ marked-words (m .merge-keys .last .0) (k .run-at .result) (i .with-item .result)
     (bitOr (v .read) (v .reads))
     ∙ rw (places, i .with-item .ensures)
-    (step-left l (a .z) (a .r) (a .job) v (a .trial) (s .pre) (k .run-at .result)
+    (step-left l (a .z) (a .r) (a .job) 0 v (a .trial) (s .pre) (k .run-at .result)
     (k .run-at .ensures))
 
 pub finish-spec : {M : Type 1} → statement M

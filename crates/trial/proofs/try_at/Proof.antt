@@ -26,14 +26,14 @@ returns c =
     let s = n .before .before in
     let a = s .args in
     let early = n .job-cause .result in
-    let cause : stepCause (storeOf (a .words .now)) (a .r) (a .j) ≡ early =
+    let cause : stepCause (storeOf (a .words .now)) (a .r) (a .j) 0 ≡ early =
     rw (
-      step-below (storeOf (a .words .now)) (a .r) (a .j)
+      step-below (storeOf (a .words .now)) (a .r) (a .j) 0
           (rw (form-counts (a .words .now) (a .z) (s .pre .0 .0)) (s .pre .0 .1)),
       ← n .job-cause .ensures,
       ne-eqb early 0 (c .if1 .taken),
     ) in
-    tried-no _ (a .r) (a .j) _ early cause (c .if1 .taken)
+    tried-no _ (a .r) (a .j) 0 _ early cause (c .if1 .taken)
 
 -- None of them holds.
 free : (c : tie.Else1) → let a = c .before .before .before .args in
@@ -57,7 +57,7 @@ known : (c : tie.After-visit-of) → let a = c .before .before .before .before .
 known c =
     let e = c .before in
     let a = e .before .before .before .args in
-    visit-known (a .words .now) (a .z) (a .r) (a .j) (a .snapshot) (ready e .0) (ready e .1) _
+    visit-known (a .words .now) (a .z) (a .r) (a .j) 0 (a .snapshot) (ready e .0) (ready e .1) _
     (c .visit-of .ensures)
 
 lacking-requires : tie.Need-lacking-requires
@@ -97,7 +97,7 @@ taking-cause-requires c κs =
 -- What is left where the causes before it do not hold.
 tested : (c : tie.After-taking-cause)
     → let a = c .before .before .before .before .before .before .before .before .before .args in
-    stepCause (storeOf (a .words .now)) (a .r) (a .j) ≡ c .taking-cause .result
+    stepCause (storeOf (a .words .now)) (a .r) (a .j) 0 ≡ c .taking-cause .result
 tested c =
     let t = c .before .before in
     let n = t .before in
@@ -106,7 +106,7 @@ tested c =
     let e = v .before in
     let s = e .before .before .before in
     let a = s .args in
-    cause-last (a .words .now) (a .z) (a .r) (a .j) (a .snapshot) (ready e .0) (ready e .1)
+    cause-last (a .words .now) (a .z) (a .r) (a .j) 0 (a .snapshot) (ready e .0) (ready e .1)
     (v .visit-of .result) (v .visit-of .ensures) (a .read) (s .pre .1) (w .lacking .result)
     (n .lacking2 .result) (w .lacking .ensures) (n .lacking2 .ensures)
     (t .find-taken .result) (free e) (t .find-taken .ensures)
@@ -116,7 +116,7 @@ returns-2 : tie.Need-returns-2
 returns-2 c =
     let u = c .before in
     let a = u .before .before .before .before .before .before .before .before .before .args in
-    tried-no _ (a .r) (a .j) _ _ (tested u) (c .if2 .taken)
+    tried-no _ (a .r) (a .j) 0 _ _ (tested u) (c .if2 .taken)
 
 -- ---- C
 
@@ -139,13 +139,13 @@ returns-3 c =
     let e = v .before in
     let s = e .before .before .before in
     let a = s .args in
-    let found = taken-read (a .words .now) (a .z) (a .r) (a .j) (a .snapshot) (ready e .0)
+    let found = taken-read (a .words .now) (a .z) (a .r) (a .j) 0 (a .snapshot) (ready e .0)
     (ready e .1) (v .visit-of .result) (v .visit-of .ensures) (a .read) (s .pre .1)
     (w .lacking .result) (n .lacking2 .result) (w .lacking .ensures) (n .lacking2 .ensures)
     (t .find-taken .result) (t .find-taken .ensures) in
-    tried-yes _ (a .r) (a .j) _ _ _
+    tried-yes _ (a .r) (a .j) 0 _ _ _
     (tested u ∙ i .if2 .left) (v .visit-of .ensures)
-    (trial-found (a .words .now) (a .z) (a .r) (a .j) (a .snapshot) (ready e .0) (ready e .1)
+    (trial-found (a .words .now) (a .z) (a .r) (a .j) 0 (a .snapshot) (ready e .0) (ready e .1)
     (v .visit-of .result) (v .visit-of .ensures) (a .read) (s .pre .1) (w .lacking .result)
     (n .lacking2 .result) (w .lacking .ensures) (n .lacking2 .ensures)
     (t .find-taken .result) (c .draw-set .result) found (c .draw-set .ensures))

@@ -16,9 +16,9 @@ returns : tie.Need-returns
 returns c =
     let s = c .before .before in
     let a = s .args in
-    let high = step-high (storeOf (a .words .now)) (a .r) (a .j)
+    let high = step-high (storeOf (a .words .now)) (a .r) (a .j) 0
     (rw (form-counts (a .words .now) (a .z) (s .pre)) (c .if1 .taken)) in
-    tried-no _ (a .r) (a .j) _ 3 high (λ e. absurd (omega arith))
+    tried-no _ (a .r) (a .j) 0 _ 3 high (λ e. absurd (omega arith))
 
 run-at-requires : tie.Need-run-at-requires
 run-at-requires c κs = (form-area _ _ (c .before .before .pre) .ranged, c .if1 .left)
@@ -41,14 +41,14 @@ try-at-requires c κs =
     let s = e .before .before in
     let a = s .args in
     rw (n .run-at .ensures, c .snapshot-at .ensures)
-    ((s .pre, e .if1 .left), branch-own (a .words .now) (a .z) (a .r) (s .pre) (e .if1 .left))
+    ((s .pre, e .if1 .left), branch-own (a .words .now) (a .z) (a .r) 0 (s .pre) (e .if1 .left))
 
 returns-2 : tie.Need-returns-2
 returns-2 c =
     let p = c .before in
     let a = p .before .before .before .before .args in
     c .try-at .ensures
-    ∙ ap (triedOf (storeOf (a .words .now)) (a .r) (a .j)) (p .snapshot-at .ensures)
+    ∙ ap (triedOf (storeOf (a .words .now)) (a .r) (a .j) 0) (p .snapshot-at .ensures)
 
 pub try-job-spec : {M : Type 1} → statement M
 try-job-spec =

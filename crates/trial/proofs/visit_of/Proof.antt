@@ -28,7 +28,7 @@ returns c =
     let j = p .before in
     let s = j .before .before in
     let a = s .args in
-    visit-is (a .words .now) (a .z) (a .r) (a .j) (a .snapshot) (a .read) (s .pre .0 .0 .form)
+    visit-is (a .words .now) (a .z) (a .r) (a .j) 0 (a .snapshot) (a .read) (s .pre .0 .0 .form)
     (s .pre .1) (w .wide .result) (m .areas .result .master) (o .site-at .result)
     (p .plan-keys .result) (j .job-of .result) (w .wide .ensures)
     (master-found (a .z) (m .areas .result) (m .areas .ensures)) (o .site-at .ensures)
