@@ -84,8 +84,8 @@ class Answer(NamedTuple):
 
     @property
     def standing(self):
-        """Of a look: how the version stands against the master's; None if the call wasn't ok."""
-        return Standing(self.numbers[-1]) if self.outcome == "ok" else None
+        """Of a look: how the version stands against the master's; None of any other answer."""
+        return self.look.standing if self.look else None
 
     def __str__(self):
         return " ".join([self.outcome, *map(str, self.numbers)])
@@ -138,6 +138,38 @@ def _array(numbers):
     return (ctypes.c_uint32 * max(1, len(checked)))(*checked), ctypes.c_size_t(len(checked))
 
 
+def _lent(buffer):
+    """The words of a buffer of bytes or of 32-bit numbers, in their place."""
+    view = memoryview(buffer)
+    if view.readonly:
+        raise TypeError("not to be written: array.array('I', content) has the words of a file")
+    if view.format not in ("B", "b", "c", "I", "i") or view.nbytes % 4 != 0:
+        raise TypeError("neither bytes, a multiple of four, nor words of 32 bits: format %s, %d bytes" % (view.format, view.nbytes))
+    words = (ctypes.c_uint32 * (view.nbytes // 4)).from_buffer(view)
+    if ctypes.addressof(words) % 4 != 0:
+        raise ValueError("words begin at a multiple of four")
+    return words, ctypes.c_size_t(len(words))
+
+
+def _content(content):
+    """Words of C: so many zeros, those of a buffer, or a copy of a list."""
+    if isinstance(content, int):
+        return _array([0] * _word(content))
+    try:
+        memoryview(content)
+    except TypeError:
+        return _array(content)
+    return _lent(content)
+
+
+class Unrecorded(Exception):
+    """`record` has raised, and the call had been made: `answer` is what it answered."""
+
+    def __init__(self, answer):
+        super().__init__("made and answered %s, but not recorded" % (answer,))
+        self.answer = answer
+
+
 def _line(name, arguments):
     """A call as the program's line. An open of more than 27 numbers is recorded with so many: over 8 jobs, it is refused
     whatever the others are, for the same cause."""
@@ -152,7 +184,8 @@ def _library():
     name = "libsheetdesk_c.so.%d" % VERSION
     places = [os.path.join(here, "..", "..", "lib", name), os.path.join(here, "..", "target", "shared", name)]
     path = os.environ.get("SHEETDESK_LIBRARY") or next(filter(os.path.exists, places), name)
-    library = ctypes.CDLL(path)
+    # PyDLL keeps Python's lock during a call: two threads never work on one desk's words at once.
+    library = ctypes.PyDLL(path)
     calls = "new open fetch evict prepare step explain issue drop look stale admit allow pick mayhold maysave"
     for call in (calls + " compare covers merge version layout").split():
         getattr(library, "sheetdesk_" + call).restype = ctypes.c_uint32
@@ -165,15 +198,18 @@ _calls = _library()
 
 
 class Desk:
-    """A desk over its own words: so many, all zero, or a list of words saved from another.
+    """A desk over its own words: so many, all zero, or a list of words saved from another. Or over a buffer that can be written
+    (a bytearray, an mmap, shared memory, an array of 32-bit words): then it lies there, and words() is a copy.
 
     Each call is handed to `record`, if that is set, with its answer, as the program's own two lines of text
     ("fetch 0 1\\nok 3\\n"), so that what is written down replays: ./sheetdesk --replay. One log is for one desk, from its new on:
-    the words of a desk that was read back aren't in it.
+    the words of a desk that was read back aren't in it. If `record` raises, the call raises Unrecorded, which has its answer.
+
+    Threads may share a Desk: each call is made whole before the next one. What several calls do together is theirs to guard.
     """
 
     def __init__(self, content, record=None):
-        self._words, self._len = _array([0] * content if isinstance(content, int) else content)
+        self._words, self._len = _content(content)
         self.record = record
 
     def words(self):
@@ -187,7 +223,10 @@ class Desk:
         count = call(self._words, self._len, *checked, answer, ctypes.c_size_t(ANSWER_WORDS))
         made = Answer(_OUTCOMES[answer[0]], tuple(answer[1:count]))
         if self.record is not None:
-            self.record("%s\n%s\n" % (_line(name, arguments), made))
+            try:
+                self.record("%s\n%s\n" % (_line(name, arguments), made))
+            except Exception as error:
+                raise Unrecorded(made) from error
         return made
 
     def new(self, sheets, writers, offices, runs):

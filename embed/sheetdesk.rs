@@ -202,9 +202,9 @@ impl Answer {
         }
     }
 
-    /// Of a look: how the version stands against the master's.
+    /// Of a look: how the version stands against the master's; nothing of any other answer.
     pub fn standing(&self) -> Option<Standing> {
-        self.ok()?.last().copied().and_then(Standing::of)
+        self.look().map(|look| look.standing)
     }
 
     /// The numbers of an answer that is ok.

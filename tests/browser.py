@@ -91,7 +91,7 @@ class Browser:
 
     def ask(self, expression):
         """The value of an expression in the page."""
-        answer = self._order("Runtime.evaluate", expression=expression, returnByValue=True)
+        answer = self._order("Runtime.evaluate", expression=expression, returnByValue=True, awaitPromise=True)
         if "exceptionDetails" in answer:
             raise RuntimeError("%s: %s" % (expression, answer["exceptionDetails"]["text"]))
         return answer["result"].get("value")
@@ -108,6 +108,15 @@ class Browser:
         box = self.ask("(() => { const b = document.querySelector(%s).getBoundingClientRect();"
                        " return [b.x + b.width / 2, b.y + b.height / 2]; })()" % json.dumps(selector))
         self._order("Input.dispatchMouseEvent", type="mouseMoved", x=box[0], y=box[1])
+
+    def lie(self, width, media="screen"):
+        """Lays the page out anew: so wide, on the screen or for print."""
+        self._order("Emulation.setEmulatedMedia", media=media)
+        self._order("Emulation.setDeviceMetricsOverride", width=width, height=900, deviceScaleFactor=1, mobile=False)
+
+    def printed(self):
+        """The page as a PDF: its bytes."""
+        return base64.b64decode(self._order("Page.printToPDF", preferCSSPageSize=True)["data"])
 
     def picture(self, path, clip=None, scale=1, grey=False):
         """The page as a PNG: all of it, or a clip of left, top, width and height."""

@@ -29,7 +29,11 @@ trial_files() {
   want 0 "an odd name behind --" bash -c "top=\$PWD; cd '$work' && \"\$top/sheetdesk\" -- '-odd name'"
   same scripts/case-a.out "an odd name behind --"
   want 2 "a file that isn't there" ./sheetdesk "$work/none"
-  said "can't read"
+  said "can't read .*none: there is no such file"
+  want 2 "a folder" ./sheetdesk "$work"
+  said "can't read $work: it is a folder"
+  want 2 "a file without a name" ./sheetdesk ""
+  said "can't read a file without a name"
   want 2 "two files" ./sheetdesk "$work/good" "$work/good"
 }
 
@@ -41,12 +45,15 @@ trial_options() {
   for option in -h --help; do
     want 0 "$option" ./sheetdesk "$option"
     told "docs/USER.md"
-    [ "$(wc -l <"$work/out")" -le 15 ] || bad "$option: more than fifteen lines"
+    told "^Exit status: .*--replay: one isn't the log's"
+    [ "$(wc -l <"$work/out")" -le 20 ] || bad "$option: more than twenty lines"
   done
   want 0 "--man" ./sheetdesk --man
   told "^REFUSALS"
   [ "$(awk '{ gsub(/·/, ".") } length($0) > 80 || /`|\*\*|^#|^\|/' "$work/out")" = "" ] ||
     bad "--man: over 80 columns, or marks of Markdown"
+  want 141 "--man to head" env --default-signal=PIPE bash -c './sheetdesk --man | head -n 1; exit "${PIPESTATUS[0]}"'
+  [ ! -s "$work/err" ] || bad "--man to head: a word"
   want 0 "--version" ./sheetdesk --version
   told "^sheetdesk [0-9]*, layout [0-9]*, toolchain [a-z]"
 }
@@ -132,6 +139,8 @@ trial_speed() {
   plain=$(best ./sheetdesk "$work/long")
   strict=$(best ./sheetdesk --strict "$work/long" 2>/dev/null)
   [ "$strict" -lt $((2 * plain + 50)) ] || bad "--strict takes $strict ms for a million lines, without it $plain"
+  head -n 200000 "$work/long" >"$work/part"
+  want 0 "--echo of 200,000 lines" timeout 8 ./sheetdesk --echo "$work/part"
 }
 
 # Each line of --echo is its number, the script's line, and the answer, with words behind what isn't ok.
@@ -151,8 +160,14 @@ trial_echo() {
   told "^5: look 0 0 1 -> refused 8: the master .* issue it"
   told "^6: evict 0 0 -> refused 8: .* nothing to do"
   told "^7: step 0 8 -> refused 3: there is no such run or job"
-  told "^9: a? -> unread: "
+  told "^9: a? -> unread: the line is none of the calls' forms$"
   told "^10: last -> unread: "
+  printf 'fetch 0 1 \nfetch 0 4294967296\nfetch  0 1\nfetch 0 04294967295\n' >"$work/spaces"
+  want 0 "--echo of numbers and spaces" ./sheetdesk --echo "$work/spaces"
+  told "^1: fetch 0 1  -> unread: the line ends with a space$"
+  told "^2: fetch 0 4294967296 -> unread: a number is over 4294967295$"
+  told "^3: fetch  0 1 -> unread: words and numbers stand one space apart$"
+  told "^4: .* -> refused 1: "
   printf 'new 2 2 2 1\nstale 2\n' >"$work/office"
   want 0 "--echo of an office" ./sheetdesk --echo "$work/office"
   told "^2: stale 2 -> refused 3: there is no such office$"
@@ -287,7 +302,7 @@ trial_examples() {
 # README's first screen: what is needed, and the first command with what it prints.
 trial_readme() {
   head -n 36 README.md >"$work/screen"
-  for words in "command \`rt\` on the PATH" "minutes" "\`refused 6\` is right" "^    . ./test" "passed, 0 failed"; do
+  for words in "command \`rt\` on the PATH" "minutes" "\`refused 6\` is right" "logs need rustc" "^    . ./test" "passed, 0 failed"; do
     grep -q -e "$words" "$work/screen" || bad "README's first screen lacks '$words'"
   done
   sed -n 's/^    \$ \(.*sheetdesk .*\)/\1/p' "$work/screen" >"$work/command"

@@ -28,28 +28,6 @@ trial_shrink() {
   want 0 "what is left of a log" have replay "$work/less"
 }
 
-# many_calls K W N P: 20,000 calls on one desk. Runs from 1 on read and save all sheets but the last, shelves fetch and evict
-# them; run 0 reads sheet 0 at some time, and breaks at the end over the last sheet, which is saved then for the first time.
-many_calls() {
-  awk -v K="$1" -v W="$2" -v N="$3" -v P="$4" '
-    function below(n) { seed = seed * 16807 % 2147483647; return int(seed / 64) % n }
-    function say(line) { print line; lines++ }
-    function bit(k) { return sprintf("%.0f", 2 ^ k) }
-    BEGIN { seed = 7; last = bit(K - 1); say("new " K " " W " " N " " P)
-      for (k = 0; k < K - 1; k++) { say("open 1 0 0 0"); say("step 1 0"); say("issue 1 " k % W " " bit(k)) }
-      while (lines < 19992) {
-        r = 1 + below(P - 1); o = below(N); k = below(K - 1); d = below(K - 1)
-        if (lines == 15000) { say("open 0 0 1 0 1 " last " 0"); say("step 0 0") }
-        else if (below(10) < 2) say((below(3) ? "fetch " : "evict ") o " " k)
-        else if (below(20) == 0) say(state[r] == 2 ? "look 2 " r " " reads[r] : "look 1 " o " " k)
-        else if (state[r] == 1) { say("step " r " 0"); state[r] = 2 }
-        else if (state[r] == 2) { say("issue " r " " below(W) " " bit(k)); state[r] = 0 }
-        else { say("open " r " " o " " (k == d ? bit(k) : sprintf("%.0f", 2 ^ k + 2 ^ d)) " 0"); state[r] = 1; reads[r] = k }
-      }
-      r = P - 1; print "drop " r "\nopen " r " 2 0 0\nstep " r " 0\nissue " r " 3 " sprintf("%.0f", 1 + last)
-      print "fetch 1 0\nlook 0 0 0\nexplain 0 1\nstep 0 1" }'
-}
-
 # in_time LINE: what is left of the many calls for that line, in a few seconds of the processor.
 in_time() {
   local used
@@ -151,6 +129,8 @@ trial_long() {
   [ "$(grep -c 'class="row ' "$work/out")" -eq 2 ] || bad "of 201 calls not just the needed ones are on the page"
   grep -q 'class="shrunk">2 of 201 calls are left; line 201 is still answered &quot;refused 7&quot;' "$work/out" ||
     bad "the page doesn't say what is left"
+  want 0 "201 calls, whole" have whole "$work/whole"
+  [ "$(grep -c 'class="row ' "$work/out")" -eq 201 ] || bad "201 calls aren't all on the whole page"
   yes 'new 2 2 2 1' | head -n 201 >"$work/fine"
   want 2 "201 calls and none refused" have page "$work/fine"
   said "name a line"
@@ -160,6 +140,20 @@ trial_long() {
 # without COMMAND: takes the folders that have it off the PATH.
 without() {
   PATH=$(echo "$PATH" | tr ':' '\n' | while read -r folder; do [ -x "$folder/$1" ] || echo "$folder"; done | paste -sd ':')
+}
+
+# The options for tickets, in a folder with the command.
+command_for_tickets() {
+  want 0 "--breaks" ./sheetdesk --breaks scripts/explain-path.txt
+  grep -q '^line 19: job 1 of run 0, at office 1, breaks the run: broken 1$' "$work/out" || bad "--breaks: no break"
+  want 0 "--set" ./sheetdesk --json --set scripts/explain-path.txt 19
+  grep -q '^{"line": 19, "call": "step 0 1", ' "$work/out" || bad "--set --json: no bill"
+  want 0 "--at" bash -c 'echo "explain 0 1" | ./sheetdesk --at scripts/explain-path.txt 18'
+  [ "$(cat "$work/out")" = "path 2 1 0" ] || bad "--at: another desk"
+  want 2 "--at without a line" ./sheetdesk --at scripts/explain-path.txt
+  said "wants a log and a line"
+  want 2 "--at of standard input" ./sheetdesk --at - 3
+  want 2 "--json with --page" ./sheetdesk --json --page scripts/case-a.txt
 }
 
 # The command, on a copy with an rt that proves nothing (tests/fake/rt).
@@ -188,6 +182,10 @@ END
   sed -n '/^## WHEN A SET LOOKS WRONG/,/^## [^W]/s/^    //p' docs/USER.md >"$work/page"
   want 0 "the user page's command" bash "$work/page"
   grep -q 'class="sentence">Sheet 1 of issue 2 needs sheet 0 of issue 2;' page.html || bad "the user page's command makes no page"
+  want 0 "--page --whole" ./sheetdesk --page --whole scripts/case-a.txt
+  want 2 "--whole with a line" ./sheetdesk --page --whole scripts/case-a.txt 3
+  said "without LINE"
+  command_for_tickets
   want 2 "--replay of a script" ./sheetdesk --replay scripts/case-a.txt
   want 2 "--page with --strict" ./sheetdesk --strict --page scripts/case-a.txt
   want 2 "--page and --shrink" ./sheetdesk --shrink --page scripts/case-a.txt

@@ -74,6 +74,8 @@ END
 tried="rustc"
 link rustc
 if command -v pkg-config >/dev/null; then
+  sed "s|^prefix=.*|prefix=/a folder|" "$prefix/lib/pkgconfig/sheetdesk.pc" >"$work/use/spaced.pc"
+  [ "$(PKG_CONFIG_PATH=$work/use pkg-config --cflags spaced | sed "s/ *$//")" = '-I/a\ folder/include' ] || bad "pkg-config: a space isn't escaped"
   link gcc && tried="$tried, gcc"
   ! command -v g++ >/dev/null || { link g++ && tried="$tried, g++"; }
 fi

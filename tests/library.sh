@@ -71,6 +71,13 @@ sys.exit(any(str(Desk(words(*c)).new(*c)) != ("ok %d" % words(*c) if words(*c) e
 END
 }
 
+# By ./test alone, which has marked it: the command needn't prove the library again.
+trial_marked() {
+  top=$PWD name=sheetdesk program=$PWD/target/bin/sheetdesk
+  . tools/build.sh || exit 2
+  library_is_current || bad "the library isn't marked as built: the first --page would prove it again"
+}
+
 trials=("$@")
 [ $# -gt 0 ] || trials=(versions words memory header wrapper python)
 for trial in "${trials[@]}"; do

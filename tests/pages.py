@@ -16,7 +16,14 @@ SENTENCES = "Array.from(document.querySelectorAll('.row.broken .sentence'), (s) 
 ARROWS = "Array.from(document.querySelectorAll('.arrow[data-from]'), (a) => [+a.closest('.row').dataset.line," \
          " a.classList[1], a.dataset.from, a.dataset.to, +a.dataset.sheets])"
 BEHIND = "Array.from(document.querySelectorAll('.row[data-issue=\"4\"] details.behind li'), (l) => l.textContent)"
-RED = "Array.from(document.querySelectorAll('.over .path'), (p) => getComputedStyle(p).stroke)"
+SEEN = ".filter((p) => getComputedStyle(p).display !== 'none')"
+RINGS = "Array.from(document.querySelectorAll('.ring'))" + SEEN + ".map((ring) => +ring.closest('.row').dataset.line)"
+CAUSE = "Array.from(document.querySelectorAll('.cause a, .cause .remedy'), (p) => p.textContent)"
+FOLDS = "Array.from(document.querySelectorAll('.fold summary .say'), (p) => p.textContent)"
+# Of the rows that are seen if those about a sheet are asked for, those that aren't about it; and how many are.
+FILTER = "(() => { const filter = document.getElementById('filter'); filter.value = '0'; filter.dispatchEvent(new Event('change'));" \
+         " const rows = Array.from(document.querySelectorAll('.row:not(.off)')); filter.value = '';" \
+         " filter.dispatchEvent(new Event('change')); return [rows.filter((r) => !(r.dataset.touched & 1)).length, rows.length]; })()"
 
 # Page, what is asked, what its script has.
 FACTS = [
@@ -34,16 +41,33 @@ FACTS = [
     # Issue 4 saves sheets 0 and 1 with only sheet 0 read: its sheet 1 and that of issue 2 are rivals.
     ("explain-path", POINTS, [[1, 0, 1, 0], [2, 1, 2, 0], [3, 2, 4, 0], [4, 3, 3, 2]]),
     ("explain-path", SENTENCES,
-     ["Sheet 1 of issue 4 needs sheet 0 of issue 4; run 0 had read the older sheet 0 of issue 1."]),
+     ["Sheet 1 of issue 4 needs sheet 0 of issue 4; run 0 had read the older sheet 0 of issue 1, brought by the shelf of office 0 at"
+      " line 6."]),
     ("explain-path", BEHIND, ["issue 1 (writer 0, sheet 0): the run had read its sheet 0"]),
-    ("explain-path", RED, ["rgb(192, 0, 0)"] * 3),
+    ("explain-path", RINGS, [6, 12, 15]),
+    ("explain-path", "(document.querySelector('#line17').dispatchEvent(new Event('mouseenter')), %s)" % RINGS, [6, 15]),
+    ("explain-path", CAUSE, ["Line 19", "Behind drop 0, open 0 0 1 0 1 4 0 1 2 0, prepare 0 every job goes through."]),
+    # A broken run's bar: red edges, white between them, hatched.
+    ("explain-path", "Array.from(document.querySelectorAll('#line20 line[x1=\"' + document.querySelector('[data-lane=\"run 0\"]')"
+                     ".getAttribute('x') + '\"]'), (l) => l.getAttribute('class')).slice(-3)", ["edge broken", "open", "broken"]),
+    ("folded", FOLDS, ["Lines 1 to 8: 8 calls in which nothing is read or saved"]),
+    ("folded", "document.querySelector('.idle').textContent", "Not drawn, for nothing touches it: offices 0 and 1."),
+    ("folded", "(location.hash = '#line3', new Promise((go) => setTimeout(() => go(document.querySelector('.fold details').open), 200)))",
+     True),
+    ("eight", "document.querySelectorAll('.tick').length", 150),
+    ("eight", FILTER, [0, 36]),
+    ("carried", "document.querySelector('#line12 .words').textContent",
+     "12Job 0 of run 0 reads sheet 2 of issue 3 from the master, over the shelf of office 0. The card also takes sheet 0 of issue 1 and"
+     " sheet 1 of issue 2, which are needed."),
     ("explain-path", "document.querySelector('#line19 .chain').textContent",
-     "Sheet 2 of issue 3 needs sheet 1 of issue 2.Sheet 1 of issue 4, as the shelf would have it, needs sheet 0 of issue 4."
+     "Sheet 2 of issue 3 needs sheet 1 of issue 2; the shelf of office 1 has the newer sheet 1 of the rival issues 2 and 4."
+     "Sheet 1 of issue 4 needs sheet 0 of issue 4."
      "Run 0 had read sheet 0 of issue 1, at line 6."),
     ("rival-breaks", LANES, ["master", "office 0", "office 1", "run 0", "run 1"]),
     ("rival-breaks", POINTS, [[1, 0, 1, 0], [2, 1, 1, 1], [3, 1, 2, 0]]),
     ("rival-breaks", SENTENCES,
-     ["Sheet 1 of issue 3 needs sheet 0 of issue 2; run 0 had read the older sheet 0 of issue 1, a rival of it."]),
+     ["Sheet 1 of issue 3 needs sheet 0 of issue 2; run 0 had read sheet 0 of issue 1, a rival of it, brought by the shelf of office 0 at"
+      " line 6."]),
     ("rival-breaks", STALE, [[9, 0, 1]]),
     ("merge-rivals", POINTS, [[1, 0, 1, 0], [2, 1, 1, 1], [3, 0, 1, 1], [4, 1, 1, 0]]),
     ("signs", "Array.from(document.querySelectorAll('.call code:first-child'), (c) => c.textContent)",
@@ -52,10 +76,15 @@ FACTS = [
     ("long", "document.querySelectorAll('.row').length", 1000),
     ("long", "(document.querySelector('.row[data-issue=\"400\"]').dispatchEvent(new Event('mouseenter')),"
              " document.querySelectorAll('.over .after').length)", 166),
+    # Mask 3: a sentence for each sheet.
+    ("break-several", SENTENCES,
+     ["Sheet 2 of issue 3 needs sheet %d of issue 3; run 0 had read the older sheet %d of issue %d, brought by the shelf of"
+      " office 0 at line 9." % (sheet, sheet, sheet + 1) for sheet in (0, 1)]),
     # Issue 2 leaves sheet 0 behind at both offices. The break at line 13 undoes its fetch; that of line 16 stays.
     ("stale-break", STALE, [[10, 0, 1], [10, 1, 1], [16, 1, 0]]),
     ("stale-break", SENTENCES,
-     ["Sheet 1 of issue 2 needs sheet 0 of issue 2; run 0 had read the older sheet 0 of issue 1."]),
+     ["Sheet 1 of issue 2 needs sheet 0 of issue 2; run 0 had read the older sheet 0 of issue 1, brought by the shelf of office 0 at"
+      " line 7."]),
     # Line 13 takes the right to sheet 0, and all three sheets leave the shelf.
     ("mayhold-takes-needs", ARROWS, [
         [4, "issue", "run 0", "master", 1], [6, "fetch", "master", "office 0", 1], [6, "read", "office 0", "run 0", 1],
@@ -67,8 +96,16 @@ FACTS = [
      " issue 3."),
 ]
 
-# What is wider than its place.
-WIDE = "Array.from(document.querySelectorAll('.no, .say')).filter((box) => box.scrollWidth > box.clientWidth).length"
+# What is wider than its place, or is cut at the right.
+WIDE = "Array.from(document.querySelectorAll('.no, .say')).filter((box) => box.scrollWidth > box.clientWidth).length +" \
+       " Array.from(document.querySelectorAll('.say, .heads, .cause')).filter((box) =>" \
+       " box.getBoundingClientRect().right > document.documentElement.clientWidth).length"
+# Words that are too small to be read.
+SMALL = "Array.from(document.querySelectorAll('p, li, code, svg text')).filter((t) => parseFloat(getComputedStyle(t).fontSize) < 13).length"
+# Sheets of arrows over which a path runs.
+OVER = "Array.from(document.querySelectorAll('line.path'))" + SEEN + ".filter((line) => Array.from(line.closest('svg')" \
+       ".querySelectorAll('.arrow text')).some((text) => { const box = text.getBBox(), x = +line.getAttribute('x1');" \
+       " return x > box.x - 2 && x < box.x + box.width + 2; })).length"
 
 FOCUS = "document.activeElement.dataset.line"
 CURVES = "document.querySelectorAll('.over .after').length"
@@ -117,8 +154,14 @@ def main():
     with Browser(program) as browser:
         for page in pages:
             wrong += ["%s: %s" % (os.path.basename(page), fault) for fault in browser.load(page)]
-            if not browser.ask("document.title").startswith("Sheet desk: ") or browser.ask(WIDE) != 0:
-                wrong.append("%s: no page, or words wider than their place" % page)
+            if not browser.ask("document.title").startswith("Sheet desk: ") or browser.ask(SMALL) != 0 or browser.ask(OVER) != 0:
+                wrong.append("%s: no page, words that are too small, or a path over the sheets of an arrow" % page)
+            printed = 1032 if browser.ask("document.body.innerHTML.includes('A4 landscape')") else 703
+            some = os.path.basename(page).startswith(("eight", "long", "far", "generated", "explain-path", "break-several"))
+            for width, media in ((800, "screen"), (printed, "print"), (1280, "screen")) if some else ((1280, "screen"),):
+                browser.lie(width, media)
+                if browser.ask(WIDE) != 0:
+                    wrong.append("%s: words wider than their place, or cut, at %d px, %s" % (page, width, media))
         at = None
         for name, question, due in FACTS:
             if name != at:
@@ -127,6 +170,12 @@ def main():
             given = browser.ask(question)
             if given != due:
                 wrong.append("%s: %s\n  is  %s\n  due %s" % (name, question, given, due))
+        browser.load(os.path.join(folder, "eight.html"))
+        pages_of = browser.printed().count(b"/Type /Page\n")
+        browser.lie(703, "print")
+        if pages_of < 5 or browser.ask("getComputedStyle(document.querySelector('.top')).display") != "table-header-group":
+            wrong.append("printed, %d sheets don't each have the lanes' names" % pages_of)
+        browser.lie(1280)
         for trial in (keyboard, mouse):
             browser.load(os.path.join(folder, "explain-path.html"))
             wrong += ["%s: is %s, due %s" % found for found in trial(browser) if found[1] != found[2]]

@@ -26,7 +26,10 @@ trial_words() {
 trial_sentences() {
   mkdir "$work/generated" || exit 2
   for seed in {1..40}; do target/reference/generate "$seed" 185 | head -n 200 >"$work/generated/$seed"; done 2>"$work/err"
-  python3 tests/sentences.py "$program" "$tool" "$work/generated"/* || bad "tests/sentences.py"
+  # Office 0 carries the old sheet 0, and office 1 reads it.
+  printf '%s\n' 'new 3 2 2 2' 'open 1 0 0 0' 'step 1 0' 'issue 1 0 1' 'open 1 0 1 0' 'step 1 0' 'issue 1 0 2' 'fetch 0 1' \
+    'open 1 0 0 0' 'step 1 0' 'issue 1 1 5' 'open 0 0 2 0 1 1 0 0 4 0' 'step 0 0' 'step 0 1' 'step 0 2' >"$work/generated/carried"
+  python3 tests/sentences.py "$program" "$tool" "$work/generated"/* scripts/break-several.txt || bad "tests/sentences.py"
 }
 
 # long_list: a new, 400 issues by two writers in turn, and a look that needs them all: 1,202 calls.
@@ -87,6 +90,14 @@ trial_pages() {
   cp "$work/out" "$work/pages/log.html"
   long_list >"$work/long"
   have page "$work/long" 1202 >"$work/pages/long.html" 2>"$work/err"
+  many_calls 6 4 8 8 | head -n 150 >"$work/eight"
+  have page "$work/eight" >"$work/pages/eight.html" 2>"$work/err"
+  { echo 'new 2 2 2 1'; yes 'look 0 0 0' | head -n 5; printf 'open 0 0 0 0\nstep 0 0\nissue 0 0 1\n'; } >"$work/folded"
+  have page "$work/folded" >"$work/pages/folded.html" 2>"$work/err"
+  # Sheet 2 draws in 0 and 1, which the plan has too.
+  printf '%s\n' 'new 3 2 2 1' 'open 0 0 0 0' 'step 0 0' 'issue 0 0 1' 'open 0 0 0 0' 'step 0 0' 'issue 0 0 2' \
+    'open 0 0 0 0' 'step 0 0' 'issue 0 0 4' 'open 0 0 4 0 0 3 0' 'step 0 0' >"$work/carried"
+  have page "$work/carried" >"$work/pages/carried.html" 2>"$work/err"
   chromium=$(browser) || bad "no browser: chromium is missing, and apt-get can't install it"
   python3 tests/pages.py "$chromium" "$work/pages" || exit 1
 }

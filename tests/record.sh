@@ -47,6 +47,7 @@ trial_record() {
   cat scripts/{case-a,explain-path,refused-5,jobs-8-and-9,look-places,admit-any-desk,allow-counts-held,pick-goes-round,refused-13}.out >"$work/some.out"
   due_log "$work/some.txt" >"$work/due"
   record_py <"$work/some.txt" >"$work/log" && cmp -s "$work/log" "$work/due" || bad "sheetdesk.py: golden scripts"
+  PYTHONPATH=embed python3 tests/desk.py || bad "tests/desk.py"
   for mode in "target/tools/record_c off" "target/tools/record_c null" "target/tools/record_rs off" "record_py off"; do
     want 0 "$mode" $mode <scripts/case-a.txt
     [ ! -s "$work/out" ] || bad "$mode: something is recorded"

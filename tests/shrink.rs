@@ -21,6 +21,7 @@ mod reference {
 mod parts {
     pub mod desks;
     pub mod log;
+    pub mod names;
     pub mod number;
     pub mod replay;
     pub mod shrink;

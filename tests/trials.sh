@@ -53,3 +53,25 @@ have() {
 log_of() {
   paste -d '\n' "$1" <("$program" <"$1")
 }
+
+# many_calls K W N P: 20,000 calls on one desk. Runs from 1 on read and save all sheets but the last, shelves fetch and evict
+# them; run 0 reads sheet 0 at some time, and breaks at the end over the last sheet, which is saved then for the first time.
+many_calls() {
+  awk -v K="$1" -v W="$2" -v N="$3" -v P="$4" '
+    function below(n) { seed = seed * 16807 % 2147483647; return int(seed / 64) % n }
+    function say(line) { print line; lines++ }
+    function bit(k) { return sprintf("%.0f", 2 ^ k) }
+    BEGIN { seed = 7; last = bit(K - 1); say("new " K " " W " " N " " P)
+      for (k = 0; k < K - 1; k++) { say("open 1 0 0 0"); say("step 1 0"); say("issue 1 " k % W " " bit(k)) }
+      while (lines < 19992) {
+        r = 1 + below(P - 1); o = below(N); k = below(K - 1); d = below(K - 1)
+        if (lines == 15000) { say("open 0 0 1 0 1 " last " 0"); say("step 0 0") }
+        else if (below(10) < 2) say((below(3) ? "fetch " : "evict ") o " " k)
+        else if (below(20) == 0) say(state[r] == 2 ? "look 2 " r " " reads[r] : "look 1 " o " " k)
+        else if (state[r] == 1) { say("step " r " 0"); state[r] = 2 }
+        else if (state[r] == 2) { say("issue " r " " below(W) " " bit(k)); state[r] = 0 }
+        else { say("open " r " " o " " (k == d ? bit(k) : sprintf("%.0f", 2 ^ k + 2 ^ d)) " 0"); state[r] = 1; reads[r] = k }
+      }
+      r = P - 1; print "drop " r "\nopen " r " 2 0 0\nstep " r " 0\nissue " r " 3 " sprintf("%.0f", 1 + last)
+      print "fetch 1 0\nlook 0 0 0\nexplain 0 1\nstep 0 1" }'
+}

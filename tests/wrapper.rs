@@ -54,15 +54,14 @@ fn explanations() -> bool {
 fn looks() -> bool {
     let mut room = [0; words(1, 3, 1, 1)];
     let mut desk = Desk::lend(&mut room);
-    desk.new(1, 3, 1, 1);
-    let mut none = vec![desk.look(Place::Master, 0)];
+    let mut none = vec![desk.new(1, 3, 1, 1), desk.look(Place::Master, 0), desk.open(0, &[]), desk.drop(0)];
     for writer in [0, 2] {
         desk.open(0, &[Job { office: 0, reads: 0, upstream: 0 }]);
         none.push(desk.step(0, 0));
         none.push(desk.issue(0, writer, 1));
     }
     let rivals = Look { issue: 2, leaders: 5, clock: &[1, 0, 1], standing: Standing::Equal };
-    none.iter().all(|answer| answer.look().is_none()) && desk.look(Place::Master, 0).look() == Some(rivals)
+    none.iter().all(|answer| answer.look().is_none() && answer.standing().is_none()) && desk.look(Place::Master, 0).look() == Some(rivals)
 }
 
 /// How many lines of the golden scripts were answered, each as its file says.

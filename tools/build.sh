@@ -68,11 +68,18 @@ prove() {
   return "$status"
 }
 
-# The crate at which rt failed, as the log has it; else the log's last line.
+# The crate at which rt failed, as the log has it; else the log's last line; else what may have kept it from being written.
 fault() {
-  local crate
+  local crate last
   crate=$(sed -n -E 's/^rt: ([A-Za-z0-9_]+) (NOT PROVED|proved, and its run FAILED).*/\1/p' "$log" | head -n 1)
-  if [ -n "$crate" ]; then echo "crate $crate"; else tail -n 1 "$log"; fi
+  last=$(tail -n 1 "$log" 2>/dev/null)
+  if [ -n "$crate" ]; then
+    echo "crate $crate"
+  elif [ -n "$last" ]; then
+    echo "$last"
+  else
+    echo "rt left no word, and $(df -Pk "$top/target" | awk 'NR == 2 { print $4 }') kB are free for $top/target"
+  fi
 }
 
 # Takes the lock of target/, and says so if it has to wait for another build; fd 9 holds it.
@@ -80,8 +87,15 @@ lock() {
   { : >>"$top/target/sheetdesk.lock"; } 2>/dev/null || return 1
   exec 9>>"$top/target/sheetdesk.lock"
   flock -n 9 && return
-  echo "sheetdesk: another build is under way; waiting for it" >&2
-  flock 9
+  echo "sheetdesk: another build is under way$(under_way); waiting for it" >&2
+  until flock -w 30 9; do echo "sheetdesk: still waiting for the other build$(under_way)" >&2; done
+}
+
+# What another build is at, by the log.
+under_way() {
+  local proved
+  proved=$(sed -n -E 's/^rt: ([A-Za-z0-9_]+) proved \(.*/\1/p' "$log" 2>/dev/null)
+  [ -z "$proved" ] || echo ", crates proved: $(wc -l <<<"$proved"), the last: $(tail -n 1 <<<"$proved")"
 }
 
 # A program in a folder that can't be written is used as it is, unless it is known to be that of other sources.
@@ -112,6 +126,11 @@ library_is_current() {
   [ -e "$library" ] && [ "$(cat "$top/target/staticlib/sources" 2>/dev/null)" = "$(sources)" ]
 }
 
+# mark_library [SOURCES]: the library that is there is built from them; without them, from those of now.
+mark_library() {
+  echo "${1:-$(sources)}" >"$top/target/staticlib/sources"
+}
+
 # The static library, of the sources as they are now.
 build_library() {
   local now
@@ -122,5 +141,5 @@ build_library() {
   rm -f "$top/target/staticlib/sources"
   prove "$(crates sheetdesk_c)" staticlib sheetdesk_c && [ -e "$library" ] ||
     fail "the build failed: $(fault); target/sheetdesk.log has all that rt said"
-  echo "$now" >"$top/target/staticlib/sources"
+  mark_library "$now"
 }

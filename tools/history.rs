@@ -1,7 +1,10 @@
-//! A history of calls had again over the library: replayed, shrunk, or shown as a page.
+//! A history of calls had again over the library: replayed, shrunk, shown as a page, its breaks
+//! told for tickets, the bill of a set, and the desk as it stood at a line.
 //!
-//! `history replay|shrink|page NAME [LINE]` reads a script or a log from standard input; NAME is
-//! what messages and the page call it. `./sheetdesk --replay`, `--shrink` and `--page` run it.
+//! `history MODE NAME [LINE]` reads a script or a log from standard input; NAME is what messages
+//! and the page call it. MODE is replay, shrink, page, whole (the page of all calls), breaks, set
+//! (both also with -json behind them), or at: that one reads the log from descriptor 3, and then
+//! answers the calls on standard input. `./sheetdesk --replay` and so on run it.
 //! Exit status: 0 done; 1 replay: an answer isn't the log's; 2 something is wrong with the input,
 //! and standard error says what, with its line. What can be done all the same is done.
 #![allow(dead_code)]
@@ -12,78 +15,95 @@ mod embed;
 mod library;
 #[path = "../reference"]
 mod reference {
-    pub mod book;
     pub mod desk;
     pub mod text;
 }
 #[path = "history"]
 mod parts {
+    pub mod bill;
     pub mod breaks;
+    pub mod copies;
     pub mod desks;
     pub mod draw;
+    pub mod had;
+    pub mod head;
+    pub mod json;
     pub mod log;
     pub mod marks;
     pub mod moves;
+    pub mod names;
     pub mod number;
     pub mod page;
+    pub mod remedy;
     pub mod replay;
+    pub mod route;
+    pub mod rows;
+    pub mod said;
     pub mod shrink;
     pub mod story;
+    pub mod tickets;
     pub mod told;
     pub mod trial;
     pub mod versions;
     pub mod words;
 }
 
-use parts::log::{self, Entry, Log};
-use parts::page::{self, Head};
+use parts::bill;
+use parts::had::{fail, History};
+use parts::head::Head;
+use parts::page;
 use parts::replay::{printed, Replay};
-use parts::{shrink, story, words};
-use reference::{book, desk, text};
+use parts::{names, story, tickets};
+use reference::{desk, text};
 
-use std::io::{ErrorKind, Read, Write};
+use std::io::{BufRead, ErrorKind, Read, Write};
 use std::process::exit;
 
 /// The calls that a page shows without leaving any out.
 const SHOWN: usize = 200;
 
-/// What was read, with the answers had again.
-struct History {
-    name: String,
-    log: Log,
-    answers: Vec<String>,
-}
+const USAGE: &str = "usage: history MODE NAME [LINE]; see tools/history.rs";
 
 fn main() {
     let arguments = std::env::args().skip(1).collect::<Vec<String>>();
     let (mode, name, line) = match arguments.as_slice() {
         [mode, name] => (mode, name, None),
         [mode, name, line] => (mode, name, Some(line)),
-        _ => fail("usage: history replay|shrink|page NAME [LINE]"),
+        _ => fail(USAGE),
     };
     let line = line.map(|line| match line.parse::<usize>() {
         Ok(number) if number > 0 => number,
         _ => fail(&format!("LINE is the number of a line, from 1: {line}")),
     });
-    let mut bytes = Vec::new();
-    if let Err(error) = std::io::stdin().lock().read_to_end(&mut bytes) {
-        fail(&format!("{name} wasn't read to its end: {error}"));
-    }
-    let history = History::of(name, &bytes);
-    if history.log.entries.is_empty() && mode != "page" {
+    let history = History::of(name, &read(name, mode == "at"));
+    if history.log.entries.is_empty() && mode != "page" && mode != "whole" {
         fail(&format!("{name} is empty: there is no call"));
     }
     match (mode.as_str(), line) {
         ("replay", None) => replayed(&history),
         ("shrink", _) => shrunk(&history, line),
-        ("page", _) => shown(&history, line),
-        _ => fail("usage: history replay|shrink|page NAME [LINE]"),
+        ("page", _) => shown(&history, line, SHOWN),
+        ("whole", None) => shown(&history, None, usize::MAX),
+        ("breaks", None) => broken(&history, false),
+        ("breaks-json", None) => broken(&history, true),
+        ("set", Some(line)) => billed(&history, line, false),
+        ("set-json", Some(line)) => billed(&history, line, true),
+        ("at", Some(line)) => answered_at(&history, line),
+        _ => fail(USAGE),
     }
 }
 
-fn fail(message: &str) -> ! {
-    eprintln!("sheetdesk: {message}");
-    exit(2);
+/// All bytes of standard input, or of descriptor 3.
+fn read(name: &str, beside: bool) -> Vec<u8> {
+    let mut bytes = Vec::new();
+    let found = match beside {
+        true => std::fs::File::open("/dev/fd/3").and_then(|mut file| file.read_to_end(&mut bytes)),
+        false => std::io::stdin().lock().read_to_end(&mut bytes),
+    };
+    if let Err(error) = found {
+        fail(&format!("{name} wasn't read to its end: {error}"));
+    }
+    bytes
 }
 
 /// Writes it all; whoever takes it may have gone.
@@ -96,91 +116,18 @@ fn put(text: &str) {
     }
 }
 
-impl History {
-    fn of(name: &str, bytes: &[u8]) -> History {
-        let log = log::read(bytes);
-        let mut replay = Replay::fresh();
-        let answers = log.entries.iter().map(|entry| printed(&replay.make(entry))).collect();
-        History { name: name.to_string(), log, answers }
-    }
-
-    /// The first answer that isn't the log's, in words.
-    fn differs(&self) -> Option<String> {
-        let mut pairs = self.log.entries.iter().zip(&self.answers);
-        pairs.find_map(|(entry, answer)| {
-            let recorded = entry.recorded.as_ref().filter(|recorded| *recorded != answer)?;
-            let call = entry.shown();
-            Some(format!("line {}: {call} -> {answer}, the log has {recorded}", entry.line))
-        })
-    }
-
-    /// Tells the first line that is no call, and the first answer that isn't the log's. Gives the
-    /// exit status.
-    fn told_faults(&self) -> i32 {
-        let unread = self.log.entries.iter().find(|entry| entry.call.is_none());
-        if let Some(entry) = unread {
-            let (line, text) = (entry.line, entry.shown());
-            eprintln!("sheetdesk: line {line}: {text} -> unread: {}", words::unread(&entry.text));
-        }
-        let differs = self.differs();
-        if let Some(said) = &differs {
-            eprintln!("sheetdesk: {said}; see DIAGNOSTICS in --man");
-        }
-        if unread.is_some() || differs.is_some() {
-            2
-        } else {
-            0
-        }
-    }
-
-    /// The place of the entry in question: on the line, or the last that is broken or refused.
-    fn in_question(&self, line: Option<usize>) -> usize {
-        let entries = &self.log.entries;
-        let Some(line) = line else {
-            let wrong =
-                |answer: &String| answer.starts_with("broken") || answer.starts_with("refused");
-            return self.answers.iter().rposition(wrong).unwrap_or_else(|| {
-                fail(&format!("no answer in {} is broken or refused: name a line", self.name))
-            });
-        };
-        if line > self.log.lines {
-            fail(&format!("{} has {} lines: there is no line {line}", self.name, self.log.lines));
-        }
-        match self.log.at_line(line) {
-            Some(place) if entries[place].call.is_some() => place,
-            _ => fail(&format!("line {line} is no call: it is unread whatever stands before it")),
-        }
-    }
-
-    /// The calls that are left for the one in question, and what they are.
-    fn shrunk(&self, line: Option<usize>) -> (Vec<Entry>, String) {
-        let last = self.in_question(line);
-        let entries = &self.log.entries[..=last];
-        let left = shrink::shrink(entries);
-        let mut replay = Replay::fresh();
-        let answer = left.iter().fold(None, |_, place| replay.make(&entries[*place]));
-        if printed(&answer) != self.answers[last] {
-            fail("the shorter list has another answer: that is a fault of this program");
-        }
-        let said = format!(
-            "{} of {} calls are left; line {} is still answered \"{}\", and leaving out any one of \
-             them changes that. It is a history that suffices, not necessarily the one meant.",
-            left.len(),
-            self.log.entries.len(),
-            entries[last].line,
-            self.answers[last]
-        );
-        (left.into_iter().map(|place| entries[place].clone()).collect(), said)
-    }
-}
-
 fn replayed(history: &History) {
     if !history.log.is_log {
-        fail(&format!("{} has no answers: a log has one behind each call", history.name));
+        let (name, ends) = (&history.name, history.line_ends());
+        fail(&format!("{name} has no answers: a log has one behind each call{ends}"));
     }
-    if let Some(said) = history.differs() {
+    let lost = history.told_lost();
+    let differs = history.differs();
+    if let Some(said) = &differs {
         eprintln!("sheetdesk: {said}");
-        exit(1);
+    }
+    if lost || differs.is_some() {
+        exit(if lost { 2 } else { 1 });
     }
     let answered = history.log.entries.iter().filter(|entry| entry.recorded.is_some()).count();
     put(&format!("{answered} calls, each answered as the log has it\n"));
@@ -204,14 +151,18 @@ fn shrunk(history: &History, line: Option<usize>) {
     exit(status);
 }
 
-fn shown(history: &History, line: Option<usize>) {
+/// The page: of more calls than `most`, what is left for the one in question.
+fn shown(history: &History, line: Option<usize>, most: usize) {
     let status = history.told_faults();
     let entries = &history.log.entries;
-    let mut head = Head { name: &history.name, shrunk: None };
-    let parts = if line.is_some() || entries.len() > SHOWN {
+    let answered = entries.iter().map(|entry| entry.line).zip(history.answers.iter());
+    let (name, answered) = (&history.name, answered.collect());
+    let mut head = Head { name, answered, shrunk: None, most: most.max(page::MOST) };
+    let parts = if line.is_some() || entries.len() > most {
         let (left, said) = history.shrunk(line);
+        let whole = &entries[..=history.in_question(line)];
         head.shrunk = Some(said);
-        story::tell(&left)
+        story::kept(story::tell(whole), &left)
     } else {
         story::tell(entries)
     };
@@ -220,4 +171,51 @@ fn shown(history: &History, line: Option<usize>) {
         fail(&format!("{} is empty: the page shows no call", history.name));
     }
     exit(status);
+}
+
+/// Every break, for tickets.
+fn broken(history: &History, json: bool) {
+    let status = history.told_faults();
+    let parts = story::tell(&history.log.entries);
+    match json {
+        true => put(&format!("{}\n", tickets::json(history, &parts))),
+        false => put(&names::applied_to_lines(&tickets::text(history, &parts))),
+    }
+    exit(status);
+}
+
+/// The bill of the run that the line's call is about.
+fn billed(history: &History, line: usize, json: bool) {
+    let status = history.told_faults();
+    let entries = &history.log.entries[..=history.in_question(Some(line))];
+    let Some(bill) = bill::bill(entries) else {
+        fail(&format!("line {line} is no call of a run: name a step, an issue or the like"));
+    };
+    match json {
+        true => put(&format!("{}\n", bill.json())),
+        false => put(&bill.text()),
+    }
+    exit(status);
+}
+
+/// Answers the calls on standard input, on the desk as the line left it.
+fn answered_at(history: &History, line: usize) {
+    let status = history.told_faults();
+    let mut replay = Replay::fresh();
+    for entry in &history.log.entries[..=history.in_question(Some(line))] {
+        replay.make(entry);
+    }
+    let mut input = std::io::stdin().lock();
+    loop {
+        let mut line = Vec::new();
+        match input.read_until(b'\n', &mut line) {
+            Ok(0) => exit(status),
+            Ok(_) if line.starts_with(b"#") => {}
+            Ok(_) => {
+                let call = text::read_line(text::without_end(&line));
+                put(&format!("{}\n", printed(&call.map(|call| replay.ask(&call)))));
+            }
+            Err(error) => fail(&format!("not all calls were read: {error}")),
+        }
+    }
 }

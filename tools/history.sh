@@ -25,11 +25,11 @@ compile_history() {
 }
 
 build_history() {
-  command -v rustc >/dev/null || fail "rustc is not on the PATH: it builds what --replay, --shrink and --page run"
+  command -v rustc >/dev/null || fail "rustc is not on the PATH: it builds what --replay, --page and the like run"
   mkdir -p "$top/target" 2>/dev/null
   lock || fail "$top/target can't be written, and what --$mode runs has to be built"
   if ! history_is_current; then
-    echo "sheetdesk: building what --replay, --shrink and --page run" >&2
+    echo "sheetdesk: building what --replay, --page and the like run" >&2
     build_library
     compile_history || fail "the build of tools/history.rs failed"
   fi

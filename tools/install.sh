@@ -53,8 +53,8 @@ layout=$(defined LAYOUT)
 Name: sheetdesk
 Description: the sheet desk, its calls over one lent buffer of words
 Version: $version
-Cflags: -I\${includedir}
-Libs: -L\${libdir} -lsheetdesk_c
+Cflags: -I"\${includedir}"
+Libs: -L"\${libdir}" -lsheetdesk_c
 END
 }
 
@@ -64,7 +64,7 @@ place() {
   mkdir -p "$at/bin" "$at/lib/pkgconfig" "$at/include" "$at/share/sheetdesk" || exit 2
   mkdir -p "$at/lib/sheetdesk/"{target/bin,target/tools,tools,docs,embed} || exit 2
   install -m 755 sheetdesk "$at/lib/sheetdesk/" && install -m 755 "$program" "$at/lib/sheetdesk/target/bin/" &&
-    install -m 644 tools/run.sh tools/words.sh tools/history.sh "$at/lib/sheetdesk/tools/" &&
+    install -m 644 tools/run.sh tools/words.sh tools/words.awk tools/history.sh "$at/lib/sheetdesk/tools/" &&
     install -m 644 docs/USER.md docs/page.png "$at/lib/sheetdesk/docs/" &&
     install -m 644 embed/sheetdesk.h embed/sheetdesk_record.h embed/sheetdesk_reason.h "$at/include/" &&
     install -m 644 "$library" "$at/lib/" && install -m 755 "target/shared/$shared" "$at/lib/" &&

@@ -3,72 +3,120 @@
 //! its end.
 
 use super::marks::{self, fitted};
+use super::names;
+use super::page::escaped;
 use super::story::{Lane, Row, Shelf, State};
 use super::versions::Issue;
 use super::words::sheet_list;
 
 /// Room for the labels of issues, left of the master's lane.
-const LEFT: usize = 150;
-/// Where a row's first arrow stands, and how far the next one is from it.
-pub const FIRST: usize = 20;
-pub const NEXT: usize = 18;
+const LEFT: usize = 116;
+/// Room for the paths of breaks, right of it.
+const GUTTER: usize = 24;
+/// Where a row's first arrow stands, and how far the next one is from it. Above is a channel for
+/// the paths of breaks.
+pub const FIRST: usize = 28;
+pub const NEXT: usize = 20;
+/// Lanes that are nearer than this have only their numbers on top, and the noun once.
+const NAMED: usize = 66;
 
-/// How the lanes of a desk lie.
+/// Wider lanes are printed across.
+pub const UPRIGHT: usize = 690;
+
+/// How the lanes of a desk lie: those that some row touches.
 pub struct Lanes {
-    offices: usize,
-    runs: usize,
+    offices: Vec<usize>,
+    runs: Vec<usize>,
     pub gap: usize,
 }
 
 impl Lanes {
-    pub fn of(offices: usize, runs: usize) -> Lanes {
-        Lanes { offices, runs, gap: (640 / (1 + offices + runs)).clamp(62, 92) }
+    pub fn of(offices: Vec<usize>, runs: Vec<usize>) -> Lanes {
+        let gap = (520 / (1 + offices.len() + runs.len())).clamp(36, 92);
+        Lanes { offices, runs, gap }
     }
 
     fn all(&self) -> Vec<Lane> {
-        let offices = (0..self.offices).map(Lane::Office);
-        let runs = (0..self.runs).map(Lane::Run);
+        let offices = self.offices.iter().map(|office| Lane::Office(*office));
+        let runs = self.runs.iter().map(|run| Lane::Run(*run));
         [Lane::Master].into_iter().chain(offices).chain(runs).collect()
     }
 
     pub fn at(&self, lane: Lane) -> usize {
+        let place = |list: &[usize], at: usize| list.iter().position(|n| *n == at).unwrap_or(0);
         match lane {
             Lane::Master => LEFT,
-            Lane::Office(office) => LEFT + self.gap * (1 + office),
-            Lane::Run(run) => LEFT + self.gap * (1 + self.offices + run) + 12,
+            Lane::Office(office) => self.first_office() + self.gap * place(&self.offices, office),
+            Lane::Run(run) => self.first_run() + self.gap * place(&self.runs, run),
         }
     }
 
+    fn first_office(&self) -> usize {
+        LEFT + GUTTER + self.gap
+    }
+
+    fn first_run(&self) -> usize {
+        self.first_office() + self.gap * self.offices.len() + 12
+    }
+
     pub fn width(&self) -> usize {
-        self.at(Lane::Run(self.runs)) - self.gap + 64
+        self.first_run() + self.gap * self.runs.len().saturating_sub(1) + self.gap.max(48) - 10
     }
 
     /// The names on top of the lanes.
     pub fn head(&self) -> String {
         let head = |lane: Lane| {
             let (name, x) = (name(lane), self.at(lane));
-            format!("<text class=\"head\" data-lane=\"{name}\" x=\"{x}\" y=\"19\">{name}</text>")
+            let shown = match (self.gap < NAMED, lane) {
+                (true, Lane::Office(number)) => names::name("office", number),
+                (true, Lane::Run(number)) => number.to_string(),
+                _ => names::applied(&name),
+            };
+            // A name that is too long is cut; the rows have it whole.
+            let room = if lane == Lane::Master { 6 } else { self.gap / 7 };
+            let shown = escaped(&shown.chars().take(room).collect::<String>());
+            format!("<text class=\"head\" data-lane=\"{name}\" x=\"{x}\" y=\"34\">{shown}</text>")
         };
-        let heads = self.all().into_iter().map(head).collect::<String>();
+        let mut heads = self.all().into_iter().map(head).collect::<String>();
+        if self.gap < NAMED {
+            let groups = [(&self.offices, self.first_office(), "offices")];
+            for (list, x, noun) in groups.iter().chain(&[(&self.runs, self.first_run(), "runs")]) {
+                if !list.is_empty() {
+                    heads.push_str(&format!(
+                        "<text class=\"group\" x=\"{}\" y=\"16\">{noun}</text>",
+                        x - 8
+                    ));
+                }
+            }
+        }
         let width = self.width();
         format!(
-            "<svg class=\"heads\" width=\"{width}\" height=\"28\" aria-hidden=\"true\">\
+            "<svg class=\"heads\" width=\"{width}\" height=\"42\" aria-hidden=\"true\">\
              {heads}</svg>"
         )
     }
 
-    /// The row's drawing; `before` is the row above it, of the same desk.
-    pub fn row(&self, row: &Row, before: Option<&Row>, issue: Option<&Issue>) -> String {
-        let mut svg = String::from("<svg aria-hidden=\"true\">");
+    /// The row's drawing; `before` is the row above it, of the same desk, `paths` what is drawn
+    /// in it of the paths of breaks.
+    pub fn row(
+        &self,
+        row: &Row,
+        before: Option<&Row>,
+        issue: Option<&Issue>,
+        paths: &str,
+    ) -> String {
+        let mut svg = format!("<svg aria-hidden=\"true\" width=\"{}\">", self.width());
         svg.push_str(&self.line(Lane::Master, "master", 0, None));
-        for (office, shelf) in row.shelves.iter().enumerate() {
-            let was = before.and_then(|row| row.shelves.get(office)).copied().unwrap_or_default();
-            svg.push_str(&self.shelf(office, was, *shelf, below(row)));
+        for office in self.offices.iter().filter(|office| **office < row.shelves.len()) {
+            let was = before.and_then(|row| row.shelves.get(*office)).copied();
+            let is = row.shelves[*office];
+            svg.push_str(&self.shelf(*office, was.unwrap_or_default(), is, below(row)));
         }
-        for (run, state) in row.runs.iter().enumerate() {
-            let was = before.and_then(|row| row.runs.get(run)).copied().unwrap_or_default();
-            svg.push_str(&self.run(run, was, *state));
+        for run in self.runs.iter().filter(|run| **run < row.runs.len()) {
+            let was = before.and_then(|row| row.runs.get(*run)).copied().unwrap_or_default();
+            svg.push_str(&self.run(*run, was, row.runs[*run]));
         }
+        svg.push_str(paths);
         for (place, arrow) in row.arrows.iter().enumerate() {
             svg.push_str(&marks::arrow(self, arrow, FIRST + NEXT * place));
         }
@@ -93,12 +141,13 @@ impl Lanes {
         let lane = Lane::Office(office);
         let mut svg = self.line(lane, shelf_class(was), 0, Some(FIRST));
         svg.push_str(&self.line(lane, shelf_class(is), FIRST, None));
-        if was.stale != is.stale {
-            let said = match (is.held, is.stale) {
-                (0, _) => String::from("empty"),
-                (_, 0) => String::from("not stale"),
-                (_, stale) => fitted("stale ", stale, self.gap),
-            };
+        let said = match (is.held, is.stale) {
+            (0, _) => String::from("empty"),
+            (_, 0) => String::from("not stale"),
+            (_, stale) => fitted("stale ", stale, self.gap),
+        };
+        // Lanes that are near each other have no room for words.
+        if was.stale != is.stale && said.len() * 7 <= self.gap {
             let (x, stale) = (self.at(lane) + 6, is.stale);
             svg.push_str(&format!(
                 "<text class=\"stale\" data-office=\"{office}\" data-stale=\"{stale}\" \
@@ -127,9 +176,13 @@ impl Lanes {
         let (edge, inside) = match state {
             State::Free => return String::new(),
             State::Open => ("edge", "open"),
-            State::Broken => ("edge broken", "broken"),
+            State::Broken => ("edge broken", "open"),
         };
-        format!("{}{}", self.line(lane, edge, from, to), self.line(lane, inside, from, to))
+        let mut bar = self.line(lane, edge, from, to) + &self.line(lane, inside, from, to);
+        if state == State::Broken {
+            bar.push_str(&self.line(lane, "broken", from, to));
+        }
+        bar
     }
 }
 
@@ -140,7 +193,8 @@ fn below(row: &Row) -> usize {
 
 /// How high a row must be for what is drawn in it.
 pub fn height(row: &Row) -> usize {
-    below(row) + if row.rivals.is_empty() { 8 } else { 12 }
+    let labels = if row.rivals.is_empty() { 8 } else { 16 };
+    below(row) + labels + if row.issue > Some(99) { 8 } else { 0 }
 }
 
 pub fn name(lane: Lane) -> String {

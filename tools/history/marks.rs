@@ -1,6 +1,8 @@
 //! What stands on the lanes: arrows with their sheets, points with their issue, small marks.
 
 use super::draw::{name, Lanes, FIRST};
+use super::names::applied;
+use super::page::escaped;
 use super::story::{Arrow, Kind, Lane, Row};
 use super::versions::Issue;
 use super::words::{ranges, sheet_list};
@@ -33,7 +35,7 @@ pub fn arrow(lanes: &Lanes, arrow: &Arrow, y: usize) -> String {
         name(arrow.from),
         name(arrow.to),
         arrow.sheets,
-        sheet_list(arrow.sheets)
+        escaped(&applied(&sheet_list(arrow.sheets)))
     )
 }
 
@@ -73,22 +75,31 @@ pub fn point(lanes: &Lanes, row: &Row, issue: &Issue) -> String {
         _ => ("point rival", format!("<path d=\"M{x} {}l13 13l-13 13l-13 -13z\"/>", FIRST - 13)),
     };
     let noun = if issue.sheets.count_ones() == 1 { "sheet " } else { "sheets " };
-    let mut labels = vec![format!("writer {}", issue.writer), fitted(noun, issue.sheets, 130)];
+    let writer = escaped(&applied(&format!("writer {}", issue.writer)));
+    let mut labels = vec![writer, fitted(noun, issue.sheets, 98)];
+    // A number of three digits has no room in the disc.
+    let inside = match issue.number {
+        0..=99 => issue.number.to_string(),
+        _ => String::new(),
+    };
+    if inside.is_empty() {
+        labels.insert(0, format!("issue {}", issue.number));
+    }
     if rivals != 0 {
-        labels.push(fitted("rivals on ", rivals, 130));
+        labels.push(fitted("rivals on ", rivals, 98));
     }
     let side = |(place, label): (usize, &String)| {
-        let (x, y) = (x - 18, FIRST - 3 + 13 * place);
+        let (x, y) = (x - 18, FIRST - 3 + 15 * place - if issue.number > 99 { 10 } else { 0 });
         format!("<text class=\"side\" x=\"{x}\" y=\"{y}\">{label}</text>")
     };
     format!(
         "<g class=\"{class}\" data-issue=\"{0}\" data-writer=\"{1}\" data-sheets=\"{2}\" \
          data-rivals=\"{rivals}\"><title>issue {0}, writer {1}: {5}</title>{shape}\
-         <text class=\"number\" x=\"{x}\" y=\"{3}\">{0}</text>{4}</g>",
+         <text class=\"number\" x=\"{x}\" y=\"{3}\">{inside}</text>{4}</g>",
         issue.number,
         issue.writer,
         issue.sheets,
-        FIRST + 4,
+        FIRST + 5,
         labels.iter().enumerate().map(side).collect::<String>(),
         sheet_list(issue.sheets)
     )
@@ -103,7 +114,7 @@ pub fn fitted(word: &str, mask: u32, room: usize) -> String {
     };
     let text =
         format!("{word}{}", ranges(mask).iter().map(range).collect::<Vec<String>>().join(" "));
-    if text.chars().count() * 6 <= room {
+    if text.chars().count() * 7 <= room {
         return text;
     }
     format!("{word}({})", mask.count_ones())

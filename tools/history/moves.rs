@@ -1,10 +1,10 @@
 //! What the calls that were done have moved: arrows, versions, plain words.
 
+use super::copies::Saves;
 use super::story::{Arrow, Kind, Lane, Row, State};
-use super::told::Told;
+use super::told::{Brought, Told};
 use super::versions::{held, mask, sheets};
 use super::words::{self, sheet_list, version_list};
-use crate::book::saves::Saves;
 use crate::text::Call;
 
 impl Told {
@@ -61,9 +61,10 @@ impl Told {
     pub fn prepare(&mut self, row: &mut Row, call: &Call, run: usize) {
         let before = self.book.shelves.clone();
         self.book.feed(call, true);
-        let mut fetched = Vec::new();
+        let (mut fetched, mut taken_at) = (Vec::new(), Vec::new());
         for (office, shelf) in self.book.shelves.iter().enumerate() {
             let taken = mask(self.book.k, |k| !shelf[k].same(&before[office][k]));
+            taken_at.push(taken);
             if taken != 0 {
                 row.arrows.push(Arrow::fetch(office, taken));
                 let versions = self.versions(shelf, taken);
@@ -71,10 +72,13 @@ impl Told {
             }
         }
         let (jobs, plan) = (&self.book.runs[run].jobs, self.book.runs[run].plan());
+        self.brought[run].clear();
         for (office, shelf) in self.book.shelves.iter().enumerate() {
             let sheets = held(shelf) & plan;
             if jobs.iter().any(|job| job.office == office) && sheets != 0 {
                 row.arrows.push(Arrow::read(office, run, sheets));
+                let brought = Brought::of(sheets, office, row.line, taken_at[office]);
+                self.brought[run].extend(brought);
             }
         }
         let card = &self.book.runs[run].card;
@@ -99,6 +103,7 @@ impl Told {
                 self.reads[run].push((k, row.line));
             }
         }
+        self.brought[run].extend(Brought::of(found.set, office, row.line, found.fetched));
         if found.fetched != 0 {
             row.arrows.push(Arrow::fetch(office, found.fetched));
         }
@@ -116,8 +121,9 @@ impl Told {
         };
         let more = self.versions(&self.book.runs[run].card, found.set & !reads);
         if !more.is_empty() {
-            let more = version_list(&more);
-            row.words.push_str(&format!(" The card also takes {more}, which is needed with it."));
+            let are = if more.len() == 1 { "is" } else { "are" };
+            let more = words::version_series(&more);
+            row.words.push_str(&format!(" The card also takes {more}, which {are} needed."));
         }
     }
 
@@ -144,8 +150,8 @@ impl Told {
             row.words = format!("Run {run} ends; nothing is saved.");
             return;
         }
-        self.issues.enter(&self.book.ledger, writer, mask, reads);
-        let number = self.issues.all.len() as u32;
+        self.issues.enter(&self.book, row.line, writer, mask, reads);
+        let number = self.issues.count();
         let (from, to) = (Lane::Run(run), Lane::Master);
         row.arrows.push(Arrow { kind: Kind::Issue, from, to, sheets: mask });
         row.issue = Some(number);
@@ -167,6 +173,15 @@ impl Told {
             _ => ", older than the master's",
         };
         row.words = format!("{name} has {}{standing}.", version_list(&row.versions));
+    }
+}
+
+impl Brought {
+    fn of(set: u32, office: usize, line: usize, fetched: u32) -> impl Iterator<Item = Brought> {
+        sheets(set).map(move |sheet| {
+            let fetched = fetched >> sheet & 1 == 1;
+            Brought { sheet, office, line, fetched }
+        })
     }
 }
 

@@ -1,25 +1,27 @@
 "use strict";
-// Goes from call to call by keyboard, and draws over the lanes what stands behind what: always for
-// a break, and for the call that is pointed at or gone to.
+// Goes from call to call by keyboard, and draws over the lanes what stands behind the call that is pointed at or gone to; shows
+// its path, if it breaks or would break a run, and only the rows about a sheet.
 (function () {
   const SVG = "http://www.w3.org/2000/svg";
   const rows = Array.from(document.querySelectorAll(".row"));
+  const which = document.getElementById("which"), last = which.textContent;
   let shown = null;
 
   function numbers(row, name) {
     return (row.getAttribute("data-" + name) || "").split(" ").filter(Boolean);
   }
 
-  // The row of an issue; of a long list only the last rows are on the page.
+  // The row of an issue; of a long list only the last rows are on the page, and some may be hidden.
   function rowOf(part, issue) {
-    return part.querySelector(`.row[data-issue="${issue}"]`);
+    const row = part.querySelector(`.row[data-issue="${issue}"]`);
+    return row && row.offsetParent !== null ? row : null;
   }
 
   // Where a lane is in a row, in the part's own measure.
   function spot(part, row, lane) {
     const head = part.querySelector(`.head[data-lane="${lane}"]`);
     const top = part.getBoundingClientRect().top;
-    return { x: Number(head.getAttribute("x")), y: row.getBoundingClientRect().top - top + 20 };
+    return { x: Number(head.getAttribute("x")), y: row.getBoundingClientRect().top - top + 28 };
   }
 
   function add(part, name, attributes, text) {
@@ -55,49 +57,52 @@
     numbers(row, row.hasAttribute("data-issue") ? "issue" : "versions").forEach(follow);
   }
 
-  // The path of a break: from the job over the issues to the step that had read the older one.
-  function drawPath(part, row) {
-    const lane = row.getAttribute("data-run");
-    const name = row.querySelector(".would") ? "path would" : "path";
-    const path = numbers(row, "path"), sheets = numbers(row, "sheets");
-    let from = spot(part, row, lane);
-    let x = from.x - 8, y = from.y + 8;
-    path.forEach(function (issue, place) {
-      if (issue === path[place - 1] || !rowOf(part, issue)) return;
-      const at = spot(part, rowOf(part, issue), "master");
-      const side = at.x + 20 + (6 * place) % 24;
-      const same = sheets.filter((sheet, other) => other >= place &&
-        path.slice(place, other + 1).every((next) => next === issue));
-      add(part, "path", { class: name, d: `M${x} ${y}H${side}V${at.y + 8}H${at.x + 13}` });
-      add(part, "text", { x: at.x + 46, y: at.y - 9 }, "sheet " + same.join(" \u2192 "));
-      ring(part, at, "ring");
-      x = at.x + 13;
-      y = at.y - 5;
-    });
-    const read = document.getElementById("line" + row.getAttribute("data-read"));
-    if (!read) return;
-    const had = spot(part, read, lane);
-    add(part, "path", { class: name, d: `M${x} ${y}H${had.x - 22}V${had.y}H${had.x - 14}` });
-    ring(part, had, "ring");
-  }
-
   function draw() {
     for (const part of document.querySelectorAll(".part")) {
       const over = part.querySelector(".over");
       if (!over) continue;
       over.textContent = "";
-      for (const row of part.querySelectorAll(".row[data-path]")) {
-        if (row === shown || row.classList.contains("broken")) drawPath(part, row);
-      }
       if (shown && part.contains(shown)) drawBehind(part, shown);
     }
   }
 
+  // The row's own path is drawn, or that of the last break.
   function show(row) {
     if (shown) shown.classList.remove("shown");
     shown = row;
     shown.classList.add("shown");
+    const own = row.hasAttribute("data-path");
+    which.textContent = own ? `svg .p${row.dataset.line} { display: inline; }` : last;
     draw();
+  }
+
+  // Only the rows about a sheet; folds open if one of their rows is.
+  function only(sheet) {
+    for (const row of rows) {
+      row.classList.toggle("off", sheet !== "" && !(row.dataset.touched >>> sheet & 1));
+    }
+    for (const fold of document.querySelectorAll(".fold")) {
+      fold.classList.toggle("off", !fold.querySelector(".row:not(.off)"));
+    }
+    draw();
+  }
+
+  // A fold opens for a link to a row in it.
+  function unfold() {
+    const row = document.getElementById(location.hash.slice(1));
+    const fold = row && row.closest(".fold details");
+    if (fold && !fold.open) {
+      fold.open = true;
+      row.scrollIntoView();
+    }
+  }
+
+  // The next row that is seen, up or down from a place.
+  function seen(place, by) {
+    for (let at = place; rows[at]; at += by) {
+      if (rows[at].offsetParent !== null) return rows[at];
+    }
+    return null;
   }
 
   // One row is in the order of the Tab key: the one last gone to.
@@ -110,11 +115,13 @@
     row.addEventListener("mouseenter", () => show(row));
     row.addEventListener("focusin", () => { stop(row); show(row); });
     row.addEventListener("keydown", function (event) {
-      const to = { ArrowDown: place + 1, ArrowUp: place - 1, Home: 0, End: rows.length - 1 };
+      const to = { ArrowDown: [place + 1, 1], ArrowUp: [place - 1, -1], Home: [0, 1],
+        End: [rows.length - 1, -1] }[event.key];
+      const next = to && seen(to[0], to[1]);
       const details = row.querySelector("details");
-      if (event.key in to && rows[to[event.key]]) {
+      if (next) {
         event.preventDefault();
-        rows[to[event.key]].focus();
+        next.focus();
       } else if (event.key === "Enter" && event.target === row && details) {
         details.open = !details.open;
       }
@@ -122,6 +129,10 @@
   });
   document.addEventListener("toggle", draw, true);
   window.addEventListener("resize", draw);
-  if (rows.length) stop(rows[0]);
+  window.addEventListener("hashchange", unfold);
+  const filter = document.getElementById("filter");
+  if (filter) filter.addEventListener("change", () => only(filter.value));
+  if (seen(0, 1)) stop(seen(0, 1));
+  unfold();
   draw();
 })();

@@ -77,7 +77,7 @@ fn mixed(number: u128) -> u128 {
 }
 
 /// One call of the library.
-fn call_on(desk: &mut [u32], call: &Call) -> Answer {
+pub fn call_on(desk: &mut [u32], call: &Call) -> Answer {
     let mut words = [0; ANSWER_WORDS];
     let count = library::call(desk, call, &mut words) as usize;
     Answer::of(&words[..count]).expect("the library writes an answer")

@@ -1,9 +1,10 @@
-//! What each call did: the library's answers, and the book's copies before and after it.
+//! What each call did: the library's answers, and the desk's copies before and after it.
 
 use super::log::Entry;
 use super::replay::{printed, Replay};
-use super::told::Told;
-use super::versions::{Issue, Version};
+use super::remedy::Remedy;
+use super::told::{Brought, Told};
+use super::versions::{Issues, Version};
 use super::words;
 use crate::desk::Answer;
 use crate::text::Call;
@@ -14,7 +15,7 @@ pub struct Part {
     /// Sheets, writers, offices, runs.
     pub sizes: Option<[usize; 4]>,
     pub rows: Vec<Row>,
-    pub issues: Vec<Issue>,
+    pub issues: Issues,
 }
 
 /// A call with its answer, what it moved, and how things stand behind it.
@@ -37,7 +38,9 @@ pub struct Row {
     pub rivals: Vec<Version>,
     /// The versions that it moved or showed.
     pub versions: Vec<Version>,
-    pub chain: Option<Chain>,
+    /// For each sheet that a break would move, explain's own path first.
+    pub chains: Vec<Chain>,
+    pub broken: Option<Broken>,
     pub shelves: Vec<Shelf>,
     pub runs: Vec<State>,
 }
@@ -69,18 +72,37 @@ pub struct Arrow {
     pub sheets: u32,
 }
 
+/// A sheet of a path, as it is on the shelf, and the next one: as it needs that, and as the shelf
+/// has it.
+pub struct Link {
+    pub from: Version,
+    pub needs: Version,
+    pub shelf: Version,
+}
+
 /// The path behind a break.
 pub struct Chain {
-    /// Each sheet but the last, as it is on the shelf, and the next one as it needs that.
-    pub links: Vec<(Version, Version)>,
+    pub links: Vec<Link>,
     /// The last sheet as the run had read it.
     pub read: Version,
     /// The line of the step that had read it.
     pub read_at: usize,
     pub run: usize,
+    /// The office of the job that breaks the run.
+    pub office: usize,
     pub sentence: String,
+    /// Where what the run had read came from.
+    pub brought: Vec<Brought>,
     /// Of explain: the step isn't made.
     pub would: bool,
+}
+
+/// A step that broke its run.
+pub struct Broken {
+    pub run: usize,
+    pub job: usize,
+    pub office: usize,
+    pub remedy: Remedy,
 }
 
 /// The sheets that a shelf holds, and those of them that are stale.
@@ -100,6 +122,11 @@ pub enum State {
 
 /// Makes the calls and tells what each did.
 pub fn tell(entries: &[Entry]) -> Vec<Part> {
+    tell_on(entries).0
+}
+
+/// The same, and the desk as it stands then; its issues are in the last part.
+pub fn tell_on(entries: &[Entry]) -> (Vec<Part>, Option<Told>) {
     let mut replay = Replay::fresh();
     let mut parts = vec![Part::default()];
     let mut told = None::<Told>;
@@ -107,7 +134,7 @@ pub fn tell(entries: &[Entry]) -> Vec<Part> {
         let path = path_of(&mut replay, entry);
         let answer = replay.make(entry);
         if let (Some(Call::New(sizes)), Some(Answer::Ok(_))) = (&entry.call, &answer) {
-            enter_issues(&mut parts, told.replace(Told::new(*sizes)));
+            enter_issues(&mut parts, told.replace(Told::new(*sizes)).as_mut());
             let sizes = Some(sizes.map(|count| count as usize));
             parts.push(Part { sizes, ..Part::default() });
         }
@@ -118,15 +145,39 @@ pub fn tell(entries: &[Entry]) -> Vec<Part> {
             part.rows.push(row);
         }
     }
-    enter_issues(&mut parts, told);
+    enter_issues(&mut parts, told.as_mut());
+    parts.retain(|part| !part.rows.is_empty());
+    (parts, told)
+}
+
+/// Of a list that was told whole the rows that are left for its last call, and those that the
+/// last call names: the saves, and the steps that had read.
+pub fn kept(mut parts: Vec<Part>, left: &[Entry]) -> Vec<Part> {
+    let (mut issues, mut reads) = (Vec::new(), Vec::new());
+    let last = parts.last().and_then(|part| part.rows.last());
+    let moved = last.iter().flat_map(|row| &row.versions);
+    issues.extend(moved.flat_map(|version| version.issues.clone()));
+    for chain in last.iter().flat_map(|row| &row.chains) {
+        let links = chain.links.iter().flat_map(|link| [&link.from, &link.needs]);
+        issues.extend(links.chain([&chain.read]).flat_map(|version| version.issues.clone()));
+        reads.push(chain.read_at);
+    }
+    let count = parts.len();
+    for (place, part) in parts.iter_mut().enumerate() {
+        part.rows.retain(|row| {
+            let named = row.issue.is_some_and(|issue| issues.contains(&issue));
+            left.binary_search_by_key(&row.line, |entry| entry.line).is_ok()
+                || place + 1 == count && (named || reads.contains(&row.line))
+        });
+    }
     parts.retain(|part| !part.rows.is_empty());
     parts
 }
 
 /// The last part is told: its issues.
-fn enter_issues(parts: &mut [Part], told: Option<Told>) {
+fn enter_issues(parts: &mut [Part], told: Option<&mut Told>) {
     if let (Some(part), Some(told)) = (parts.last_mut(), told) {
-        part.issues = told.issues.all;
+        part.issues = std::mem::take(&mut told.issues);
     }
 }
 

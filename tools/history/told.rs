@@ -1,11 +1,11 @@
 //! A desk's history so far, and what each call adds to it.
 
 use super::breaks;
-use super::story::{Arrow, Kind, Lane, Row, Shelf, State};
+use super::copies::{Book, Saves};
+use super::remedy;
+use super::story::{Arrow, Broken, Kind, Lane, Row, Shelf, State};
 use super::versions::{held, sheets, Issues, Version};
 use super::words;
-use crate::book::saves::Saves;
-use crate::book::Book;
 use crate::desk::Answer;
 use crate::text::Call;
 
@@ -15,6 +15,20 @@ pub struct Told {
     pub runs: Vec<State>,
     /// For each run the sheets that it has read, with the line of the step.
     pub reads: Vec<Vec<(usize, usize)>>,
+    /// For each run the sheets that were put on its card.
+    pub brought: Vec<Vec<Brought>>,
+}
+
+/// A sheet that was put on a card.
+#[derive(Clone)]
+pub struct Brought {
+    pub sheet: usize,
+    /// The office whose shelf had it.
+    pub office: usize,
+    /// The line of the call.
+    pub line: usize,
+    /// The shelf took it from the master by the same call.
+    pub fetched: bool,
 }
 
 impl Told {
@@ -25,21 +39,23 @@ impl Told {
             issues: Issues::default(),
             runs: vec![State::Free; runs],
             reads: vec![Vec::new(); runs],
+            brought: vec![Vec::new(); runs],
         }
     }
 
-    /// Feeds the book with the call and fills the row; `path` is what explain gives for its job.
+    /// Makes the call on the book's desk and fills the row; `path` is what explain gives for its
+    /// job.
     pub fn work(&mut self, row: &mut Row, call: &Call, answer: &Answer, path: Option<Vec<u32>>) {
         row.lane = self.lane_of(call);
         row.only_answers = call.only_answers();
         if let (Call::Step(run, job) | Call::Explain(run, job), Some(path)) = (call, path) {
             let would = matches!(call, Call::Explain(..));
-            row.chain = breaks::chain(self, *run as usize, *job as usize, &path, would);
+            row.chains = breaks::chains(self, *run as usize, *job as usize, &path, would);
         }
         match (call, answer) {
             (_, Answer::Ok(numbers)) => self.done(row, call, numbers),
             (Call::Step(run, job), Answer::Broken(mask)) => {
-                self.broken(row, *run as usize, *job as usize, *mask)
+                self.broken(row, call, *run as usize, *job as usize, *mask)
             }
             (Call::Explain(run, job), Answer::Clear) => {
                 row.words = format!("Job {job} of run {run} would go through.");
@@ -134,18 +150,22 @@ impl Told {
     pub fn set_run(&mut self, run: usize, state: State) {
         self.runs[run] = state;
         self.reads[run].clear();
+        self.brought[run].clear();
     }
 
     /// The versions that these copies have of the sheets.
     pub fn versions(&self, copies: &[Saves], mask: u32) -> Vec<Version> {
-        let version = |k: usize| self.issues.version(&self.book, k, &copies[k]);
+        let version = |k: usize| self.issues.version(k, &copies[k]);
         sheets(mask).map(version).collect()
     }
 
-    fn broken(&mut self, row: &mut Row, run: usize, job: usize, mask: u32) {
+    fn broken(&mut self, row: &mut Row, call: &Call, run: usize, job: usize, mask: u32) {
         let office = self.book.runs[run].jobs[job].office;
         let sheets = self.book.find_step(run, job).off_card;
         self.runs[run] = State::Broken;
+        self.book.feed(call, false);
+        let remedy = remedy::remedy(&self.book, run, mask);
+        row.broken = Some(Broken { run, job, office, remedy });
         let (from, to) = (Lane::Office(office), Lane::Run(run));
         row.arrows.push(Arrow { kind: Kind::Break, from, to, sheets });
         row.words = format!(

@@ -1,9 +1,6 @@
-//! What the book knows, by issue numbers: which version a copy is, and which issues stand behind
-//! one.
+//! Versions by issue numbers: which one a copy is, and which issues stand behind one.
 
-use crate::book::ledger::Ledger;
-use crate::book::saves::Saves;
-use crate::book::{has, Book};
+use super::copies::{Book, Saves};
 
 /// A sheet's version, by the issues of its leading saves: two or more are rivals.
 #[derive(Clone, PartialEq, Eq, Debug)]
@@ -15,62 +12,96 @@ pub struct Version {
 /// An issue and what stands behind it.
 pub struct Issue {
     pub number: u32,
+    /// The line of the call.
+    pub line: usize,
     pub writer: usize,
+    /// How many issues its writer has by then.
+    pub count: u32,
     pub sheets: u32,
     /// The writer's own issue before it.
     pub own: Option<u32>,
     /// What its run had read.
     pub reads: Vec<Version>,
-    /// All issues that stand behind it, in order.
-    pub behind: Vec<u32>,
-}
-
-/// A save of the book's ledger, which numbers them as they are entered.
-struct Save {
-    issue: u32,
-    writer: usize,
+    /// For each sheet and writer the last save behind it, its own too, by the writer's count.
+    past: Vec<u32>,
 }
 
 /// The issues since the last new.
 #[derive(Default)]
 pub struct Issues {
-    saves: Vec<Save>,
-    pub all: Vec<Issue>,
+    all: Vec<Issue>,
+    /// The issues of each writer.
+    of: Vec<Vec<u32>>,
 }
 
 impl Issues {
-    /// Enters an issue that the book has just taken; `reads` is what its run had read.
-    pub fn enter(&mut self, ledger: &Ledger, writer: usize, sheets: u32, reads: Vec<Version>) {
-        let (number, first) = (self.all.len() as u32 + 1, self.saves.len());
-        for _ in 0..sheets.count_ones() {
-            self.saves.push(Save { issue: number, writer });
-        }
-        let saves = ledger.behind(first);
-        let mut behind = saves.members().map(|save| self.issue_of(save)).collect::<Vec<u32>>();
-        behind.dedup();
-        behind.retain(|issue| *issue != number);
-        let own = self.all.iter().rev().find(|issue| issue.writer == writer);
-        let own = own.map(|issue| issue.number);
-        self.all.push(Issue { number, writer, sheets, own, reads, behind });
+    /// Enters an issue that the desk has just taken; `reads` is what its run had read.
+    pub fn enter(
+        &mut self,
+        book: &Book,
+        line: usize,
+        writer: usize,
+        sheets: u32,
+        reads: Vec<Version>,
+    ) {
+        let number = self.all.len() as u32 + 1;
+        self.of.resize(book.w, Vec::new());
+        let own = self.of[writer].last().copied();
+        self.of[writer].push(number);
+        let (count, past) = (self.of[writer].len() as u32, book.past(writer).to_vec());
+        self.all.push(Issue { number, line, writer, count, sheets, own, reads, past });
     }
 
-    /// The last save of each leading writer of a copy.
-    pub fn leading(&self, book: &Book, copy: &Saves) -> Vec<usize> {
-        let by = |writer: usize| move |save: &usize| self.saves[*save].writer == writer;
-        let leaders = sheets(book.ledger.leading(copy, book.w));
-        let mut last = leaders.filter_map(|writer| copy.members().filter(by(writer)).last());
-        let mut saves = last.by_ref().collect::<Vec<usize>>();
-        saves.sort_unstable();
-        saves
+    pub fn count(&self) -> u32 {
+        self.all.len() as u32
     }
 
-    pub fn issue_of(&self, save: usize) -> u32 {
-        self.saves[save].issue
+    pub fn get(&self, number: u32) -> Option<&Issue> {
+        self.all.get((number as usize).checked_sub(1)?)
     }
 
-    pub fn version(&self, book: &Book, sheet: usize, copy: &Saves) -> Version {
-        let leading = self.leading(book, copy);
-        Version { sheet, issues: leading.iter().map(|save| self.issue_of(*save)).collect() }
+    /// The saves of sheet d behind an issue, its own too: for each writer the last, by its count.
+    pub fn row(&self, number: u32, d: usize) -> &[u32] {
+        let writers = self.of.len();
+        &self.all[number as usize - 1].past[d * writers..][..writers]
+    }
+
+    /// Whether the earlier issue stands behind the later one.
+    pub fn is_behind(&self, earlier: u32, later: u32) -> bool {
+        let issue = &self.all[earlier as usize - 1];
+        let reaches = |d: usize| self.row(later, d)[issue.writer] >= issue.count;
+        earlier < later && sheets(issue.sheets).any(reaches)
+    }
+
+    /// All issues that stand behind one, in order.
+    pub fn behind(&self, number: u32) -> Vec<u32> {
+        (1..number).filter(|earlier| self.is_behind(*earlier, number)).collect()
+    }
+
+    /// The issues of the leading saves among those of a sheet that a row counts: of each writer
+    /// the last, unless it stands behind another's.
+    pub fn leading(&self, sheet: usize, row: &[u32]) -> Vec<u32> {
+        let last = row.iter().enumerate().filter(|(_, count)| **count != 0);
+        let last = last.map(|(writer, count)| self.of[writer][*count as usize - 1]);
+        let last = last.collect::<Vec<u32>>();
+        let leads = |one: &u32| {
+            let issue = &self.all[*one as usize - 1];
+            let covers = |other: &u32| self.row(*other, sheet)[issue.writer] >= issue.count;
+            !last.iter().any(|other| other != one && covers(other))
+        };
+        let mut leading = last.iter().copied().filter(leads).collect::<Vec<u32>>();
+        leading.sort_unstable();
+        leading
+    }
+
+    /// The version that a copy is.
+    pub fn version(&self, sheet: usize, copy: &Saves) -> Version {
+        self.version_of(sheet, copy.row(sheet))
+    }
+
+    /// The version whose saves a row counts.
+    pub fn version_of(&self, sheet: usize, row: &[u32]) -> Version {
+        Version { sheet, issues: self.leading(sheet, row) }
     }
 }
 
@@ -86,5 +117,5 @@ pub fn mask(k: usize, test: impl Fn(usize) -> bool) -> u32 {
 
 /// The sheets, jobs or writers of a mask.
 pub fn sheets(mask: u32) -> impl Iterator<Item = usize> {
-    (0..32).filter(move |k| has(mask, *k))
+    (0..32).filter(move |k| mask >> k & 1 == 1)
 }

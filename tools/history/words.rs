@@ -1,5 +1,6 @@
 //! Calls in plain words, for a reader who doesn't know the calls.
 
+use super::log::is_answer;
 use super::versions::{sheets, Version};
 use crate::text::Call;
 
@@ -80,6 +81,14 @@ pub fn version_list(versions: &[Version]) -> String {
     grouped(versions).iter().map(said).collect::<Vec<String>>().join(", ")
 }
 
+/// The same with "and" before the last.
+pub fn version_series(versions: &[Version]) -> String {
+    let said = |(issues, mask): &(&[u32], u32)| {
+        format!("{} of {}", sheet_list(*mask), issue_list(issues))
+    };
+    listed(&grouped(versions).iter().map(said).collect::<Vec<String>>())
+}
+
 /// The sheets that have the same issues, as a mask.
 fn grouped(versions: &[Version]) -> Vec<(&[u32], u32)> {
     let mut groups = Vec::<(&[u32], u32)>::new();
@@ -143,13 +152,37 @@ pub fn unread(line: &[u8]) -> &'static str {
         "the line has over 400 bytes"
     } else if line.ends_with(b"\r") {
         "the line ends with a carriage return; see LINE ENDS in --man"
+    } else if is_answer(line) {
+        "the line is an answer, as logs have them; see --replay in --man"
+    } else if line.starts_with(b"#") {
+        "the line is a comment, which the program doesn't know; see COMMENTS in --man"
+    } else if line.ends_with(b" ") {
+        "the line ends with a space"
+    } else if line.starts_with(b" ") || line.windows(2).any(|two| two == b"  ") {
+        "words and numbers stand one space apart"
+    } else if line.split(|byte| *byte == b' ').skip(1).any(is_large) {
+        "a number is over 4294967295"
     } else {
         "the line is none of the calls' forms"
     }
 }
 
+/// Whether it is a number of more than 32 bits.
+fn is_large(word: &[u8]) -> bool {
+    let digits = String::from_utf8_lossy(word);
+    let is_number = !digits.is_empty() && digits.bytes().all(|byte| byte.is_ascii_digit());
+    is_number && digits.parse::<u128>().map_or(true, |number| number > u128::from(u32::MAX))
+}
+
 /// The table of reasons, as the header for C has it: a row is one line.
 const REASONS: &str = include_str!("../../embed/sheetdesk_reason.h");
+
+/// Why some call is refused with the number: the row that is for all.
+pub fn reason(number: u32) -> &'static str {
+    let begins = format!("{{{number}, \"\", \"");
+    let found = REASONS.lines().find_map(|line| line.trim_start().strip_prefix(&begins));
+    found.and_then(|row| row.strip_suffix("\"},")).unwrap_or("for a cause without words here")
+}
 
 /// Why a call is refused, in the words of `--echo`: the first row with the number that is for it.
 pub fn refusal(call: &Call, number: u32) -> &'static str {
