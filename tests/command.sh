@@ -238,36 +238,30 @@ trial_broken() {
   [ "$(tail -n 1 "$work/out")" = "ok 2 0 0" ] || bad "fetching what is behind doesn't cure"
 }
 
-# And of a step that is explained.
+# page_example SCRIPT LINES FROM TO BETWEEN: the calls that the page shows under a heading, behind a script's first lines, answer as it says,
+# with this between the answers.
+page_example() {
+  { head -n "$2" "scripts/$1.txt"; sed -n "/^## $3/,/^## $4/s/^    //p" "$page"; } >"$work/shown"
+  want 0 "the page's example: $3" ./sheetdesk "$work/shown"
+  tail -n +$(($2 + 1)) "$work/out" | paste -sd ',' | sed "s/,/\`$5\`/g; s/^/\`/; s/\$/\`/" >"$work/due"
+  grep -qF -f "$work/due" "$page" || bad "the page's example, $3, answers $(cat "$work/due"), the page says otherwise"
+}
+
+# And of a step that is explained, of allowances, rights and picks.
 trial_explained() {
-  { head -n 15 scripts/explain-path.txt; sed -n '/^## EXPLAINED STEPS/,/^## BROKEN RUNS/s/^    //p' "$page"; } >"$work/explained"
-  want 0 "the page's explain" ./sheetdesk "$work/explained"
-  tail -n +16 "$work/out" | paste -sd ',' | sed 's/,/` and `/; s/^/`/; s/$/`/' >"$work/due"
-  grep -qF -f "$work/due" "$page" || bad "the page's explain answers $(cat "$work/due"), the page says otherwise"
+  page_example explain-path 15 "EXPLAINED STEPS" "BROKEN RUNS" " and "
 }
 
-# And of allowances.
 trial_allowances() {
-  { head -n 13 scripts/allow-counts-held.txt; sed -n '/^## ALLOWANCES/,/^## RIGHTS/s/^    //p' "$page"; } >"$work/allowed"
-  want 0 "the page's allowances" ./sheetdesk "$work/allowed"
-  tail -n +14 "$work/out" | paste -sd ',' | sed 's/,/` and `/; s/^/`/; s/$/`/' >"$work/due"
-  grep -qF -f "$work/due" "$page" || bad "the page's allowances answer $(cat "$work/due"), the page says otherwise"
+  page_example allow-counts-held 13 ALLOWANCES RIGHTS " and "
 }
 
-# And of rights.
 trial_rights() {
-  { head -n 10 scripts/mayhold-takes-needs.txt; sed -n '/^## RIGHTS/,/^## PICKING/s/^    //p' "$page"; } >"$work/rights"
-  want 0 "the page's rights" ./sheetdesk "$work/rights"
-  tail -n +11 "$work/out" | paste -sd ',' | sed 's/,/`, `/g; s/^/`/; s/$/`/' >"$work/due"
-  grep -qF -f "$work/due" "$page" || bad "the page's rights answer $(cat "$work/due"), the page says otherwise"
+  page_example mayhold-takes-needs 10 RIGHTS PICKING ", "
 }
 
-# And of picks.
 trial_picks() {
-  { head -n 4 scripts/pick-goes-round.txt; sed -n '/^## PICKING/,/^## EXPLAINED STEPS/s/^    //p' "$page"; } >"$work/picked"
-  want 0 "the page's picks" ./sheetdesk "$work/picked"
-  tail -n +5 "$work/out" | paste -sd ',' | sed 's/,/`, `/g; s/^/`/; s/$/`/' >"$work/due"
-  grep -qF -f "$work/due" "$page" || bad "the page's picks answer $(cat "$work/due"), the page says otherwise"
+  page_example pick-goes-round 4 PICKING "EXPLAINED STEPS" ", "
 }
 
 # And of leading writers: the two looks that the page tells are the script's.

@@ -80,10 +80,11 @@ function name(kind, number) {
   return number ~ /^[0-9]+$/ && (kind, number + 0) in names ? names[kind, number + 0] : number
 }
 
-# The names of a mask's sheets.
+# The names of a mask's sheets. One without a name is told as a sheet: its number alone would read as another mask.
 function sheets(mask,    k, text) {
   if (!named["sheets"] || mask !~ /^[0-9]+$/ || mask + 0 == 0) return mask
-  for (k = 0; k < 32; k++) if (int(mask / 2 ^ k) % 2) text = text (text == "" ? "" : "+") name("sheets", k "")
+  for (k = 0; k < 32; k++) if (int(mask / 2 ^ k) % 2)
+    text = text (text == "" ? "" : "+") (("sheets", k) in names ? names["sheets", k] : "sheet " k)
   return text
 }
 
