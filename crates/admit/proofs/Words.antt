@@ -17,7 +17,7 @@ use Rattle.masks.specs.Mask.{testBit}
 use Rattle.clock.specs.Clock.{Clock, standing, covering, dominates, clockAt}
 use Rattle.clock.proofs.Standings.{standing-same}
 use Rattle.sizes.specs.declared.Counts.{Counts}
-use Rattle.sizes.specs.Bounds.{maxKeys, pastOffset, writerPastOffset, Ranged, pastSize, versionSize, writerSize, writerAt, runAt, keyAt, rowAt, pastRowAt}
+use Rattle.sizes.specs.Bounds.{maxKeys, pastOffset, writerPastOffset, Ranged, pastSize, versionSize, writerSize, runSize, writerAt, runAt, keyAt, rowAt, pastRowAt}
 use Rattle.sizes.specs.Runs.{maxJobs, jobsOffset, planOffset, snapshotOffset}
 use Rattle.sizes.proofs.Offsets.{largest, ordered, writer-lies, key-lies, past-row-lies}
 use Rattle.model.specs.Algebra.{Place, everything, needsMet}
@@ -122,7 +122,9 @@ module _ (z : Counts) (l : List ℕ) where
 -- The snapshot of a run, as a place.
 pub run-snapshot : (len : ℕ) (z : Counts) (at : ℕ) → RunArea len z at
     → Area len z (at + snapshotOffset)
-run-snapshot len z at A = record { ranged = A .ranged; low = A .low; fits = A .fits }
+unfolding runSize
+run-snapshot len z at A =
+    record { ranged = A .ranged; low = A .low; fits = omega (arith, A .fits) }
 
 -- The mask of all that its jobs read is its plan.
 pub run-plan : (z : Counts) (l : List ℕ) (at : ℕ) (m : Place Version) (last : ℕ)

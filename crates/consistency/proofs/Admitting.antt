@@ -8,6 +8,7 @@ use mathlib.Core.Logic.{_↔_}
 use mathlib.Core.List.{List, [], _∷_}
 use Prim.Native.Nat.{ℕ, _+_, _≤_, _<_}
 use native.Mathlib.Omega.{arith}
+use Rattle.words.specs.Tests.{only}
 use Rattle.words.specs.Numbers.{countBelow}
 use Rattle.words.proofs.Bools.{test, clash, lt-ltb, ge-ltb}
 use Rattle.masks.specs.Mask.{testBit}
@@ -156,6 +157,7 @@ module _ (s : Store) (fine : Fine s) (A : Admissible s) where
         keys = testBit (s .run r .branch .read);
         version = s .run r .branch .snapshot;
         copy = admittedPlace (s .run r .branch .snapshot);
+        on = only 0;
       }
 
       only-one : (x : ReadSet) → Among x (one ∷ [])

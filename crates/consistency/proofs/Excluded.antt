@@ -205,7 +205,7 @@ abbrev having-read : ℕ → Copy → ReadSet
 having-read S c =
     let n = counted 2 two-issues c in
     let v : Version = record { issue = n .issue; leaders = 1; past = n .past } in
-    record { keys = testBit S; version = λ k. v; copy = λ k. plainCopy c }
+    record { keys = testBit S; version = λ k. v; copy = λ k. plainCopy c; on = only 0 }
 
 -- One sheet in two versions: sheet 0 as the first issue left it, and as the second did.
 pub two-versions : ¬ (Snapshot 2 1 two-issues noBase (having-read 1 (only 0))

@@ -74,7 +74,7 @@ listing n = record { later = none; rows = at n; number = 1 }
 
 -- A job that has read the sheets of the mask S, each in this copy.
 abbrev having-read : ℕ → BookCopy → ReadSet
-having-read S c = record { keys = testBit S; version = λ k. unheld; copy = λ k. c }
+having-read S c = record { keys = testBit S; version = λ k. unheld; copy = λ k. c; on = only 0 }
 
 -- Sheet 1 with sheet 0 at 2 in its list, and by another job sheet 0 at 1.
 pub missing-admitted : ¬

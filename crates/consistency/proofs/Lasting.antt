@@ -61,11 +61,11 @@ turned-lasts (opening x) r f g T =
       begun = λ _ _. and-intro own refl;
       opened = λ _. T .how;
     }) (λ n. stays (opening x) true r (f r) (rw (ne-eqb r x n) refl) refl)
-turned-lasts (working x j) r f g T =
-    put-lasts (working x j) true x r f g T
-    (goes-on (working x j) true x (f x) (T .run) refl refl (λ n. clash (eq-eqb x x refl) n)
+turned-lasts (working x w) r f g T =
+    put-lasts (working x w) true x r f g T
+    (goes-on (working x w) true x (f x) (T .run) refl refl (λ n. clash (eq-eqb x x refl) n)
     (λ e. absurd (T .how .0 e)) (λ _. T .how .1))
-    (λ _. stays (working x j) true r (f r) refl refl)
+    (λ _. stays (working x w) true r (f r) refl refl)
 turned-lasts (freeing x) r f g T =
     let own = eq-eqb x x refl in
     put-lasts (freeing x) true x r f g T (record {

@@ -38,7 +38,7 @@ works r f b u v n j =
 
 abbrev pub Turned : Role → (ℕ → Run) → (ℕ → Run) → Type 0
 Turned (opening r) = Changed (λ a b. (a .state ≡ freeState) × (b .state ≡ openState)) r
-Turned (working r j) = Works r
+Turned (working r w) = Works r
 Turned (freeing r) = Changed (λ a b. b ≡ freeRun) r
 Turned elsewhere = λ f g. g ≡ f
 

@@ -34,3 +34,4 @@ pub mod Theorem
 pub mod Lasting
 pub mod Pinned
 pub mod UsesListed
+pub mod UsesLines

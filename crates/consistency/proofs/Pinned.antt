@@ -6,16 +6,16 @@
 use mathlib.Core.Path.{_≡_, refl}
 use mathlib.Core.Bool.{false}
 use mathlib.Core.List.{List, [], _∷_, _++_}
-use mathlib.Core.Option.{none, some}
 use Prim.Native.Nat.{ℕ, _≤_, _<_}
+use Rattle.words.specs.Tests.{only}
 use Rattle.words.proofs.Bools.{eqb-ne, lt-ltb, ge-ltb}
 use Rattle.words.proofs.Lists.{putAt-same, putAt-other}
 use Rattle.model.specs.Version.{Version, unheld, merge}
-use Rattle.model.specs.Store.{Store}
+use Rattle.model.specs.Store.{branchOf, Store}
 use Rattle.model.specs.Calls.{StoreCall, Query, openRun, fetch, evict, prepare, step, issue, dropRun, allow, pick, mayhold, maysave, ask}
-use Rattle.history.specs.Book.{Book}
+use Rattle.history.specs.Book.{bookBranch, Book}
 use Rattle.history.specs.Admission.{admittedPlace}
-use Rattle.consistency.specs.Roles.{Role, opening, working, freeing, elsewhere, roleOf, isOn}
+use Rattle.consistency.specs.Roles.{prepares, finishes, Role, opening, working, freeing, elsewhere, roleOf, isOn}
 use Rattle.consistency.specs.Trace.{ReadSet, Trace, admittedReads, readNow, finishBy, finish, advance, Among, Among.first, Among.later}
 use Rattle.masks.specs.Mask.{testBit}
 use Rattle.layout.specs.Calls.{Call, on, callOn, isOk}
@@ -34,7 +34,7 @@ picks W k a b = (refl, refl, refl, refl)
 
 -- What each call is to a run.
 pub roles : (r j w S o k : ℕ) (l : List ℕ) (q : Query) → (roleOf (openRun r l) ≡ opening r)
-    × (roleOf (prepare r) ≡ working r none) × (roleOf (step r j) ≡ working r (some j))
+    × (roleOf (prepare r) ≡ working r prepares) × (roleOf (step r j) ≡ working r (finishes j 0))
     × (roleOf (issue r w S) ≡ freeing r) × (roleOf (dropRun r) ≡ freeing r)
     × (roleOf (fetch o k) ≡ elsewhere) × (roleOf (evict o k) ≡ elsewhere)
     × (roleOf (allow o k) ≡ elsewhere) × (roleOf pick ≡ elsewhere)
@@ -51,9 +51,10 @@ not-ok-finished c t n = rw n refl
 
 module _ (s : Store) (b : Book) (f : ℕ → List ReadSet) where
   -- "A job whose step is answered ok is finished and has read its sheets": beside those before it.
-  pub step-finishes : (r j : ℕ) → finishBy (working r (some j)) s b f r ≡ readNow r j s b ∷ f r
+  pub step-finishes : (r j n : ℕ)
+      → finishBy (working r (finishes j n)) s b f r ≡ readNow r j n s b ∷ f r
   unfolding finishBy
-  step-finishes r j = putAt-same f r (readNow r j s b ∷ f r)
+  step-finishes r j n = putAt-same f r (readNow r j n s b ∷ f r)
 
   -- "A run lasts from its open until it is freed."
   pub frees-finished : (r : ℕ) → (finishBy (opening r) s b f r ≡ [])
@@ -61,26 +62,27 @@ module _ (s : Store) (b : Book) (f : ℕ → List ReadSet) where
   unfolding finishBy
   frees-finished r = (putAt-same f r [], putAt-same f r [])
 
-  pub read-now : (r j : ℕ) → (readNow r j s b .keys ≡ testBit (b .run r .job j .reads))
-      × (readNow r j s b .version ≡ s .run r .branch .snapshot)
-      × (readNow r j s b .copy ≡ b .run r .branch .snapshot)
+  pub read-now : (r j n : ℕ) → (readNow r j n s b .keys ≡ testBit (b .run r .job j .reads))
+      × (readNow r j n s b .version ≡ branchOf n (s .run r) .snapshot)
+      × (readNow r j n s b .copy ≡ bookBranch n (b .run r) .snapshot)
+      × (readNow r j n s b .on ≡ only n)
   unfolding readNow
-  read-now r j = (refl, refl, refl)
+  read-now r j n = (refl, refl, refl, refl)
 
   pub finish-by : (c : StoreCall) → finish (on c) s b f ≡ finishBy (roleOf c) s b f
   unfolding finish
   finish-by c = refl
 
   -- A call that finishes no job, and one that is not on the run, leave it.
-  pub none-finished : (r x : ℕ) → finishBy (working x none) s b f r ≡ f r
+  pub none-finished : (r x : ℕ) → finishBy (working x prepares) s b f r ≡ f r
   unfolding finishBy
   none-finished r x = refl
 
   pub others-finished : (r : ℕ) (p : Role) → isOn r p ≡ false → finishBy p s b f r ≡ f r
   unfolding finishBy isOn
   others-finished r (opening x) n = putAt-other f x [] r (eqb-ne r x n)
-  others-finished r (working x none) n = refl
-  others-finished r (working x (some j)) n = putAt-other f x _ r (eqb-ne r x n)
+  others-finished r (working x prepares) n = refl
+  others-finished r (working x (finishes j m)) n = putAt-other f x _ r (eqb-ne r x n)
   others-finished r (freeing x) n = putAt-other f x [] r (eqb-ne r x n)
   others-finished r elsewhere n = refl
 
@@ -90,6 +92,7 @@ pub admitted-read : (s : Store) (r : ℕ) → r < s .counts .runs
       keys = testBit (s .run r .branch .read);
       version = s .run r .branch .snapshot;
       copy = admittedPlace (s .run r .branch .snapshot);
+      on = only 0;
     } ∷ []
 unfolding admittedReads
 admitted-read s r l = rw (lt-ltb r (s .counts .runs) l) refl

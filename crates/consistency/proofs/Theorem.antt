@@ -64,7 +64,7 @@ inv-holds s b f F I =
         led-reads = read-led s b f I e;
         named = named G e;
       };
-      shared = shared s b f I F;
+      shared = λ r x y p q _ _ _. shared s b f I F r x y p q;
       overlaps = overlaps G;
       every-save = λ k i. G .every k i;
       admissible = admissible-now G;

@@ -149,19 +149,22 @@ module _ (t : Trace) (H : HoldsAt t) where
       → ((d ≡ e) × (j ≡ i)) ⊎ HappensBefore h d j e i
   past-behind d j e i p = H .holds .behind d j e i p .0
 
-  -- Two finished jobs of a run, either of them first: "a sheet that both read is one version",
+  -- Two finished jobs of a run, on line n both, either of them first: "a sheet that both read is
+  -- one version",
   pub one-version : (r : ℕ) (x y : ReadSet) → Among x (t .finished r) → Among y (t .finished r)
+      → (n : ℕ) → So (x .on n) → So (y .on n)
       → (k : ℕ) → k < K → So (x .keys k) → So (y .keys k) → x .version k ≡ y .version k
-  one-version r x y p q = H .holds .shared r x y p q .one-version
+  one-version r x y p q n m o = H .holds .shared r x y p q n m o .one-version
 
   -- and what stands behind anything that either read is included in what either read.
   pub either-includes : (r : ℕ) (x y : ReadSet) → Among x (t .finished r)
-      → Among y (t .finished r) → (e i d j : ℕ) → e < K → d < K → HappensBefore h d j e i
+      → Among y (t .finished r) → (n : ℕ) → So (x .on n) → So (y .on n)
+      → (e i d j : ℕ) → e < K → d < K → HappensBefore h d j e i
       → (So (x .keys e) → So (x .copy e .later i) → So (y .keys d) → So (y .copy d .later j))
       × (So (y .keys e) → So (y .copy e .later i) → So (x .keys d) → So (x .copy d .later j))
-  either-includes r x y p q e i d j le ld b = (
-    λ u v w. H .holds .shared r x y p q .included e i d j le ld u v w b,
-    λ u v w. H .holds .shared r y x q p .included e i d j le ld u v w b,
+  either-includes r x y p q n m o e i d j le ld b = (
+    λ u v w. H .holds .shared r x y p q n m o .included e i d j le ld u v w b,
+    λ u v w. H .holds .shared r y x q p n o m .included e i d j le ld u v w b,
   )
 
   -- The step of run r's job j as a call on the buffer: a done one has a choice that works,

@@ -94,17 +94,18 @@ module _ (t : Trace) (H : HoldsAt t) where
   pub master-admitted : (k u : ℕ) → k < K → t .book .master k .rows k u ≡ B .saves k u
   master-admitted = H .holds .lists .every
 
-  -- Two finished jobs of a run, either of them first: what is listed behind anything that either
-  -- read is included in what either read.
+  -- Two finished jobs of a run, on line m both, either of them first: what is listed behind
+  -- anything that either read is included in what either read.
   pub either-lists : (r : ℕ) (x y : ReadSet) → Among x (t .finished r) → Among y (t .finished r)
+      → (m : ℕ) → So (x .on m) → So (y .on m)
       → (e d u n : ℕ) → e < K → d < K → u < s .counts .writers
       → (So (x .keys e) → So (y .keys d) → ListedBehind B h (x .copy e) d u n
       → n ≤ y .copy d .rows d u)
       × (So (y .keys e) → So (x .keys d) → ListedBehind B h (y .copy e) d u n
       → n ≤ x .copy d .rows d u)
-  either-lists r x y p q e d u n le ld lu = (
-    H .holds .shared r x y p q .listed e d u n le ld lu,
-    H .holds .shared r y x q p .listed e d u n le ld lu,
+  either-lists r x y p q m xm ym e d u n le ld lu = (
+    H .holds .shared r x y p q m xm ym .listed e d u n le ld lu,
+    H .holds .shared r y x q p m ym xm .listed e d u n le ld lu,
   )
 
 -- ---- lists after an admission

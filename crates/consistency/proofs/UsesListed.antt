@@ -1,5 +1,5 @@
 -- What an admission begins with (CR 6), and what each clause of "stands behind" gives of two
--- finished jobs of a run.
+-- finished jobs of a run, on one line.
 -- admitted-is: the desk as it is, the book of it, what its runs had read. listed-, past-, read-,
 -- chain-shared: an admitted save that stands behind what one job read, by its own list, by a
 -- writer's past, by what a run had read, by a chain, is in what the other one read. plain-behind:
@@ -21,7 +21,7 @@ use Rattle.history.specs.Lists.{ListedBefore.inPastOf, ListedBefore.inRead, Lis
 use Rattle.history.specs.Admission.{admittedBook}
 use Rattle.history.proofs.Plain.{Plain}
 use Rattle.consistency.specs.Trace.{ReadSet, Among, Trace, admittedReads, admitted}
-use Rattle.consistency.specs.Claim.{IsBehind, HoldsAt}
+use Rattle.consistency.specs.Claim.{Snapshot, IsBehind, HoldsAt}
 
 pub admitted-is : (l : List ℕ) → (admitted l .buffer ≡ l)
     × (admitted l .book ≡ admittedBook (storeOf l))
@@ -30,7 +30,7 @@ unfolding admitted
 admitted-is l = (refl, refl, refl)
 
 module _ (t : Trace) (H : HoldsAt t) (r : ℕ) (x y : ReadSet) (p : Among x (t .finished r))
-    (q : Among y (t .finished r)) where
+    (q : Among y (t .finished r)) (m : ℕ) (xm : So (x .on m)) (ym : So (y .on m)) where
   abbrev s : Store
   s = storeOf (t .buffer)
 
@@ -40,6 +40,9 @@ module _ (t : Trace) (H : HoldsAt t) (r : ℕ) (x y : ReadSet) (p : Among x (t .
   abbrev B : Base
   B = t .book .base
 
+  snapshot : Snapshot (s .counts .keys) (s .counts .writers) h B x y
+  snapshot = H .holds .shared r x y p q m xm ym
+
   module _ (e d u n : ℕ) (le : e < s .counts .keys) (ld : d < s .counts .keys)
       (lu : u < s .counts .writers) (xe : So (x .keys e)) (yd : So (y .keys d)) where
     -- The save of d by writer u at count n is in what y read of d.
@@ -47,24 +50,24 @@ module _ (t : Trace) (H : HoldsAt t) (r : ℕ) (x y : ReadSet) (p : Among x (t .
     Shared = n ≤ y .copy d .rows d u
 
     pub listed-shared : n ≤ x .copy e .rows d u → Shared
-    listed-shared g = H .holds .shared r x y p q .listed e d u n le ld lu xe yd (inList g)
+    listed-shared g = snapshot .listed e d u n le ld lu xe yd (inList g)
 
     module _ (i : ℕ) (in-x : So (x .copy e .later i)) (li : i < length h) where
       -- "behind a writer's next issue also those in that writer's past"
       pub past-shared : n ≤ B .past (writerOf h i) d u → Shared
       past-shared g =
-          H .holds .shared r x y p q .listed e d u n le ld lu xe yd (inLater in-x (inPastOf li g))
+          snapshot .listed e d u n le ld lu xe yd (inLater in-x (inPastOf li g))
 
       -- "if the run that issued t had read a version that includes s"
       pub read-shared : n ≤ rowsOf h i d u → Shared
       read-shared g =
-          H .holds .shared r x y p q .listed e d u n le ld lu xe yd (inLater in-x (inRead li g))
+          snapshot .listed e d u n le ld lu xe yd (inLater in-x (inRead li g))
 
       -- "or through a chain of these": behind an earlier issue j that stands behind i
       pub chain-shared : (c j a : ℕ) → j < length h → n ≤ rowsOf h j d u
           → HappensBefore h c j a i → Shared
       chain-shared c j a lj g b =
-          H .holds .shared r x y p q .listed e d u n le ld lu xe yd
+          snapshot .listed e d u n le ld lu xe yd
           (inLater in-x (chained (inRead lj g) b))
 
 pub plain-behind : (W k : ℕ) (c m : BookCopy) → Plain c → Plain m → IsBehind W k c m

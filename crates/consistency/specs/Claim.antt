@@ -160,8 +160,9 @@ pub record Holds (s : Store) (b : Book) (finished : ℕ → List ReadSet) : Type
       → ReadCounted (s .counts .keys) (b .history) (b .base) x
   -- The masks, of a list from new: an admitted desk's are free.
   pub leads : b .base ≡ noBase → Leading s b finished
-  -- (c)
+  -- (c), of two on one line: "two share one if on one line" (CR 10)
   pub shared : (r : ℕ) (x y : ReadSet) → Among x (finished r) → Among y (finished r)
+      → (n : ℕ) → So (x .on n) → So (y .on n)
       → Snapshot (s .counts .keys) (s .counts .writers) (b .history) (b .base) x y
   -- Besides: each card is a keyset-overlapping cut for its plan, and the master holds every save.
   pub overlaps : (r : ℕ) → r < s .counts .runs

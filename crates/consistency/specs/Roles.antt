@@ -1,16 +1,20 @@
 -- What a call is to a run: "A run lasts from its open until it is freed."
--- Role, roleOf. isOn, opens, frees: a call of that role is on run r, opens it, frees it.
+-- Work, Role, roleOf. isOn, opens, frees: a call of that role is on run r, opens it, frees it.
 -- Assumes nothing.
 use mathlib.Core.Bool.{Bool, false}
-use mathlib.Core.Option.{Option, none, some}
 use Prim.Native.Nat.{ℕ}
 use lib.Dec.{eqb}
 use Rattle.model.specs.Calls.{StoreCall, openRun, fetch, evict, prepare, step, issue, dropRun, allow, pick, mayhold, maysave, ask}
 
+-- What a call that works on a run does to its jobs.
+pub data Work : Type 0 where
+  prepares : Work  -- none is finished
+  finishes : ℕ → ℕ → Work  -- job j of it is, on branch n
+
 -- An accepted call opens a run, works on it, frees it, or is on no run.
 pub data Role : Type 0 where
   opening : ℕ → Role
-  working : ℕ → Option ℕ → Role  -- and the job of it that is finished, if any
+  working : ℕ → Work → Role
   freeing : ℕ → Role
   elsewhere : Role
 
@@ -18,8 +22,8 @@ unfoldable pub roleOf : StoreCall → Role
 roleOf (openRun r l) = opening r
 roleOf (fetch o k) = elsewhere
 roleOf (evict o k) = elsewhere
-roleOf (prepare r) = working r none
-roleOf (step r j) = working r (some j)
+roleOf (prepare r) = working r prepares
+roleOf (step r j) = working r (finishes j 0)
 roleOf (issue r w S) = freeing r
 roleOf (dropRun r) = freeing r
 roleOf (allow o n) = elsewhere
@@ -30,18 +34,18 @@ roleOf (ask q) = elsewhere
 
 unfoldable pub isOn : ℕ → Role → Bool
 isOn r (opening x) = eqb r x
-isOn r (working x j) = eqb r x
+isOn r (working x w) = eqb r x
 isOn r (freeing x) = eqb r x
 isOn r elsewhere = false
 
 unfoldable pub opens : ℕ → Role → Bool
 opens r (opening x) = eqb r x
-opens r (working x j) = false
+opens r (working x w) = false
 opens r (freeing x) = false
 opens r elsewhere = false
 
 unfoldable pub frees : ℕ → Role → Bool
 frees r (opening x) = false
-frees r (working x j) = false
+frees r (working x w) = false
 frees r (freeing x) = eqb r x
 frees r elsewhere = false

@@ -5,22 +5,21 @@
 -- Assumes nothing.
 use mathlib.Core.Bool.{cond}
 use mathlib.Core.List.{List, [], _∷_}
-use mathlib.Core.Option.{none, some}
 use Prim.Native.Nat.{ℕ}
 use lib.Dec.{ltb}
-use Rattle.words.specs.Tests.{Items}
+use Rattle.words.specs.Tests.{Items, only}
 use Rattle.words.specs.Lists.{putAt}
 use Rattle.masks.specs.Mask.{testBit}
 use Rattle.sizes.specs.declared.Counts.{Counts}
 use Rattle.model.specs.Algebra.{Place}
 use Rattle.model.specs.Version.{Version}
-use Rattle.model.specs.Store.{Store}
+use Rattle.model.specs.Store.{branchOf, Store}
 use Rattle.layout.specs.Reading.{storeOf}
 use Rattle.layout.specs.Calls.{Call, new, on, callOn, leaves, isOk, newOn}
 use Rattle.history.specs.Listing.{BookCopy}
-use Rattle.history.specs.Book.{Book, freshBook, bookStep}
+use Rattle.history.specs.Book.{bookBranch, Book, freshBook, bookStep}
 use Rattle.history.specs.Admission.{admittedPlace, admittedBook}
-use Rattle.consistency.specs.Roles.{Role, opening, working, freeing, elsewhere, roleOf}
+use Rattle.consistency.specs.Roles.{prepares, finishes, Role, opening, working, freeing, elsewhere, roleOf}
 
 -- "A job whose step is answered ok is finished and has read its sheets, as that step left them on
 -- the card."
@@ -28,6 +27,8 @@ pub record ReadSet : Type 0 where
   pub keys : Items
   pub version : Place Version
   pub copy : Place BookCopy
+  -- The lines on which it stands (CR 10).
+  pub on : Items
 
 -- One of those that a run's jobs have read.
 pub data Among (x : ReadSet) : List ReadSet → Type 0 where
@@ -52,6 +53,7 @@ admittedReads s r =
       keys = testBit (a .read);
       version = a .snapshot;
       copy = admittedPlace (a .snapshot);
+      on = only 0;
     } ∷ []) []
 
 -- A list that starts on a buffer that was admitted.
@@ -60,20 +62,21 @@ admitted l =
     let s = storeOf l in
     record { buffer = l; book = admittedBook s; finished = admittedReads s }
 
--- Run r's snapshot for the keys that its job j reads.
-unfoldable pub readNow : ℕ → ℕ → Store → Book → ReadSet
-readNow r j s b = record {
+-- Run r's snapshot on branch n, for the keys that its job j reads.
+unfoldable pub readNow : ℕ → ℕ → ℕ → Store → Book → ReadSet
+readNow r j n s b = record {
   keys = testBit (b .run r .job j .reads);
-  version = s .run r .branch .snapshot;
-  copy = b .run r .branch .snapshot;
+  version = branchOf n (s .run r) .snapshot;
+  copy = bookBranch n (b .run r) .snapshot;
+  on = only n;
 }
 
 -- A call answered ok, on what has been read: s and b are the store and the book after it.
 -- "A run lasts from its open until it is freed."
 unfoldable pub finishBy : Role → Store → Book → (ℕ → List ReadSet) → ℕ → List ReadSet
 finishBy (opening r) s b f = putAt f r []
-finishBy (working r none) s b f = f
-finishBy (working r (some j)) s b f = putAt f r (readNow r j s b ∷ f r)
+finishBy (working r prepares) s b f = f
+finishBy (working r (finishes j n)) s b f = putAt f r (readNow r j n s b ∷ f r)
 finishBy (freeing r) s b f = putAt f r []
 finishBy elsewhere s b f = f
 

@@ -20,12 +20,12 @@ use Rattle.words.proofs.Bools.{test, eqb-eq, eqb-ne, lt-ltb, ge-ltb}
 use Rattle.words.proofs.Tests.{below-or-not}
 use Rattle.sizes.specs.declared.Counts.{Counts}
 use Rattle.sizes.specs.declared.Sizes.{Sizes}
-use Rattle.sizes.specs.Bounds.{headerSize, pastOffset, siteRest, writerPastOffset, pastSize, versionSize, placeSize, siteSize, writerSize, runSize, tailSize, masterAt, sitesAt, writersAt, runsAt, tailAt, totalOf, siteAt, allowanceAt}
+use Rattle.sizes.specs.Bounds.{headerSize, pastOffset, siteRest, writerPastOffset, pastSize, versionSize, placeSize, siteSize, writerSize, runFront, runRest, runSize, tailSize, masterAt, sitesAt, writersAt, runsAt, tailAt, totalOf, siteAt, allowanceAt}
 use Rattle.sizes.specs.Runs.{snapshotOffset}
 use Rattle.model.specs.Version.{zeroPast, unheld}
 use Rattle.model.specs.Tail.{noTail, freshTail}
 use Rattle.model.specs.Store.{Site, Store, emptyPlace, noWriter, noSite, freeRun, siteAllowed, fresh, withSites, withTail}
-use Rattle.layout.specs.Words.{clockWords, pastWords, versionWords, placeWords, siteWords, sitesWords, writerWords, writersWords, jobWords, jobsWords, runWords, runsWords, tailWords, headerWords, storeWords}
+use Rattle.layout.specs.Words.{clockWords, pastWords, versionWords, placeWords, siteWords, sitesWords, writerWords, writersWords, jobWords, jobsWords, frontWords, restWords, runWords, runsWords, tailWords, headerWords, storeWords}
 use Rattle.layout.specs.Buffer.{written}
 use Rattle.layout.proofs.Merges.{table, put-table}
 use Rattle.layout.proofs.Updates.{put-allowance}
@@ -95,11 +95,20 @@ module _ (z : Counts) where
       zero-blocks (z .writers) (writerPastOffset + pastSize z) (0 ∷ pastWords z zeroPast)
       (zero-cons (pastWords z zeroPast) (pastSize z) past-zero)
 
-  run-zero : runWords z freeRun ≡ zeros (runSize z)
-  unfolding runWords runSize jobsWords jobWords blocks
-  run-zero =
+  front-zero : frontWords z freeRun ≡ zeros (runFront z)
+  unfolding jobsWords jobWords blocks
+  front-zero =
       zero-join (zeros snapshotOffset) (placeWords z emptyPlace) snapshotOffset (placeSize z)
-      (runSize z) refl place-zero refl
+      (runFront z) refl place-zero refl
+
+  rest-zero : restWords z freeRun ≡ zeros (runRest z)
+  rest-zero = refl
+
+  run-zero : runWords z freeRun ≡ zeros (runSize z)
+  unfolding runWords runSize
+  run-zero =
+      zero-join (frontWords z freeRun) (restWords z freeRun) (runFront z) (runRest z) (runSize z)
+      front-zero rest-zero refl
 
   runs-zero : runsWords z (λ r. freeRun) ≡ zeros (z .runs * runSize z)
   unfolding runsWords

@@ -62,12 +62,12 @@ module _ (l : List ℕ) (z : Counts) (r j n : ℕ) (v : Visit) (t : Trial)
   reads : stepReads s r j n ≡ testBit (v .reads)
   reads =
       let U = found-run l z r j n v t F in
-      old-reads l z r j n (snapshotAt z r) (U .0) (U .1) v (F .visit)
+      old-reads l z r j n (snapshotAt z r n) (U .0) (U .1) v (F .visit)
 
   plan : stepPlan s r j n ≡ testBit (v .plan)
   plan =
       let U = found-run l z r j n v t F in
-      old-plan l z r j n (snapshotAt z r) (U .0) (U .1) v (F .visit)
+      old-plan l z r j n (snapshotAt z r n) (U .0) (U .1) v (F .visit)
 
   -- The cache as the fetch would leave it.
   source : (k : ℕ) → k < K → stepCache s r j n k ≡ viewed z l (sourceOf v t) k
@@ -111,7 +111,7 @@ module _ (l : List ℕ) (z : Counts) (r j n : ℕ) (v : Visit) (t : Trial)
   pub draws-found : Draws l z v t
   draws-found =
       let U = found-run l z r j n v t F in
-      let seen = visit-known l z r j n (snapshotAt z r) (U .0) (U .1) v (F .visit) in
+      let seen = visit-known l z r j n (snapshotAt z r n) (U .0) (U .1) v (F .visit) in
       let L = branch-own l z r n (F .form) (U .0 .run) in
       record {
         area = record {

@@ -10,7 +10,7 @@ use Prim.Native.Nat.{ℕ, _+_, _≤_, _<_}
 use lib.Dec.{ltb}
 use Rattle.words.specs.Numbers.{when}
 use Rattle.masks.specs.Mask.{testBit, unionBelow}
-use Rattle.sizes.specs.Bounds.{placeLimit, Ranged, placeSize, totalOf, masterAt, siteAt, mayHoldAt, runAt}
+use Rattle.sizes.specs.Bounds.{placeLimit, Ranged, runSize, totalOf, masterAt, siteAt, mayHoldAt, runAt}
 use Rattle.sizes.specs.Runs.{snapshotOffset}
 use Rattle.sizes.specs.declared.Counts.{Counts}
 use Rattle.model.specs.Store.{Job}
@@ -44,7 +44,7 @@ runTest z l r = runFormed z (readRun z l (runAt z r))
 pub record RunArea (len : ℕ) (z : Counts) (at : ℕ) : Type 0 where
   pub ranged : Ranged z
   pub low : at + snapshotOffset < placeLimit
-  pub fits : at + snapshotOffset + placeSize z ≤ len
+  pub fits : at + runSize z ≤ len
 
 -- The whole store.
 pub record StoreArea (len : ℕ) (z : Counts) : Type 0 where

@@ -17,12 +17,12 @@ use Rattle.issue.specs.Saves.{WriterArea, Takes, Saves}
 
 module _ (len : ℕ) (z : Counts) (A : StoreArea len z) where
   pub takes-area : (w r : ℕ) → w < z .writers → r < z .runs
-      → Takes len z (writerAt z w) (snapshotAt z r)
+      → Takes len z (writerAt z w) (snapshotAt z r 0)
   takes-area w r h i =
       let o = ordered z (A .ranged) in
       let x = writer-lies z w h in
       let a = run-lies z r i in
-      let p = snapshot-lies z r in
+      let p = snapshot-lies z r 0 in
       let top = A .fits in
       record { ranged = A .ranged; low = omega arith; apart = omega arith; fits = omega arith }
 

@@ -24,7 +24,8 @@ use Rattle.layout.proofs.Whole.{FitStore, store-fits, store-back}
 use Rattle.layout.proofs.Fit.{fit-last, fit-master, fit-writer}
 use Rattle.layout.proofs.Rules.Issue.{past-fits, master-fits}
 use Rattle.layout.proofs.Follow.{form-fine}
-use Rattle.layout.proofs.Updates.{put-last, put-master, put-writer, put-run}
+use Rattle.layout.proofs.Updates.{put-last, put-master, put-writer}
+use Rattle.layout.proofs.RunUpdates.{put-run}
 use Rattle.layout.proofs.Readings.{writer-in, snapshot-in}
 use Rattle.form.specs.Parts.{FormWith}
 use Rattle.form.proofs.Known.{form-counts, form-again}
@@ -41,9 +42,9 @@ module _ (s : Store) (l : List ℕ) (z : Counts) (F : FitStore s) (e : s .counts
       ∙ ap (λ (t : Store). t .writer w) (store-back s l F)
 
   snapshot-back : (r : ℕ) → r < z .runs
-      → readPlace z (written s l) (snapshotAt z r) ≡ s .run r .branch .snapshot
+      → readPlace z (written s l) (snapshotAt z r 0) ≡ s .run r .branch .snapshot
   snapshot-back r h =
-      sym (snapshot-in (written s l) z (counted s l z F e) r h)
+      sym (snapshot-in (written s l) z (counted s l z F e) r 0 h)
       ∙ ap (λ (t : Store). t .run r .branch .snapshot) (store-back s l F)
 
 module _ (s : Store) (l : List ℕ) (z : Counts) (e : s .counts ≡ z) where
@@ -152,7 +153,7 @@ module _ (l : List ℕ) (z : Counts) (H : FormWith l z) (r w S : ℕ) (hr : r < 
       (record {
         count = n;
         past = rowsSet S w n
-            (takenIn (z .keys) read (readPlace z m₁ (snapshotAt z r))
+            (takenIn (z .keys) read (readPlace z m₁ (snapshotAt z r 0))
             (readWriter z m₁ (writerAt z w) .past));
       })
       → m₂ ≡ written s₂ l
@@ -180,7 +181,7 @@ module _ (l : List ℕ) (z : Counts) (H : FormWith l z) (r w S : ℕ) (hr : r < 
 
   -- From what the code reads and stores, by its own indices and numbers: number and writer,
   pub writer-done : (at place read i n : ℕ) (m₁ m₂ : List ℕ) → at ≡ writerAt z w
-      → place ≡ snapshotAt z r → read ≡ s .run r .branch .read → i ≡ s .last + 1
+      → place ≡ snapshotAt z r 0 → read ≡ s .run r .branch .read → i ≡ s .last + 1
       → n ≡ s .writer w .count + 1 → m₁ ≡ set l 4 i
       → m₂ ≡ putWriter z m₁ at
       (record {

@@ -14,13 +14,13 @@ use Rattle.words.proofs.Bools.{test, eqb-eq, eqb-ne}
 use Rattle.masks.specs.Mask.{testBit, without}
 use Rattle.masks.proofs.Sets.{without-some}
 use Rattle.sizes.specs.declared.Counts.{Counts}
-use Rattle.sizes.specs.Bounds.{writerSize, writerAt, maySaveAt, runAt}
+use Rattle.sizes.specs.Bounds.{writerSize, runSize, writerAt, maySaveAt, runAt}
 use Rattle.sizes.specs.Runs.{maxJobs}
 use Rattle.sizes.proofs.Offsets.{ordered, writer-lies}
 use Rattle.model.specs.Tail.{barred}
 use Rattle.model.proofs.Plans.{plan-out}
 use Rattle.layout.specs.Reading.{readWord, readRun, readWriter, storeOf}
-use Rattle.layout.proofs.Parts.{run-laws}
+use Rattle.layout.proofs.Runs.{run-laws}
 use Rattle.layout.proofs.Readings.{writer-in, maySave-word}
 use Rattle.form.specs.Parts.{FormWith}
 use Rattle.form.proofs.Known.{form-area}
@@ -64,6 +64,7 @@ module _ (l : List ℕ) (z : Counts) (H : FormWith l z) where
     read-word = rw (run-known l z r H h .run) (ap (readWord l) (omega arith))
 
     pub run-words : runAt z r + 28 ≤ length l
+    unfolding runSize
     run-words = omega (arith, run-known l z r H h .area .fits)
 
     pub jobs-high : storeOf l .run r .jobs ≤ maxJobs

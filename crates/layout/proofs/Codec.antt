@@ -1,20 +1,23 @@
 -- One set of laws for every kind of part, and that a row of parts has them too.
 -- Laws v words read Fit: a part has v words, is read back, and is told by its words.
 -- FitMany, fit-put, many: n parts in a row. many-put, many-part: a store into one of them.
+-- Segment: some words of a part. two-laws: a part of two segments. into-first, into-rest: a store
+-- into one of them.
 -- Assumes nothing.
-use mathlib.Core.Path.{_≡_, refl, sym, ap, _∙_, fun-ext}
+use mathlib.Core.Path.{_≡_, refl, sym, ap, ap₂, _∙_, fun-ext}
 use mathlib.Core.Bool.{Bool, true, false, cond}
 use mathlib.Core.Logic.{⊎-elim}
-use mathlib.Core.List.{List}
+use mathlib.Core.List.{List, _++_}
 use Prim.Native.Nat.{ℕ, _+_, _*_, _≤_, _<_}
+use native.Mathlib.Nat.{add-zero}
 use native.Mathlib.Omega.{arith}
 use lib.Dec.{eqb}
-use lib.ListN.{length}
+use lib.ListN.{length, length-append}
 use lib.Seq.{sets}
 use Rattle.words.specs.Lists.{blocks, window, upto, putAt}
 use Rattle.words.proofs.Tests.{below-or-not}
-use Rattle.words.proofs.Lists.{putAt-other, putAt-cases, upto-in, upto-out, length-blocks, blocks-ext, blocks-same, window-blocks}
-use Rattle.words.proofs.Stores.{sets-block, sets-blocks}
+use Rattle.words.proofs.Lists.{putAt-other, putAt-cases, upto-in, upto-out, length-blocks, blocks-ext, blocks-same, append-same, window-add, window-blocks}
+use Rattle.words.proofs.Stores.{sets-left, sets-behind, sets-block, sets-blocks}
 use Rattle.words.proofs.Slots.{slot-end}
 
 -- Words and reader of a part; Fit: nothing stands outside of the counts.
@@ -109,3 +112,45 @@ module _ {A : Type 0} {v : ℕ} {words : A → List ℕ} {read : List ℕ → �
   many-room f k i x h j =
       rw (length-blocks n v (λ i. words (f i)) (λ i. L .long (f i)))
       (omega (arith, slot-end k n v h))
+
+-- ---- a part of two segments
+
+-- The v words of a part from offset i on; Same: what they tell of it.
+pub record Segment {A : Type 0} (i v : ℕ) (words : A → List ℕ) (read : List ℕ → ℕ → A)
+    (Fit : A → Type 0) (Same : A → A → Type 0) : Type 0 where
+  pub long : (a : A) → length (words a) ≡ v
+  pub round : (l : List ℕ) (at : ℕ) → words (read l at) ≡ window l (at + i) v
+  pub same : (a b : A) → Fit a → Fit b → words a ≡ words b → Same a b
+
+module _ {A : Type 0} {v w : ℕ} {first rest : A → List ℕ} {read : List ℕ → ℕ → A}
+    {Fit : A → Type 0} {F G : A → A → Type 0}
+    (L : Segment 0 v first read Fit F) (R : Segment v w rest read Fit G) where
+  -- They have the laws of a part, if a part is known by what the two tell.
+  pub two-laws : ((l : List ℕ) (at : ℕ) → Fit (read l at)) → ((a b : A) → F a b → G a b → a ≡ b)
+      → Laws (v + w) (λ a. first a ++ rest a) read Fit
+  two-laws fits one = record {
+    long = λ a. length-append (first a) (rest a) ∙ ap₂ _+_ (L .long a) (R .long a);
+    round = λ l at.
+        ap₂ _++_ (L .round l at ∙ ap (λ (j : ℕ). window l j v) (add-zero at)) (R .round l at)
+        ∙ sym (window-add l at v w);
+    fits = fits;
+    same = λ a b p q e.
+        let d = append-same (first a) (rest a) (first b) (rest b) (L .long a ∙ sym (L .long b))
+        e in
+        one a b (L .same a b p q (d .0)) (R .same a b p q (d .1));
+  }
+
+  -- A store into one of them leaves the other.
+  pub into-first : (a b : A) (i : ℕ) (x : List ℕ) → i + length x ≤ v
+      → sets (first a) i x ≡ first b → rest a ≡ rest b
+      → sets (first a ++ rest a) i x ≡ first b ++ rest b
+  into-first a b i x h e f =
+      sets-left x (first a) (rest a) i (omega (arith, L .long a)) ∙ ap₂ _++_ e f
+
+  pub into-rest : (a b : A) (i : ℕ) (x : List ℕ) → i + length x ≤ w → first a ≡ first b
+      → sets (rest a) i x ≡ rest b
+      → sets (first a ++ rest a) (v + i) x ≡ first b ++ rest b
+  into-rest a b i x h e f =
+      ap (λ (j : ℕ). sets (first a ++ rest a) (j + i) x) (sym (L .long a))
+      ∙ sets-behind (first a) (rest a) x i (omega (arith, R .long a))
+      ∙ ap₂ _++_ e f

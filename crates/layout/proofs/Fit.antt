@@ -18,7 +18,8 @@ use Rattle.model.specs.Tail.{Tail}
 use Rattle.model.specs.Store.{Writer, Run, Site, Store, emptyPlace, noSite, freeRun, fresh, siteAllowed, siteMarked, siteWith, withLast, withMarks, withMaster, withSites, withSite, withCache, withCaches, withWriter, withRun, withTail}
 use Rattle.model.proofs.Merges.{held-unheld, merge-cases, merge-unheld-left}
 use Rattle.layout.proofs.Codec.{FitMany, fit-put}
-use Rattle.layout.proofs.Parts.{FitPast, FitVersion, FitPlace, FitSite, FitSites, FitWriter, FitRun}
+use Rattle.layout.proofs.Parts.{FitPast, FitVersion, FitPlace, FitSite, FitSites, FitWriter}
+use Rattle.layout.proofs.Runs.{FitRun}
 use Rattle.layout.proofs.Tail.{FitTail, fresh-tail}
 use Rattle.layout.proofs.Whole.{FitStore}
 

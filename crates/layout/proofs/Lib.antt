@@ -5,12 +5,14 @@ pub mod Scripted
 pub mod Codec
 pub mod Jobs
 pub mod Parts
+pub mod Runs
 pub mod Tail
 pub mod Shapes
 pub mod Whole
 pub mod Fit
 pub mod Views
 pub mod Updates
+pub mod RunUpdates
 pub mod Windows
 pub mod Places
 pub mod Merges

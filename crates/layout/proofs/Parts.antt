@@ -1,9 +1,9 @@
--- The laws of each part of the store.
+-- The laws of each part of the store but the runs (Runs) and the tail (Tail).
 -- Fit..: nothing of the part stands outside of the counts. ..-laws: its words are read back.
 -- Assumes nothing.
 use mathlib.Core.Path.{_≡_, refl, sym, ap, ap₂, _∙_, subst}
 use mathlib.Core.List.{List, [], _∷_, _++_}
-use Prim.Native.Nat.{ℕ, suc, _+_, _*_}
+use Prim.Native.Nat.{ℕ, _+_, _*_}
 use native.Mathlib.Nat.{mul-one}
 use native.Mathlib.Omega.{arith}
 use lib.ListN.{getD, length-append}
@@ -11,16 +11,15 @@ use Rattle.words.specs.Lists.{window, upto}
 use Rattle.words.proofs.Lists.{append-same, window-add, window-cons}
 use Rattle.clock.specs.Clock.{Clock}
 use Rattle.sizes.specs.declared.Counts.{Counts}
-use Rattle.sizes.specs.Bounds.{pastSize, versionSize, placeSize, siteSize, writerSize, runSize}
-use Rattle.sizes.specs.Runs.{jobsOffset, doneOffset, readOffset, planOffset, planSize, snapshotOffset}
+use Rattle.sizes.specs.Bounds.{pastSize, versionSize, placeSize, siteSize, writerSize}
 use Rattle.model.specs.Algebra.{Place}
 use Rattle.model.specs.Version.{Version, unheld}
-use Rattle.model.specs.Store.{Writer, Run, Site, noWriter, noSite, freeRun}
+use Rattle.model.specs.Store.{Writer, Site, noWriter, noSite}
 use Rattle.model.proofs.Merges.{version-path}
-use Rattle.layout.specs.Words.{clockWords, pastWords, versionWords, placeWords, siteWords, sitesWords, writerWords, writersWords, runWords, runsWords}
-use Rattle.layout.specs.Reading.{readWord, readClock, readPast, readVersion, readPlace, readSite, readWriter, readRun}
+use Rattle.layout.specs.Words.{clockWords, pastWords, versionWords, placeWords, siteWords, sitesWords, writerWords, writersWords}
+use Rattle.layout.specs.Reading.{readWord, readClock, readPast, readVersion, readPlace, readSite, readWriter}
 use Rattle.layout.proofs.Codec.{Laws, FitMany, many}
-use Rattle.layout.proofs.Jobs.{cons-same, FitJobs, jobs-laws}
+use Rattle.layout.proofs.Jobs.{cons-same}
 
 -- ---- words
 
@@ -163,81 +162,3 @@ pub writers-laws : (z : Counts)
     → Laws (z .writers * writerSize z) (writersWords z) (readWriters z) (FitWriters z)
 unfolding writersWords
 writers-laws z = many (z .writers) (writer-laws z) noWriter
-
--- ---- runs
-
-pub record FitRun (z : Counts) (r : Run) : Type 0 where
-  pub job : FitJobs (r .job)
-  pub snapshot : FitPlace z (r .branch .snapshot)
-
--- Four words, and a window behind them.
-abbrev fourWords : List ℕ → ℕ → List ℕ → List ℕ
-fourWords l at t =
-    readWord l at ∷ readWord l (at + jobsOffset)
-    ∷ readWord l (at + doneOffset) ∷ readWord l (at + readOffset) ∷ t
-
-four : (l : List ℕ) (at n : ℕ)
-    → fourWords l at (window l (at + planOffset) n) ≡ window l at (planOffset + n)
-unfolding window
-four l at n =
-    let e : planOffset + n ≡ suc (suc (suc (suc n))) = omega arith in
-    let d : at + 1 + 1 ≡ at + doneOffset = omega arith in
-    let r : at + doneOffset + 1 ≡ at + readOffset = omega arith in
-    let p : at + readOffset + 1 ≡ at + planOffset = omega arith in
-    rw (e, d, r, p)
-
-run-round : (z : Counts) (l : List ℕ) (at : ℕ)
-    → runWords z (readRun z l at) ≡ window l at (runSize z)
-unfolding runSize runWords readRun
-run-round z l at =
-    let b = at + planOffset in
-    let e : at + snapshotOffset ≡ b + planSize = omega arith in
-    ap (fourWords l at) (ap₂ _++_ (jobs-laws .round l b)
-    (rw e (place-laws z .round l (b + planSize)))
-    ∙ sym (window-add l b planSize (placeSize z)))
-    ∙ four l at (planSize + placeSize z) ∙ ap (window l at) (omega arith)
-
-run-same : (z : Counts) (a b : Run) → FitRun z a → FitRun z b → runWords z a ≡ runWords z b → a ≡ b
-unfolding runWords
-run-same z a b F G e =
-    let J = jobs-laws in
-    let P = place-laws z in
-    let c₁ = cons-same _ _ _ _ e in
-    let c₂ = cons-same _ _ _ _ (c₁ .1) in
-    let c₃ = cons-same _ _ _ _ (c₂ .1) in
-    let c₄ = cons-same _ _ _ _ (c₃ .1) in
-    let d = append-same _ _ _ _ (J .long (a .job) ∙ sym (J .long (b .job))) (c₄ .1) in
-    let p = c₁ .0 in let q = c₂ .0 in let r = c₃ .0 in let s = c₄ .0 in
-    let t = J .same (a .job) (b .job) (F .job) (G .job) (d .0) in
-    let u = P .same (a .branch .snapshot) (b .branch .snapshot) (F .snapshot) (G .snapshot)
-    (d .1) in
-    λ i. record {
-      state = p i;
-      jobs = q i;
-      done = r i;
-      job = t i;
-      branch = record { read = s i; snapshot = u i };
-    }
-
-pub run-laws : (z : Counts) → Laws (runSize z) (runWords z) (readRun z) (FitRun z)
-unfolding runSize runWords readRun
-run-laws z =
-    let J = jobs-laws in
-    let P = place-laws z in
-    record {
-      long = λ r.
-          rw (length-append, J .long (r .job), P .long (r .branch .snapshot)) (omega arith);
-      round = run-round z;
-      fits = λ l at. record { job = J .fits l _; snapshot = P .fits l _ };
-      same = run-same z;
-    }
-
-abbrev pub FitRuns : Counts → (ℕ → Run) → Type 0
-FitRuns z = FitMany (z .runs) freeRun (FitRun z)
-
-abbrev readRuns : Counts → List ℕ → ℕ → ℕ → Run
-readRuns z l at = upto (z .runs) freeRun (λ r. readRun z l (at + r * runSize z))
-
-pub runs-laws : (z : Counts) → Laws (z .runs * runSize z) (runsWords z) (readRuns z) (FitRuns z)
-unfolding runsWords
-runs-laws z = many (z .runs) (run-laws z) freeRun

@@ -13,7 +13,7 @@ use Rattle.sizes.specs.declared.Counts.{Counts}
 use Rattle.sizes.specs.Bounds.{pastOffset, siteSize, writerSize, runSize, masterAt, sitesAt, writersAt, runsAt, tailAt, mayHoldAt, maySaveAt, siteAt, writerAt, runAt, snapshotAt, keyAt, rowAt}
 use Rattle.sizes.specs.Runs.{maxJobs, jobSize}
 use Rattle.model.specs.Version.{held}
-use Rattle.model.specs.Store.{noSite, noWriter, noJob, freeRun}
+use Rattle.model.specs.Store.{branchOf, noSite, noWriter, noJob, freeRun}
 use Rattle.layout.specs.Reading.{readWord, readClock, readPast, readVersion, readPlace, readSite, readWriter, readJob, readJobs, readRun, readMasks, readTail, countsIn, storeOf}
 use Rattle.layout.proofs.Places.{place-at}
 
@@ -58,10 +58,10 @@ module _ (l : List ℕ) (z : Counts) (e : z ≡ countsIn l) where
   run-in r h =
       rw (← e) (upto-in (z .runs) freeRun (λ r. readRun z l (runsAt z + r * runSize z)) r h)
 
-  pub snapshot-in : (r : ℕ) → r < z .runs
-      → storeOf l .run r .branch .snapshot ≡ readPlace z l (snapshotAt z r)
+  pub snapshot-in : (r n : ℕ) → r < z .runs
+      → branchOf n (storeOf l .run r) .snapshot ≡ readPlace z l (snapshotAt z r n)
   unfolding readRun snapshotAt
-  snapshot-in r h =
+  snapshot-in r n h =
       rw (run-in r h)
 
   -- What site o may hold, and writer w may save.

@@ -1,6 +1,6 @@
 -- A store of words into one part of a written store, as a change of the store.
--- put-..-part: within one site, writer or run, or the tail. put-..: a whole part, or words of it.
--- run-twice, phase: one change after another.
+-- put-..-part: within one site or writer, or the tail. put-..: a whole part, or words of it.
+-- put-twice, phase: one change after another. Of runs: RunUpdates.
 -- Assumes nothing.
 use mathlib.Core.Path.{_≡_, refl, sym, ap, _∙_, fun-ext}
 use mathlib.Core.Bool.{Bool, true, false, cond}
@@ -14,21 +14,19 @@ use lib.Seq.{sets}
 use Rattle.words.specs.Lists.{putAt}
 use Rattle.words.proofs.Stores.{sets-left, sets-behind, sets-all}
 use Rattle.words.proofs.Lists.{putAt-same}
-use Rattle.sizes.specs.Bounds.{placeSize, siteSize, writerSize, runSize, masterAt, sitesAt, writersAt, runsAt, siteAt, staleAt, allowanceAt, tailSize, tailAt, roundAt, mayHoldAt, maySaveAt, writerAt, runAt, snapshotAt}
-use Rattle.sizes.specs.Runs.{doneOffset, snapshotOffset}
+use Rattle.sizes.specs.Bounds.{placeSize, siteSize, writerSize, masterAt, sitesAt, writersAt, siteAt, staleAt, allowanceAt, tailSize, tailAt, roundAt, mayHoldAt, maySaveAt, writerAt}
 use Rattle.model.specs.Algebra.{Place}
 use Rattle.model.specs.Version.{Version}
 use Rattle.model.specs.Marks.{staleMask}
 use Rattle.model.specs.Tail.{Tail, tailRound, tailHold, tailSave}
-use Rattle.model.specs.Store.{Writer, Run, Site, Store, withLast, withMaster, withSites, withSite, siteCached, siteMarked, siteAllowed, siteWith, withCache, withWriter, withRun, withState, withSnapshot, withJobDone, withTail, withRound, withMayHold, withMaySave}
-use Rattle.layout.specs.Words.{headerWords, placeWords, siteWords, sitesWords, writerWords, writersWords, jobsWords, runWords, runsWords, tailWords, storeWords}
+use Rattle.model.specs.Store.{Writer, Site, Store, withLast, withMaster, withSites, withSite, siteCached, siteMarked, siteAllowed, siteWith, withCache, withWriter, withTail, withRound, withMayHold, withMaySave}
+use Rattle.layout.specs.Words.{headerWords, placeWords, siteWords, sitesWords, writerWords, writersWords, tailWords, storeWords}
 use Rattle.layout.specs.Buffer.{written}
 use Rattle.layout.specs.Reading.{storeOf}
-use Rattle.layout.proofs.Parts.{place-laws, site-laws, writer-laws, run-laws}
-use Rattle.layout.proofs.Jobs.{jobs-laws}
+use Rattle.layout.proofs.Parts.{place-laws, site-laws, writer-laws}
 use Rattle.layout.proofs.Tail.{tail-laws, tail-round, tail-hold, tail-save}
 use Rattle.layout.proofs.Whole.{FitStore, store-back, written-twice}
-use Rattle.layout.proofs.Views.{put-area, put-row-part, withRuns, master-area, sites-area, writers-area, runs-area, tail-area}
+use Rattle.layout.proofs.Views.{put-area, put-row-part, master-area, sites-area, writers-area, tail-area}
 
 -- ---- the last number, the master and the words of the tail
 
@@ -96,17 +94,10 @@ put-writer-part : (s : Store) (l : List ℕ) (w i : ℕ) (x : List ℕ) (y : Wri
 unfolding withWriter writerAt writersWords
 put-writer-part s l = put-row-part (writer-laws (s .counts)) (writers-area s l) (s .writer)
 
-put-run-part : (s : Store) (l : List ℕ) (r i : ℕ) (x : List ℕ) (y : Run)
-    → r < s .counts .runs → i + length x ≤ runSize (s .counts)
-    → sets (runWords (s .counts) (s .run r)) i x ≡ runWords (s .counts) y
-    → sets (written s l) (runAt (s .counts) r + i) x ≡ written (withRun s r y) l
-unfolding withRun runAt runsWords
-put-run-part s l = put-row-part (run-laws (s .counts)) (runs-area s l) (s .run)
-
 -- ---- whole parts
 
 -- A part put twice.
-put-twice : {A : Type 0} (f : ℕ → A) (i : ℕ) (x y : A) → putAt (putAt f i x) i y ≡ putAt f i y
+pub put-twice : {A : Type 0} (f : ℕ → A) (i : ℕ) (x y : A) → putAt (putAt f i x) i y ≡ putAt f i y
 unfolding putAt
 put-twice {A} f i x y = fun-ext (λ j. last (eqb j i) j)
   where
@@ -189,59 +180,7 @@ put-writer s l w y h =
     rw e (put-writer-part s l w 0 (writerWords z y) y h (omega (arith, L .long y))
     (sets-all (writerWords z x) (writerWords z y) (L .long y ∙ sym (L .long x))))
 
-pub put-run : (s : Store) (l : List ℕ) (r : ℕ) (y : Run) → r < s .counts .runs
-    → sets (written s l) (runAt (s .counts) r) (runWords (s .counts) y) ≡ written (withRun s r y) l
-put-run s l r y h =
-    let z = s .counts in
-    let L = run-laws z in
-    let x = s .run r in
-    let e : runAt z r ≡ runAt z r + 0 = omega arith in
-    rw e (put-run-part s l r 0 (runWords z y) y h (omega (arith, L .long y))
-    (sets-all (runWords z x) (runWords z y) (L .long y ∙ sym (L .long x))))
-
--- ---- words and parts of a run
-
-pub put-state : (s : Store) (l : List ℕ) (r x : ℕ) → r < s .counts .runs
-    → set (written s l) (runAt (s .counts) r) x ≡ written (withRun s r (withState (s .run r) x)) l
-unfolding runSize runWords withState
-put-state s l r x h =
-    let e : runAt (s .counts) r ≡ runAt (s .counts) r + 0 = omega arith in
-    rw e (put-run-part s l r 0 (x ∷ []) (withState (s .run r) x) h (omega arith) refl)
-
-pub put-snapshot : (s : Store) (l : List ℕ) (r : ℕ) (p : Place Version) → r < s .counts .runs
-    → sets (written s l) (snapshotAt (s .counts) r) (placeWords (s .counts) p)
-    ≡ written (withRun s r (withSnapshot (s .run r) p)) l
-unfolding runSize runWords withSnapshot snapshotAt
-put-snapshot s l r p h =
-    let z = s .counts in
-    let a = s .run r in
-    let L = place-laws z in
-    let new = placeWords z p in
-    let before = a .state ∷ a .jobs ∷ a .done ∷ a .branch .read ∷ jobsWords (a .job) in
-    let old = placeWords z (a .branch .snapshot) in
-    let e : length before ≡ snapshotOffset = omega (arith, jobs-laws .long (a .job)) in
-    let same : length new ≡ length old = L .long p ∙ sym (L .long (a .branch .snapshot)) in
-    put-run-part s l r snapshotOffset new (withSnapshot a p) h (omega (arith, L .long p))
-    (ap (λ (i : ℕ). sets (runWords z a) i new) (sym e ∙ sym (add-zero (length before)))
-    ∙ sets-behind before old new 0 (omega arith)
-    ∙ ap (λ (t : List ℕ). before ++ t) (sets-all old new same))
-
--- The done and the read mask.
-pub put-masks : (s : Store) (l : List ℕ) (r x y : ℕ) → r < s .counts .runs
-    → sets (written s l) (runAt (s .counts) r + doneOffset) (x ∷ y ∷ [])
-    ≡ written (withRun s r (withJobDone (s .run r) x y (s .run r .branch .snapshot))) l
-unfolding runSize runWords withJobDone
-put-masks s l r x y h =
-    let a = s .run r in
-    put-run-part s l r doneOffset (x ∷ y ∷ []) (withJobDone a x y (a .branch .snapshot)) h
-    (omega arith) refl
-
 -- ---- one change after another
-
--- A run changed twice.
-pub run-twice : (s : Store) (r : ℕ) (x y : Run) → withRun (withRun s r x) r y ≡ withRun s r y
-unfolding withRun
-run-twice s r x y = ap (withRuns s) (put-twice (s .run) r x y)
 
 -- A change of what the change before it left is the change of its store.
 pub phase : (s : Store) (l : List ℕ) (f : Store → Store) → FitStore s → f s .counts ≡ s .counts

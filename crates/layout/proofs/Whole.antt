@@ -21,7 +21,8 @@ use Rattle.model.specs.Store.{Writer, Run, Site, Store}
 use Rattle.layout.specs.Words.{headerWords, placeWords, sitesWords, writersWords, runsWords, tailWords, storeWords}
 use Rattle.layout.specs.Reading.{readWord, countsIn, storeOf}
 use Rattle.layout.specs.Buffer.{written, shaped}
-use Rattle.layout.proofs.Parts.{FitPlace, FitSites, FitWriters, FitRuns, place-laws, sites-laws, writers-laws, runs-laws}
+use Rattle.layout.proofs.Parts.{FitPlace, FitSites, FitWriters, place-laws, sites-laws, writers-laws}
+use Rattle.layout.proofs.Runs.{FitRuns, runs-laws}
 use Rattle.layout.proofs.Tail.{FitTail, tail-laws}
 use Rattle.layout.proofs.Shapes.{shaped-out, shaped-in}
 

@@ -50,10 +50,17 @@ unfoldable pub jobsWords : (ℕ → Job) → List ℕ
 jobsWords f = blocks maxJobs (λ i. jobWords (f i))
 
 -- "state, number of jobs, done mask, read mask, 8 jobs of 3 words, then the card, K versions"
-unfoldable pub runWords : Counts → Run → List ℕ
-runWords z r =
+abbrev pub frontWords : Counts → Run → List ℕ
+frontWords z r =
     r .state ∷ r .jobs ∷ r .done ∷ r .branch .read
     ∷ (jobsWords (r .job) ++ placeWords z (r .branch .snapshot))
+
+-- Behind the card: nothing.
+abbrev pub restWords : Counts → Run → List ℕ
+restWords z r = []
+
+unfoldable pub runWords : Counts → Run → List ℕ
+runWords z r = frontWords z r ++ restWords z r
 
 unfoldable pub runsWords : Counts → (ℕ → Run) → List ℕ
 runsWords z f = blocks (z .runs) (λ r. runWords z (f r))

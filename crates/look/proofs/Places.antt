@@ -42,7 +42,7 @@ place-in l z e p i h =
     test (eqb p 0) (λ a. rw a (master-in l z e))
     (λ a. test (eqb p 1)
     (λ b. rw (a, b) (cache-in l z e i (omega (arith, limit-sites z p a b))))
-    (λ b. rw (a, b) (snapshot-in l z e i (omega (arith, limit-runs z p a b)))))
+    (λ b. rw (a, b) (snapshot-in l z e i 0 (omega (arith, limit-runs z p a b)))))
 
 pub place-area : (len : ℕ) (z : Counts) → Ranged z → totalOf z ≤ len
     → (p i : ℕ) → i < lookLimit z p → Area len z (placeAt z p i)
@@ -51,7 +51,7 @@ place-area len z R f p i h =
     test (eqb p 0) (λ a. rw a (master-area len z R f))
     (λ a. test (eqb p 1)
     (λ b. rw (a, b) (site-area len z R f i (omega (arith, limit-sites z p a b))))
-    (λ b. rw (a, b) (snapshot-area len z R f i (omega (arith, limit-runs z p a b)))))
+    (λ b. rw (a, b) (snapshot-area len z R f i 0 (omega (arith, limit-runs z p a b)))))
 
 -- ---- a row
 

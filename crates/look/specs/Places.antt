@@ -9,7 +9,7 @@ use Rattle.sizes.specs.declared.Counts.{Counts}
 use Rattle.sizes.specs.Bounds.{masterAt, siteAt, snapshotAt, keyAt, rowAt}
 
 unfoldable pub placeAt : Counts → ℕ → ℕ → ℕ
-placeAt z p i = cond (eqb p 0) (masterAt z) (cond (eqb p 1) (siteAt z i) (snapshotAt z i))
+placeAt z p i = cond (eqb p 0) (masterAt z) (cond (eqb p 1) (siteAt z i) (snapshotAt z i 0))
 
 -- Row k of the version of key k.
 unfoldable pub ownRowAt : Counts → ℕ → ℕ → ℕ → ℕ

@@ -23,7 +23,7 @@ use Rattle.layout.specs.Reading.{readPlace, storeOf}
 use Rattle.layout.specs.Stored.{putPlace}
 use Rattle.layout.specs.Buffer.{written}
 use Rattle.layout.proofs.Readings.{cache-in}
-use Rattle.layout.proofs.Updates.{put-snapshot}
+use Rattle.layout.proofs.RunUpdates.{put-snapshot}
 use Rattle.version.specs.Places.{Area}
 use Rattle.version.proofs.Stores.{place-beside, snapshot-area}
 use Rattle.form.proofs.Known.{form-area, form-counts, form-again}
@@ -35,24 +35,24 @@ use Rattle.prepare.specs.Turns.{mergedSites, merged, MergeArea}
 use Rattle.prepare.proofs.Merging.{place-twice}
 
 module _ (l : List ℕ) (z : Counts) (r : ℕ) (U : UsedRun l z r) where
-  pub snapshot-in-place : Area (length l) z (snapshotAt z r)
+  pub snapshot-in-place : Area (length l) z (snapshotAt z r 0)
   snapshot-in-place =
       let R = form-area l z (U .form) in
-      snapshot-area (length l) z (R .ranged) (R .fits) r (U .run)
+      snapshot-area (length l) z (R .ranged) (R .fits) r 0 (U .run)
 
   stored : (p : Place Version)
-      → putPlace z l (snapshotAt z r) p
+      → putPlace z l (snapshotAt z r 0) p
       ≡ written (withRun (storeOf l) r (withSnapshot (storeOf l .run r) p)) l
   stored p =
       let s = storeOf l in
       let same = form-counts l z (U .form) in
-      let put : putPlace z (written s l) (snapshotAt z r) p
+      let put : putPlace z (written s l) (snapshotAt z r 0) p
       ≡ written (withRun s r (withSnapshot (s .run r) p)) l =
-      rw (← same) (put-snapshot s l r p (rw same (U .run))) in
-      ap (λ (m : List ℕ). putPlace z m (snapshotAt z r) p) (sym (form-again l z (U .form))) ∙ put
+      rw (← same) (put-snapshot s l r 0 p (rw same (U .run))) in
+      ap (λ (m : List ℕ). putPlace z m (snapshotAt z r 0) p) (sym (form-again l z (U .form))) ∙ put
 
   -- at: where the snapshot is. m: the buffer with it cleared.
-  module _ (at : ℕ) (c : at ≡ snapshotAt z r) (m : List ℕ)
+  module _ (at : ℕ) (c : at ≡ snapshotAt z r 0) (m : List ℕ)
       (e : m ≡ putPlace z l at emptyPlace) where
     fits : Area (length l) z at
     fits = rw c snapshot-in-place
@@ -61,14 +61,14 @@ module _ (l : List ℕ) (z : Counts) (r : ℕ) (U : UsedRun l z r) where
         → readPlace z m (siteAt z o) ≡ readPlace z l (siteAt z o)
     cache-beside o h =
         rw e (place-beside z l at (siteAt z o) emptyPlace
-        (inr (rw c (snapshot-behind l z r U o h))))
+        (inr (rw c (snapshot-behind l z r U 0 o h))))
 
     pub merge-area : MergeArea m z at
     merge-area =
         let long : length m ≡ length l = rw e (length-sets l at (placeWords z emptyPlace)) in
         record {
           area = rw long fits;
-          behind = λ o h. rw c (snapshot-behind l z r U o h);
+          behind = λ o h. rw c (snapshot-behind l z r U 0 o h);
           empty = rw e (place-twice z l at emptyPlace emptyPlace (fits .fits));
         }
 

@@ -92,7 +92,7 @@ module _ (l : List ℕ) (z : Counts) (r : ℕ) (U : UsedRun l z r)
         let s₁ = prepared (storeOf l) r in
         f ∙ rw e (phase s₁ l (λ (t : Store). merged t r) F (merged-counts s₁ r))
 
-    carried : (at : ℕ) → at ≡ snapshotAt z r
+    carried : (at : ℕ) → at ≡ snapshotAt z r 0
         → readPlace z m at ≡ prepareSnapshot (storeOf l) r
     carried at c =
         let s = storeOf l in
@@ -100,10 +100,10 @@ module _ (l : List ℕ) (z : Counts) (r : ℕ) (U : UsedRun l z r)
         let counts : z ≡ countsIn m =
         sym (form-counts l z (U .form)) ∙ sym (next-counts s r)
         ∙ rw next-left (sym (counts-back (next s r) l)) in
-        rw c (sym (snapshot-in m z counts r (U .run))
+        rw c (sym (snapshot-in m z counts r 0 (U .run))
         ∙ ap (λ (t : Store). t .run r .branch .snapshot) back ∙ next-snapshot s r)
 
-    pub prepare-done : (at C : ℕ) → at ≡ snapshotAt z r
+    pub prepare-done : (at C : ℕ) → at ≡ snapshotAt z r 0
         → C ≡ maskBelow (z .keys) (λ k. held (readPlace z m at k))
         → Ends (prepare r) l (0 ∷ C ∷ []) m
     unfolding answer leaves

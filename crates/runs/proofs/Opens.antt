@@ -19,13 +19,13 @@ use Rattle.model.specs.Calls.{openRun, ruleOf}
 use Rattle.layout.specs.Reading.{storeOf, readRun}
 use Rattle.layout.specs.Buffer.{inForm}
 use Rattle.layout.specs.Calls.{leaves}
-use Rattle.layout.proofs.Parts.{run-laws}
+use Rattle.layout.proofs.Runs.{run-laws}
 use Rattle.model.proofs.Outcomes.{no-cause, no-lack, free-state, run-rest}
 use Rattle.layout.proofs.Rules.Open.{Listed, list-out}
 use Rattle.form.specs.Parts.{FormWith}
 use Rattle.form.proofs.Known.{form-counts, Ends, ends-refused, ends-done}
 use Rattle.status.proofs.Freed.{free-is}
-use Rattle.status.proofs.Known.{area-ends, run-known, run-stored}
+use Rattle.status.proofs.Known.{run-known, run-stored}
 use Rattle.runs.specs.Runs.{putJobs}
 use Rattle.runs.proofs.Started.{jobs-stored}
 
@@ -95,7 +95,7 @@ unfolding answer leaves openDone
 open-done l z r jobs m H e f =
     let s = storeOf l in
     let R = open-ready l z r jobs H e in
-    let end = area-ends _ z _ (run-known l z r H (R .run) .area) in
+    let end = run-known l z r H (R .run) .area .fits in
     ends-done (openRun r jobs) l (openCause s r jobs) (openDone s r jobs) (H .form)
     (open-rule r jobs s) e (0 ∷ listedCount jobs ∷ []) m refl
     (f ∙ jobs-stored z l (runAt z r) jobs (R .listed) end (R .free)

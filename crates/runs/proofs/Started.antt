@@ -19,9 +19,10 @@ use Rattle.sizes.specs.Runs.{maxJobs, jobSize, readsOffset, upstreamOffset, job
 use Rattle.model.specs.Store.{Run, noJob, noJobs, emptyPlace, noBranch, freeRun}
 use Rattle.model.specs.Outcome.{openState}
 use Rattle.model.specs.Runs.{listedJob, listedCount, listedJobs, openedRun}
-use Rattle.layout.specs.Words.{jobsWords, placeWords, runWords}
+use Rattle.layout.specs.Words.{jobsWords, placeWords, frontWords, runWords}
 use Rattle.layout.specs.Reading.{readJob, readJobs, readRun}
-use Rattle.layout.proofs.Parts.{run-laws}
+use Rattle.layout.proofs.Codec.{into-first}
+use Rattle.layout.proofs.Runs.{front-laws, rest-laws, run-laws}
 use Rattle.layout.proofs.Jobs.{jobs-laws}
 use Rattle.layout.proofs.Windows.{part-again, part-twice}
 use Rattle.layout.proofs.Readings.{job-at}
@@ -89,10 +90,10 @@ started-words : (z : Counts) (n : ℕ)
 unfolding runWords
 started-words z n = refl
 
-opened-words : (z : Counts) (l : List ℕ) → Listed z l
-    → sets (runWords z (started (listedCount l))) planOffset l ≡ runWords z (openedRun l)
-unfolding runWords openedRun
-opened-words z l L =
+opened-front : (z : Counts) (l : List ℕ) → Listed z l
+    → sets (frontWords z (started (listedCount l))) planOffset l ≡ frontWords z (openedRun l)
+unfolding openedRun
+opened-front z l L =
     let status = openState ∷ listedCount l ∷ 0 ∷ 0 ∷ [] in
     let jobs = jobsWords noJobs in
     let snapshot = placeWords z emptyPlace in
@@ -101,6 +102,13 @@ opened-words z l L =
     sets-behind status (jobs ++ snapshot) l 0 (rw length-append (omega arith))
     ∙ ap (λ (t : List ℕ). status ++ t) (sets-left l jobs snapshot 0 h
     ∙ ap (λ (t : List ℕ). t ++ snapshot) (jobs-listed z l L))
+
+opened-words : (z : Counts) (l : List ℕ) → Listed z l
+    → sets (runWords z (started (listedCount l))) planOffset l ≡ runWords z (openedRun l)
+unfolding runWords openedRun
+opened-words z l L =
+    into-first (front-laws z) (rest-laws z) (started (listedCount l)) (openedRun l) planOffset l
+    (omega (arith, L .whole, L .high)) (opened-front z l L) refl
 
 -- ---- in a buffer
 

@@ -175,11 +175,11 @@ pub allowance-lies : (z : Counts) (at : ℕ)
 unfolding siteSize
 allowance-lies z at = record { starts = omega arith; ends = omega arith }
 
--- The snapshot is the last part of its run.
-pub snapshot-lies : (z : Counts) (r : ℕ)
-    → Lies (runAt z r + snapshotOffset) (runAt z r + runSize z) (snapshotAt z r) (placeSize z)
+-- The snapshot of branch n lies behind the plan of its run.
+pub snapshot-lies : (z : Counts) (r n : ℕ)
+    → Lies (runAt z r + snapshotOffset) (runAt z r + runSize z) (snapshotAt z r n) (placeSize z)
 unfolding snapshotAt runSize
-snapshot-lies z r = record { starts = omega arith; ends = omega arith }
+snapshot-lies z r n = record { starts = omega arith; ends = omega arith }
 
 -- Key k lies in its place, row d in its version or writer.
 pub key-lies : (z : Counts) (at k : ℕ) → k < z .keys

@@ -8,7 +8,7 @@ use Prim.Native.Nat.{ℕ, _+_, _*_, _≤_}
 use lib.Dec.{leb}
 use Rattle.sizes.specs.declared.Counts.{Counts}
 use Rattle.sizes.specs.declared.Sizes.{Sizes}
-use Rattle.sizes.specs.Runs.{snapshotOffset}
+use Rattle.sizes.specs.Runs.{readOffset, snapshotOffset}
 
 abbrev pub countsOf : ℕ → ℕ → ℕ → ℕ → Counts
 countsOf k w n p = record { keys = k; writers = w; sites = n; runs = p }
@@ -126,9 +126,15 @@ siteSize z = placeSize z + siteRest
 unfoldable pub writerSize : Counts → ℕ
 writerSize z = writerPastOffset + pastSize z
 
--- "runs P·(28 + K·V)"
+-- "runs P·(28 + K·V)": a run's front, and what stands behind it, its rest: nothing.
+abbrev pub runFront : Counts → ℕ
+runFront z = snapshotOffset + placeSize z
+
+abbrev pub runRest : Counts → ℕ
+runRest z = 0
+
 unfoldable pub runSize : Counts → ℕ
-runSize z = snapshotOffset + placeSize z
+runSize z = runFront z + runRest z
 
 -- Behind the runs, the tail. CR 8: "The last picked run is one stored word at the desk's end".
 -- CR 9: of the masks of what each office may hold and each writer may save "the words follow the
@@ -198,9 +204,12 @@ mayHoldAt z o = tailAt z + 1 + o
 abbrev pub maySaveAt : Counts → ℕ → ℕ
 maySaveAt z w = tailAt z + 1 + z .sites + w
 
--- The snapshot of run r.
-unfoldable pub snapshotAt : Counts → ℕ → ℕ
-snapshotAt z r = runAt z r + snapshotOffset
+-- The snapshot of branch n of run r, and its read mask: a run has one branch.
+unfoldable pub snapshotAt : Counts → ℕ → ℕ → ℕ
+snapshotAt z r n = runAt z r + snapshotOffset
+
+abbrev pub readAt : Counts → ℕ → ℕ → ℕ
+readAt z r n = runAt z r + readOffset
 
 -- The version of key k in the place at an index.
 unfoldable pub keyAt : Counts → ℕ → ℕ → ℕ

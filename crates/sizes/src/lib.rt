@@ -216,11 +216,11 @@ impl Counts {
         self.stale_at(at) + 1
     }
 
-    // Where the snapshot of run r begins.
+    // Where the snapshot of run r begins, of branch 0.
     pub fn snapshot_at(self, r: usize) -> usize
         requires { ⌜ Ranged self ⌝ }
         requires { ⌜ r < self .runs ⌝ }
-        ensures { λ at. ⌜ at ≡ snapshotAt self r ⌝ }
+        ensures { λ at. ⌜ at ≡ snapshotAt self r 0 ⌝ }
     {
         self.run_at(r) + RunOffset::SNAPSHOT
     }

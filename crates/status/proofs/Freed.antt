@@ -21,7 +21,7 @@ use Rattle.model.specs.Store.{Job, Run, noJob, noJobs, emptyPlace, freeRun}
 use Rattle.model.specs.Form.{zeroVersion, zeroJob, freeFormed, runFormed}
 use Rattle.layout.specs.Words.{jobsWords, runWords}
 use Rattle.layout.specs.Reading.{readClock, readPast, readVersion, readPlace, readJob, readJobs, readRun}
-use Rattle.layout.proofs.Parts.{FitRun, run-laws}
+use Rattle.layout.proofs.Runs.{FitRun, run-laws}
 use Rattle.layout.proofs.Jobs.{FitJobs, jobs-laws}
 use Rattle.layout.proofs.Merges.{unheld-is}
 use Rattle.version.proofs.Versions.{upto-all, nothing-read}

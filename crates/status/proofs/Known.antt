@@ -5,19 +5,19 @@
 use mathlib.Core.Path.{_≡_, sym, ap, _∙_}
 use mathlib.Core.Bool.{Bool, So, not}
 use mathlib.Core.List.{List}
-use Prim.Native.Nat.{ℕ, _+_, _≤_, _<_}
+use Prim.Native.Nat.{ℕ, _≤_, _<_}
 use native.Mathlib.Omega.{arith}
 use lib.ListN.{length, getD}
 use Rattle.words.proofs.Bools.{le-leb, gt-leb, leb-gt}
 use Rattle.sizes.specs.declared.Counts.{Counts}
-use Rattle.sizes.specs.Bounds.{runSize, runAt}
+use Rattle.sizes.specs.Bounds.{runAt}
 use Rattle.model.specs.Store.{Run, withRun}
 use Rattle.model.specs.Form.{runFormed}
 use Rattle.model.specs.Outcome.{refuse, allowed, runCause}
 use Rattle.layout.specs.Reading.{countsIn, storeOf, readRun}
 use Rattle.layout.specs.Stored.{putRun}
 use Rattle.layout.specs.Buffer.{written}
-use Rattle.layout.proofs.Updates.{put-run}
+use Rattle.layout.proofs.RunUpdates.{put-run}
 use Rattle.layout.proofs.Readings.{run-in}
 use Rattle.model.proofs.Formed.{well-out}
 use Rattle.model.proofs.Plans.{state-low}
@@ -28,10 +28,6 @@ use Rattle.form.proofs.Stores.{run-area}
 use Rattle.form.proofs.Known.{form-area, form-counts, form-again}
 
 -- ---- one run
-
-pub area-ends : (len : ℕ) (z : Counts) (at : ℕ) → RunArea len z at → at + runSize z ≤ len
-unfolding runSize
-area-ends len z at A = omega (arith, A .fits)
 
 pub record RunKnown (l : List ℕ) (z : Counts) (r : ℕ) : Type 0 where
   pub area : RunArea (length l) z (runAt z r)

@@ -19,7 +19,7 @@ use Rattle.model.specs.Calls.{step, ruleOf}
 use Rattle.layout.specs.Reading.{storeOf}
 use Rattle.layout.specs.Buffer.{written, inForm}
 use Rattle.layout.specs.Calls.{leaves}
-use Rattle.layout.proofs.Updates.{put-state}
+use Rattle.layout.proofs.RunUpdates.{put-state}
 use Rattle.form.proofs.Known.{form-again, Ends, ends-refused, ends-done}
 use Rattle.trial.specs.declared.Visit.{Visit}
 use Rattle.trial.specs.declared.Trial.{Trial}
@@ -96,7 +96,7 @@ module _ (l : List ℕ) (z : Counts) (r j : ℕ) (v : Visit) (t : Trial)
       let K = s .counts .keys in
       let U = found-run l z r j 0 v t F in
       let low : v .reads < 2 ^ K =
-      rw counts (visit-known l z r j 0 (snapshotAt z r) (U .0) (U .1) v (F .visit) .reads) in
+      rw counts (visit-known l z r j 0 (snapshotAt z r 0) (U .0) (U .1) v (F .visit) .reads) in
       let C = stepPull s r j 0 in
       let T = stepFetch s r j 0 in
       let p = found-pulled l z r j 0 v t F in

@@ -28,7 +28,7 @@ use Rattle.layout.proofs.Whole.{counts-back, store-back}
 use Rattle.layout.proofs.Fit.{fit-choice, fit-cache}
 use Rattle.layout.proofs.Readings.{cache-in, snapshot-in}
 use Rattle.layout.proofs.Follow.{form-fine}
-use Rattle.layout.proofs.Updates.{put-snapshot, put-masks, run-twice}
+use Rattle.layout.proofs.RunUpdates.{put-snapshot, put-masks, run-twice}
 use Rattle.version.specs.Places.{choice, Areas}
 use Rattle.version.proofs.Stores.{snapshot-site}
 use Rattle.form.specs.Parts.{FormWith}
@@ -45,33 +45,33 @@ use Rattle.trial.proofs.Finds.{found-counts, found-run, found-site, found-site-
 -- ---- by the store
 
 -- The snapshot, then the done and the read mask.
-run-stepped : (s : Store) (l : List ℕ) (r : ℕ) (q : Place Version) (x y : ℕ)
+run-stepped : (s : Store) (l : List ℕ) (r n : ℕ) (q : Place Version) (x y : ℕ)
     → r < s .counts .runs → let z = s .counts in
-    set (set (putPlace z (written s l) (snapshotAt z r) q) (runAt z r + 2) x) (runAt z r + 3) y
+    set (set (putPlace z (written s l) (snapshotAt z r n) q) (runAt z r + 2) x) (runAt z r + 3) y
     ≡ written (withRun s r (withJobDone (s .run r) x y q)) l
 unfolding withRun withSnapshot withJobDone
-run-stepped s l r q x y h =
+run-stepped s l r n q x y h =
     let z = s .counts in
     let a = withSnapshot (s .run r) q in
     let t = withRun s r a in
     let here : t .run r ≡ a = putAt-same (s .run) r a in
     let next : runAt z r + 3 ≡ suc (runAt z r + 2) = omega arith in
     let after : Run → Store = λ b. withRun t r (withJobDone b x y (b .branch .snapshot)) in
-    rw (put-snapshot s l r q h, next)
+    rw (put-snapshot s l r n q h, next)
     (put-masks t l r x y h ∙ ap (λ (b : Run). written (after b) l) here
     ∙ ap (λ (s : Store). written s l) (run-twice s r a (withJobDone a x y q)))
 
 -- The cache before them.
-step-stored : (l : List ℕ) (z : Counts) (r o : ℕ) (p q : Place Version) (x y : ℕ) → FormWith l z
+step-stored : (l : List ℕ) (z : Counts) (r n o : ℕ) (p q : Place Version) (x y : ℕ) → FormWith l z
     → r < z .runs
-    → set (set (putPlace z (written (withCache (storeOf l) o p) l) (snapshotAt z r) q)
+    → set (set (putPlace z (written (withCache (storeOf l) o p) l) (snapshotAt z r n) q)
     (runAt z r + 2) x) (runAt z r + 3) y
     ≡ written (withRun (withCache (storeOf l) o p) r
     (withJobDone (storeOf l .run r) x y q)) l
 unfolding withCache withSites
-step-stored l z r o p q x y H h =
+step-stored l z r n o p q x y H h =
     let same = form-counts l z H in
-    rw (← same) (run-stepped (withCache (storeOf l) o p) l r q x y (rw same h))
+    rw (← same) (run-stepped (withCache (storeOf l) o p) l r n q x y (rw same h))
 
 -- ---- by what was found
 
@@ -98,14 +98,14 @@ module _ (l : List ℕ) (z : Counts) (r j n : ℕ) (v : Visit) (t : Trial)
   site-at : v .cache ≡ siteAt z (stepSite s r j n)
   site-at = found-cache-at l z r j n v t F
 
-  snapshot-at : v .snapshot ≡ snapshotAt z r
+  snapshot-at : v .snapshot ≡ snapshotAt z r n
   snapshot-at = found-snapshot-at l z r j n v t F
 
   pub merge-areas : Areas (length l) z (v .snapshot) (v .cache)
   merge-areas =
       let S = form-area l z (F .form) in
       rw (site-at, snapshot-at)
-      (snapshot-site (length l) z (S .ranged) (S .fits) r _ (used .0 .run) site-low)
+      (snapshot-site (length l) z (S .ranged) (S .fits) r n _ (used .0 .run) site-low)
 
   -- ---- the cache
 
@@ -172,7 +172,7 @@ module _ (l : List ℕ) (z : Counts) (r j n : ℕ) (v : Visit) (t : Trial)
     snapshot-back : readPlace z m (v .snapshot) ≡ stepBranch s r j n .snapshot
     unfolding withCache withSites
     snapshot-back =
-        rw snapshot-at (sym (snapshot-in m z counts-there r (used .0 .run))
+        rw snapshot-at (sym (snapshot-in m z counts-there r n (used .0 .run))
         ∙ ap (λ (t : Store). branchOf n (t .run r) .snapshot) store-there)
 
     pub merged : putPlace z m (v .snapshot) (choice (testBit (t .pulled))
@@ -208,5 +208,5 @@ module _ (l : List ℕ) (z : Counts) (r j n : ℕ) (v : Visit) (t : Trial)
         found-reads l z r j n v t F,
         snapshot-at,
       )
-      (step-stored l z r (stepSite s r j n) (stepCache s r j n) (stepSnapshot s r j n) _ _
+      (step-stored l z r n (stepSite s r j n) (stepCache s r j n) (stepSnapshot s r j n) _ _
       (F .form) (used .0 .run))

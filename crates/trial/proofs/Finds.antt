@@ -64,27 +64,28 @@ module _ (l : List ℕ) (z : Counts) (r j n : ℕ) (v : Visit) (t : Trial)
   unfolding visitOf
   found-reads = ap (λ (v : Visit). v .reads) (F .visit)
 
-  pub found-snapshot-at : v .snapshot ≡ snapshotAt z r
+  pub found-snapshot-at : v .snapshot ≡ snapshotAt z r n
   unfolding visitOf
   found-snapshot-at = ap (λ (v : Visit). v .snapshot) (F .visit)
 
   pub found-site-at : v .site ≡ stepSite s r j n
-  found-site-at = site-at l z r j n (snapshotAt z r) (found-run .0) (found-run .1) v (F .visit)
+  found-site-at = site-at l z r j n (snapshotAt z r n) (found-run .0) (found-run .1) v (F .visit)
 
   pub found-cache-at : v .cache ≡ siteAt z (stepSite s r j n)
-  found-cache-at = cache-at l z r j n (snapshotAt z r) (found-run .0) (found-run .1) v (F .visit)
+  found-cache-at = cache-at l z r j n (snapshotAt z r n) (found-run .0) (found-run .1) v (F .visit)
 
   pub found-master-at : v .master ≡ masterAt z
-  found-master-at = master-at l z r j n (snapshotAt z r) (found-run .0) (found-run .1) v (F .visit)
+  found-master-at =
+      master-at l z r j n (snapshotAt z r n) (found-run .0) (found-run .1) v (F .visit)
 
   pub found-master : s .master ≡ readPlace z l (v .master)
-  found-master = old-master l z r j n (snapshotAt z r) (found-run .0) (found-run .1) v (F .visit)
+  found-master = old-master l z r j n (snapshotAt z r n) (found-run .0) (found-run .1) v (F .visit)
 
   pub found-cache : s .site (stepSite s r j n) .cache ≡ readPlace z l (v .cache)
-  found-cache = old-cache l z r j n (snapshotAt z r) (found-run .0) (found-run .1) v (F .visit)
+  found-cache = old-cache l z r j n (snapshotAt z r n) (found-run .0) (found-run .1) v (F .visit)
 
   pub found-snapshot : stepBranch s r j n .snapshot ≡ readPlace z l (v .snapshot)
-  found-snapshot = rw found-snapshot-at (snapshot-in l z (F .form .counts) r (found-run .0 .run))
+  found-snapshot = rw found-snapshot-at (snapshot-in l z (F .form .counts) r n (found-run .0 .run))
 
 -- ---- C's keys in the read mask m
 

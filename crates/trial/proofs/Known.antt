@@ -15,7 +15,7 @@ use lib.ListN.{length, getD}
 use lib.Pow.{pow-mono}
 use Rattle.words.proofs.Bools.{leb-gt}
 use Rattle.sizes.specs.declared.Counts.{Counts}
-use Rattle.sizes.specs.Bounds.{placeSize, siteSize, siteAt, runAt, snapshotAt}
+use Rattle.sizes.specs.Bounds.{placeSize, siteSize, runSize, siteAt, runAt, snapshotAt}
 use Rattle.sizes.specs.Runs.{maxJobs, readsOffset, upstreamOffset, jobsOffset, doneOffset, planOffset, snapshotOffset, jobAt}
 use Rattle.sizes.proofs.Offsets.{ordered, site-lies, run-lies, snapshot-lies}
 use Rattle.model.specs.Store.{Job, Run}
@@ -53,16 +53,17 @@ module _ (l : List ℕ) (z : Counts) (r : ℕ) (U : UsedRun l z r) where
 
   -- at: where it begins.
   pub run-index : (at : ℕ) → at ≡ runAt z r → at + snapshotOffset ≤ length l
+  unfolding runSize
   run-index at e = omega (arith, jobs-known .area .fits)
 
   -- Its snapshot lies behind the caches.
-  pub snapshot-behind : (o : ℕ) → o < z .sites → siteAt z o + placeSize z ≤ snapshotAt z r
+  pub snapshot-behind : (n o : ℕ) → o < z .sites → siteAt z o + placeSize z ≤ snapshotAt z r n
   unfolding siteSize
-  snapshot-behind o h =
+  snapshot-behind n o h =
       let q = ordered z (form-area l z (U .form) .ranged) in
       let s = site-lies z o h in
       let t = run-lies z r (U .run) in
-      let u = snapshot-lies z r in omega arith
+      let u = snapshot-lies z r n in omega arith
 
   pub count-word : getD l (runAt z r + jobsOffset) 0 ≡ storeOf l .run r .jobs
   unfolding readRun

@@ -17,8 +17,8 @@ use Rattle.masks.specs.Mask.{testBit, maskBelow}
 use Rattle.masks.proofs.Bits.{test-or}
 use Rattle.masks.proofs.Sets.{item-of}
 use Rattle.sizes.specs.declared.Counts.{Counts}
-use Rattle.sizes.specs.Bounds.{masterAt, siteAt, runAt, snapshotAt}
-use Rattle.sizes.specs.Runs.{everyJob, readOffset}
+use Rattle.sizes.specs.Bounds.{runSize, masterAt, siteAt, snapshotAt, readAt}
+use Rattle.sizes.specs.Runs.{everyJob}
 use Rattle.model.specs.Algebra.{Algebra, lacking}
 use Rattle.model.specs.Version.{Version, versions}
 use Rattle.model.specs.Sets.{drawSet, fetchSet, fetched, unfetchable}
@@ -210,14 +210,14 @@ module _ (l : List ℕ) (z : Counts) (r j n snapshot : ℕ) (U : UsedRun l z r)
 -- ---- the run's own
 
 pub branch-own : (l : List ℕ) (z : Counts) (r n : ℕ) → FormWith l z → r < z .runs
-    → BranchAt l z r n (snapshotAt z r) (runAt z r + readOffset)
-unfolding readRun
+    → BranchAt l z r n (snapshotAt z r n) (readAt z r n)
+unfolding runSize readRun
 branch-own l z r n H h =
     let S = form-area l z H in
     let K = run-known l z r H h in
     record {
-      area = snapshot-area (length l) z (S .ranged) (S .fits) r h;
-      place = snapshot-in l z (H .counts) r h;
+      area = snapshot-area (length l) z (S .ranged) (S .fits) r n h;
+      place = snapshot-in l z (H .counts) r n h;
       low = omega (arith, K .area .fits);
       mask = ap (λ (a : Run). branchOf n a .read) (K .run);
     }

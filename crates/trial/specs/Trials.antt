@@ -61,5 +61,5 @@ pub record BranchAt (l : List ℕ) (z : Counts) (r n snapshot read : ℕ) : Type
 pub record Finds (l : List ℕ) (z : Counts) (r j n : ℕ) (v : Visit) (t : Trial) : Type 0 where
   pub form : FormWith l z
   pub free : stepCause (storeOf l) r j n ≡ 0
-  pub visit : v ≡ visitOf (storeOf l) r j n (snapshotAt z r)
+  pub visit : v ≡ visitOf (storeOf l) r j n (snapshotAt z r n)
   pub trial : t ≡ trialOf (storeOf l) r j n

@@ -49,7 +49,7 @@ pub enum Tried {
 // What a step of job j of run r would do, on branch 0: with the run's own snapshot and read mask.
 pub fn try_job(words: &[u32], z: Counts, r: usize, j: usize) -> Tried
     requires { ⌜ FormWith (now words) z ⌝ }
-    ensures { λ t. ⌜ t ≡ triedOf (storeOf (now (words .entry))) r j 0 (snapshotAt z r) ⌝ }
+    ensures { λ t. ⌜ t ≡ triedOf (storeOf (now (words .entry))) r j 0 (snapshotAt z r 0) ⌝ }
 {
     let runs = z.runs;
     if runs <= r {

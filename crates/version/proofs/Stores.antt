@@ -46,11 +46,11 @@ module _ (len : ℕ) (z : Counts) (R : Ranged z) (fits : totalOf z ≤ len) wher
   pub site-area : (o : ℕ) → o < z .sites → Area len z (siteAt z o)
   site-area o h = site-cache len z (siteAt z o) (site-whole o h)
 
-  pub snapshot-area : (r : ℕ) → r < z .runs → Area len z (snapshotAt z r)
-  snapshot-area r h =
+  pub snapshot-area : (r n : ℕ) → r < z .runs → Area len z (snapshotAt z r n)
+  snapshot-area r n h =
       let q = ordered z R in
       let s = run-lies z r h in
-      let t = snapshot-lies z r in
+      let t = snapshot-lies z r n in
       record { ranged = R; low = omega arith; fits = omega arith }
 
   pub site-apart : (o : ℕ) → o < z .sites
@@ -69,16 +69,16 @@ module _ (len : ℕ) (z : Counts) (R : Ranged z) (fits : totalOf z ≤ len) wher
         apart = inr (inr (omega arith));
       }
 
-  pub snapshot-site : (r o : ℕ) → r < z .runs → o < z .sites
-      → Areas len z (snapshotAt z r) (siteAt z o)
+  pub snapshot-site : (r n o : ℕ) → r < z .runs → o < z .sites
+      → Areas len z (snapshotAt z r n) (siteAt z o)
   unfolding siteSize
-  snapshot-site r o h i =
+  snapshot-site r n o h i =
       let q = ordered z R in
       let s = site-lies z o i in
       let t = run-lies z r h in
-      let u = snapshot-lies z r in
+      let u = snapshot-lies z r n in
       record {
-        target = snapshot-area r h;
+        target = snapshot-area r n h;
         source = site-area o i;
         apart = inr (inr (omega arith));
       }

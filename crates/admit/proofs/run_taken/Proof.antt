@@ -5,6 +5,7 @@ use Prim.Native.Nat.{ℕ, _+_}
 use borrow.Author.Needs.{needs}
 use native.Mathlib.Omega.{arith}
 use Rattle.masks.specs.Mask.{testBit}
+use Rattle.sizes.specs.Bounds.{runSize}
 use Rattle.sizes.specs.Runs.{snapshotOffset}
 use Rattle.layout.specs.Reading.{readPlace, readRun}
 use Rattle.admit.specs.Parts.{placeTaken}
@@ -13,7 +14,7 @@ use Rattle.admit.proofs.run_taken.Statement.{statement}
 use Rattle.admit.proofs.run_taken.Tie as tie
 
 reads-of-requires : tie.Need-reads-of-requires
-unfolding readRun
+unfolding runSize readRun
 reads-of-requires c κs =
     let s = c .before .before in (omega (arith, s .pre .0 .1 .fits), s .pre .1)
 
@@ -33,6 +34,7 @@ returns c =
     ∙ run-plan (a .z) l (a .at) m (a .last .0) (s .pre .1)
 
 pub run-taken-spec : {M : Type 1} → statement M
+unfolding runSize
 run-taken-spec =
     tie.close
     (tie.spec

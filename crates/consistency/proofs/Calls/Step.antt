@@ -140,7 +140,7 @@ module _ {s : Store} {b : Book} {f : ℕ → List ReadSet} {r j n : ℕ} (fine :
   next-book-run = putAt-same (b .run) r (copyRun s b r j n)
 
   now : ReadAs (s .counts .keys) (steppedRun s r j n .branch) (copyRun s b r j n .branch)
-      (readNow r j next nextBook)
+      (readNow r j n next nextBook)
   unfolding readNow withJobDone copyRun stepReads
   now =
       rw (next-run, next-book-run) (record {
@@ -149,18 +149,18 @@ module _ {s : Store} {b : Book} {f : ℕ → List ReadSet} {r j n : ℕ} (fine :
         copy = λ k h p. refl;
       })
 
-  done-inv : Inv next nextBook (putAt f r (readNow r j next nextBook ∷ f r))
+  done-inv : Inv next nextBook (putAt f r (readNow r j n next nextBook ∷ f r))
   unfolding withCache withSites withBookCaches
   done-inv =
       let F = v .follows in
-      let xs = readNow r j next nextBook ∷ f r in
+      let xs = readNow r j n next nextBook ∷ f r in
       let w = inv-cache v (stepSite s r j n) (stepCache s r j n) (copyCache s b r j n)
       (stepCache-related fine F a) (stepCache-closed fine F a) in
       inv-run w (putAt f r xs) r (steppedRun s r j n) (copyRun s b r j n) stepped-follows
       (a .run-in) (putAt-other f r xs) (λ x i. read x (rw (putAt-same f r xs) at i))
     where
       read : HasRead (s .counts .keys) (steppedRun s r j n) (copyRun s b r j n)
-          (readNow r j next nextBook ∷ f r)
+          (readNow r j n next nextBook ∷ f r)
       read x first = now
       read x (later i) = still x i
 

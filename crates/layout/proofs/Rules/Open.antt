@@ -25,7 +25,7 @@ use Rattle.model.specs.Outcome.{runCause}
 use Rattle.model.specs.Runs.{listedJob, listedCount, listedJobs, listValid, openCause, openedRun, openDone, openRule}
 use Rattle.model.proofs.Outcomes.{no-cause, no-lack}
 use Rattle.model.proofs.DoneReads.{doneReads-none}
-use Rattle.layout.proofs.Parts.{FitRun}
+use Rattle.layout.proofs.Runs.{FitRun}
 use Rattle.layout.proofs.Fit.{fit-empty, fit-run}
 use Rattle.model.proofs.FormedPlaces.{formed-empty}
 use Rattle.model.proofs.Formed.{well-out}

@@ -29,7 +29,8 @@ use Rattle.model.proofs.Rights.{unbarred-fetched}
 use Rattle.model.proofs.AtOnce.{prepared-at-once, unentitled-sites}
 use Rattle.model.proofs.DoneReads.{doneReads-none}
 use Rattle.layout.proofs.Codec.{FitMany}
-use Rattle.layout.proofs.Parts.{FitVersion, FitPlace, FitRun}
+use Rattle.layout.proofs.Parts.{FitVersion, FitPlace}
+use Rattle.layout.proofs.Runs.{FitRun}
 use Rattle.layout.proofs.Codec.{fit-put}
 use Rattle.layout.proofs.Fit.{fit-unheld, fit-merge, fit-caches, fit-run}
 use Rattle.model.proofs.FormedPlaces.{VersionFormed, version-unheld, version-merge, PlaceFormed}

@@ -24,7 +24,8 @@ use Rattle.model.proofs.Allowances.{over-no}
 use Rattle.model.proofs.Rights.{unbarred-within, unbarred-fetched}
 use Rattle.model.proofs.Steps.{Accepted, accepted, accepted-used, stepSnapshot-keeps, stepSnapshot-held, stepSnapshot-planned, steppedRun}
 use Rattle.model.proofs.DoneReads.{doneReads-mask}
-use Rattle.layout.proofs.Parts.{FitPlace, FitRun}
+use Rattle.layout.proofs.Parts.{FitPlace}
+use Rattle.layout.proofs.Runs.{FitRun}
 use Rattle.layout.proofs.Fit.{fit-choice, fit-merged, fit-cache, fit-run}
 use Rattle.model.proofs.FormedPlaces.{VersionFormed, version-merge, PlaceFormed}
 use Rattle.model.proofs.Formed.{Unbarred, Formed, well-out}

@@ -4,6 +4,7 @@ use mathlib.Core.Path.{_≡_, sym, ap, _∙_}
 use Prim.Native.Nat.{ℕ}
 use borrow.Author.Needs.{needs}
 use native.Mathlib.Omega.{arith}
+use Rattle.sizes.specs.Bounds.{runSize}
 use Rattle.sizes.specs.declared.Counts.{Counts}
 use Rattle.model.specs.Runs.{openCause}
 use Rattle.layout.specs.Reading.{storeOf}
@@ -59,6 +60,7 @@ run-at-requires : tie.Need-run-at-requires
 run-at-requires c κs = (known c .area .ranged, ready c .run)
 
 put-jobs-requires : tie.Need-put-jobs-requires
+unfolding runSize
 put-jobs-requires c κs =
     let K = known (c .before .before) in
     let L = ready (c .before .before) .listed in (

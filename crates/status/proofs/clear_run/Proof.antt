@@ -9,7 +9,6 @@ use Rattle.words.specs.Words.{put}
 use Rattle.sizes.specs.Bounds.{runSize}
 use Rattle.sizes.specs.Runs.{planOffset}
 use Rattle.status.proofs.Freed.{zeros-free}
-use Rattle.status.proofs.Known.{area-ends}
 use Rattle.status.proofs.Statuses.{freed-words, put-on}
 use Rattle.status.proofs.clear_run.Statement.{statement}
 use Rattle.status.proofs.clear_run.Tie as tie
@@ -23,12 +22,13 @@ unfolding runSize
 sub-zero c = omega (arith, c .before .before .before .before .before .run-size .ensures)
 
 zero-requires : tie.Need-zero-requires
+unfolding runSize
 zero-requires c κs =
     let f = c .before .before .before in
     let n = f .before .before in
     let s = n .before .before in
     rw (f .free-status .kept .0)
-    (omega (arith, n .run-size .ensures, area-ends _ (s .args .z) (s .args .at) (s .pre)))
+    (omega (arith, n .run-size .ensures, s .pre .fits))
 
 returns : tie.Need-returns
 unfolding runSize
@@ -48,6 +48,7 @@ returns c =
     ∙ ap (λ (k : ℕ). put l (a .at) k (λ _. 0)) e ∙ zeros-free (a .z) l (a .at)
 
 pub clear-run-spec : {M : Type 1} → statement M
+unfolding runSize
 clear-run-spec =
     tie.close
     (tie.spec

@@ -5,6 +5,7 @@ use mathlib.Core.Bool.{Bool, not}
 use Prim.Native.Nat.{_+_, _≤_}
 use native.Mathlib.Omega.{arith}
 use lib.ListN.{length}
+use Rattle.sizes.specs.Bounds.{runSize}
 use Rattle.sizes.specs.Runs.{snapshotOffset}
 use Rattle.model.specs.Outcome.{refuse, runCause}
 use Rattle.layout.specs.Reading.{storeOf}
@@ -29,6 +30,7 @@ run-at-requires c κs = (known c .area .ranged, c .if1 .left)
 
 here : (c : tie.After-run-at)
     → c .run-at .result + snapshotOffset ≤ length (c .before .before .before .args .words .now)
+unfolding runSize
 here c = rw (c .run-at .ensures) (omega (arith, known (c .before) .area .fits))
 
 is-allowed-requires : tie.Need-is-allowed-requires

@@ -1,6 +1,7 @@
 -- `free_formed` compares every part of a free run with nothing.
 -- Assumes nothing.
 use borrow.Author.Needs.{needs}
+use Rattle.sizes.specs.Bounds.{runSize}
 use Rattle.form.proofs.Snapshots.{free-test}
 use Rattle.form.proofs.run.free_formed.Statement.{statement}
 use Rattle.form.proofs.run.free_formed.Tie as tie
@@ -21,6 +22,7 @@ returns c =
     (free-test (a .z) (a .words .now) (a .at))
 
 pub free-formed-spec : {M : Type 1} → statement M
+unfolding runSize
 free-formed-spec =
     tie.close
     (tie.spec

@@ -2,11 +2,13 @@
 -- Assumes nothing.
 use borrow.Author.Needs.{needs}
 use native.Mathlib.Omega.{arith}
+use Rattle.sizes.specs.Bounds.{runSize}
 use Rattle.form.proofs.Masks.{jobs-test}
 use Rattle.form.proofs.run.jobs_formed.Statement.{statement}
 use Rattle.form.proofs.run.jobs_formed.Tie as tie
 
 each-job-requires : tie.Need-each-job-requires
+unfolding runSize
 each-job-requires c κs =
     let p = c .before .before .before .before .pre in (p .ranged, omega arith)
 
@@ -19,6 +21,7 @@ returns c =
     (jobs-test (a .z) (a .words .now) (a .at))
 
 pub jobs-formed-spec : {M : Type 1} → statement M
+unfolding runSize
 jobs-formed-spec =
     tie.close
     (tie.spec

@@ -4,6 +4,7 @@ use Prim.Native.Nat.{_+_, _≤_}
 use borrow.Author.Needs.{needs}
 use native.Mathlib.Omega.{arith}
 use lib.ListN.{getD}
+use Rattle.sizes.specs.Bounds.{runSize}
 use Rattle.sizes.specs.Runs.{maxJobs, jobsOffset}
 use Rattle.form.proofs.Masks.{jobs-most, masks-test}
 use Rattle.form.proofs.run.masks_formed.Statement.{statement}
@@ -13,6 +14,7 @@ most : (c : tie.Start) → let a = c .args in getD (a .words .now) (a .at + jobs
 most c = jobs-most (c .args .z) (c .args .words .now) (c .args .at) (c .pre .1)
 
 reads-of-requires : tie.Need-reads-of-requires
+unfolding runSize
 reads-of-requires c κs = (omega arith, most (c .before .before .before))
 
 is-below-requires : tie.Need-is-below-requires
@@ -29,6 +31,7 @@ returns c =
     (masks-test (s .args .z) (s .args .words .now) (s .args .at) (s .pre .1))
 
 pub masks-formed-spec : {M : Type 1} → statement M
+unfolding runSize
 masks-formed-spec =
     tie.close
     (tie.spec

@@ -2,6 +2,7 @@
 -- Assumes nothing.
 use borrow.Author.Needs.{needs}
 use borrow.Author.Tests.{eq-eqb, ne-eqb}
+use Rattle.sizes.specs.Bounds.{runSize}
 use Rattle.model.specs.Form.{runFormed}
 use Rattle.layout.specs.Reading.{readRun}
 use Rattle.form.proofs.run.run_formed.Statement.{statement}
@@ -16,6 +17,7 @@ unfolding runFormed readRun
 returns-2 c = rw (ne-eqb _ _ (c .before .if1 .left), c .plan-formed .ensures)
 
 pub run-formed-spec : {M : Type 1} → statement M
+unfolding runSize
 run-formed-spec =
     tie.close
     (tie.spec

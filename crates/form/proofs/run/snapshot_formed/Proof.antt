@@ -2,12 +2,14 @@
 -- Assumes nothing.
 use borrow.Author.Needs.{needs}
 use native.Mathlib.Omega.{arith}
+use Rattle.sizes.specs.Bounds.{runSize}
 use Rattle.form.proofs.Masks.{jobs-most}
 use Rattle.form.proofs.Snapshots.{snapshot-test}
 use Rattle.form.proofs.run.snapshot_formed.Statement.{statement}
 use Rattle.form.proofs.run.snapshot_formed.Tie as tie
 
 reads-of-requires : tie.Need-reads-of-requires
+unfolding runSize
 reads-of-requires c κs =
     let s = c .before .before .before in
     let a = s .args in
@@ -31,6 +33,7 @@ returns c =
     (snapshot-test (a .z) (a .words .now) (a .at) (s .pre .1 .0) (s .pre .1 .1))
 
 pub snapshot-formed-spec : {M : Type 1} → statement M
+unfolding runSize
 snapshot-formed-spec =
     tie.close
     (tie.spec

@@ -5,6 +5,7 @@ use native.Mathlib.Omega.{arith}
 use mathlib.Core.Path.{_≡_, sym, _∙_}
 use Prim.Native.Nat.{_+_, _≤_}
 use lib.ListN.{length, getD}
+use Rattle.sizes.specs.Bounds.{runSize}
 use Rattle.layout.specs.Reading.{storeOf}
 use Rattle.form.proofs.Known.{form-area}
 use Rattle.status.proofs.Known.{RunKnown, run-known}
@@ -25,6 +26,7 @@ known c = let s = c .before .before in run-known _ _ _ (s .pre .0) (s .pre .1)
 
 here : (c : tie.After-run-at)
     → c .run-at .result + 28 ≤ length (c .before .before .args .words .now)
+unfolding runSize
 here c = rw (c .run-at .ensures) (omega (arith, known c .area .fits))
 
 -- The state is the run's first word.

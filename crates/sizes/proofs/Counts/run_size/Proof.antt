@@ -15,7 +15,7 @@ add-result c =
 
 returns : tie.Need-returns
 unfolding runSize
-returns c = rw (c .place-size .ensures)
+returns c = omega (arith, c .place-size .ensures)
 
 pub run-size-spec : {M : Type 1} → statement M
 run-size-spec = tie.close (tie.spec (λ c κs. search needs) add-result returns)

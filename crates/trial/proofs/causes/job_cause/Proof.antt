@@ -7,6 +7,7 @@ use borrow.Author.Tests.{not-true, not-false}
 use native.Mathlib.Omega.{arith}
 use lib.ListN.{length}
 use Rattle.words.proofs.Bools.{le-leb, gt-leb}
+use Rattle.sizes.specs.Bounds.{runSize}
 use Rattle.model.specs.Outcome.{refuse, allowed, stepRow}
 use Rattle.model.specs.Step.{jobLimit, jobCause}
 use Rattle.layout.specs.Reading.{storeOf}
@@ -30,6 +31,7 @@ known c = let s = c .before .before in run-known _ _ _ (s .pre .0) (s .pre .1)
 
 here : (c : tie.After-run-at)
     → c .run-at .result + 28 ≤ length (c .before .before .args .words .now)
+unfolding runSize
 here c = rw (c .run-at .ensures) (omega (arith, known c .area .fits))
 
 -- ---- the job's range
