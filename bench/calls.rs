@@ -45,7 +45,7 @@ fn main() {
             let [least, middle, most] = cost.ratio;
             println!(
                 "| {k} {w} {n} {p} | {} | {:.0} | {:.0} | {least:.2} {middle:.2} {most:.2} |",
-                case.call.name(), cost.library, cost.reference
+                case.name(), cost.library, cost.reference
             );
         }
     }
@@ -58,7 +58,7 @@ fn growth() {
     println!("| Call | Count | Values | Library ns | Reference ns |");
     println!("|---|---|---|---|---|");
     let steps = [[4, 8, 16, 32], [2, 4, 8, 16], [1, 2, 4, 8], [1, 2, 4, 8]];
-    let names = desks::cases(SIZES[1]).iter().map(|case| case.call.name()).collect::<Vec<&str>>();
+    let names = desks::cases(SIZES[1]).iter().map(|case| case.name()).collect::<Vec<String>>();
     for (call, name) in names.iter().enumerate() {
         for (count, values) in steps.iter().enumerate() {
             let costs = values.map(|value| {
@@ -85,8 +85,8 @@ fn count(sizes: [u32; 4]) {
         let mut answer = [0; 40];
         counted_library(&mut mine, &case.call, &mut answer);
         counted_reference(&mut theirs, &case.call);
-        assert!(mine == theirs, "{}: the two differ", case.call.name());
-        println!("{}", case.call.name());
+        assert!(mine == theirs, "{}: the two differ", case.name());
+        println!("{}", case.name());
     }
 }
 

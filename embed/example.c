@@ -1,5 +1,5 @@
-/* Case A of the specification, an explained break with stale marks, rival saves, rights and a desk
- * that is read back through the C header; ends with 1 if an answer is not as written. */
+/* Case A of the specification, an explained break with stale marks, rival saves, rights, two lines
+ * and a desk that is read back through the C header; ends with 1 if an answer is not as written. */
 #include <stdio.h>
 #include <string.h>
 
@@ -31,7 +31,7 @@ static void case_a(void)
     static const uint32_t reader[] = {0, 1, 0};
     static const uint32_t two[] = {0, 1, 0, 1, 2, 1};
 
-    DUE("new 2 2 2 1", sheetdesk_new(DESK, 2, 2, 2, 1, ANSWER), SHEETDESK_OK, 105);
+    DUE("new 2 2 2 1", sheetdesk_new(DESK, 2, 2, 2, 1, ANSWER), SHEETDESK_OK, 119);
     DUE("open 0 0 0 0", sheetdesk_open(DESK, 0, empty, LEN(empty), ANSWER), SHEETDESK_OK, 1);
     DUE("step 0 0", sheetdesk_step(DESK, 0, 0, ANSWER), SHEETDESK_OK, 0, 0, 0);
     DUE("issue 0 0 3", sheetdesk_issue(DESK, 0, 0, 3, ANSWER), SHEETDESK_OK, 1);
@@ -134,7 +134,7 @@ static void rights(void)
     static uint32_t other[SHEETDESK_WORDS(2, 1, 1, 1)];
     static const uint32_t empty[] = {0, 0, 0};
 
-    DUE("new 2 1 1 1", sheetdesk_new(other, LEN(other), 2, 1, 1, 1, ANSWER), SHEETDESK_OK, 70);
+    DUE("new 2 1 1 1", sheetdesk_new(other, LEN(other), 2, 1, 1, 1, ANSWER), SHEETDESK_OK, 80);
     sheetdesk_open(other, LEN(other), 0, empty, LEN(empty), ANSWER);
     sheetdesk_step(other, LEN(other), 0, 0, ANSWER);
     sheetdesk_issue(other, LEN(other), 0, 0, 3, ANSWER);
@@ -152,6 +152,44 @@ static void rights(void)
     DUE("issue 0 0 2", sheetdesk_issue(other, LEN(other), 0, 0, 2, ANSWER), SHEETDESK_REFUSED,
         SHEETDESK_NO_RIGHT);
     DUE("issue 0 0 1", sheetdesk_issue(other, LEN(other), 0, 0, 1, ANSWER), SHEETDESK_OK, 2);
+}
+
+#define OTHER other, LEN(other)
+
+/* Offices 0 and 1 have two versions of sheet 0. A run reads one on each line, so that they can't be
+ * joined. The next one reads on line 0 alone, and is joined. */
+static void lines(void)
+{
+    static uint32_t other[SHEETDESK_WORDS(2, 1, 2, 2)];
+    static const uint32_t empty[] = {0, 0, 0};
+    static const uint32_t both[] = {0, 1, 0, 1, 1, 0};
+    static const uint32_t one[] = {0, 1, 0, 0, 0, 0};
+    uint32_t office;
+
+    DUE("new 2 1 2 2", sheetdesk_new(OTHER, 2, 1, 2, 2, ANSWER), SHEETDESK_OK, 137);
+    for (office = 0; office < 2; office++) {
+        sheetdesk_open(OTHER, 0, empty, LEN(empty), ANSWER);
+        sheetdesk_step(OTHER, 0, 0, ANSWER);
+        sheetdesk_issue(OTHER, 0, 0, 1, ANSWER);
+        DUE("fetch of sheet 0", sheetdesk_fetch(OTHER, office, 0, ANSWER), SHEETDESK_OK, 1);
+    }
+    sheetdesk_open(OTHER, 0, both, LEN(both), ANSWER);
+    DUE("step 0 1 1", sheetdesk_step_on(OTHER, 0, 1, 1, ANSWER), SHEETDESK_REFUSED,
+        SHEETDESK_WRONG_LINE);
+    DUE("fork 0", sheetdesk_fork(OTHER, 0, ANSWER), SHEETDESK_OK, 0);
+    DUE("step 0 0", sheetdesk_step(OTHER, 0, 0, ANSWER), SHEETDESK_OK, 0, 1, 0);
+    DUE("explain 0 1 1", sheetdesk_explain_on(OTHER, 0, 1, 1, ANSWER), SHEETDESK_CLEAR);
+    DUE("step 0 1 1", sheetdesk_step_on(OTHER, 0, 1, 1, ANSWER), SHEETDESK_OK, 0, 1, 0);
+    DUE("issue 0 0 2", sheetdesk_issue(OTHER, 0, 0, 2, ANSWER), SHEETDESK_REFUSED,
+        SHEETDESK_WRONG_LINE);
+    DUE("join 0", sheetdesk_join(OTHER, 0, ANSWER), SHEETDESK_BROKEN, 1);
+    sheetdesk_drop(OTHER, 0, ANSWER);
+    sheetdesk_open(OTHER, 0, one, LEN(one), ANSWER);
+    sheetdesk_fork(OTHER, 0, ANSWER);
+    DUE("step 0 0 0", sheetdesk_step_on(OTHER, 0, 0, 0, ANSWER), SHEETDESK_OK, 0, 1, 0);
+    DUE("step 0 1 1", sheetdesk_step_on(OTHER, 0, 1, 1, ANSWER), SHEETDESK_OK, 0, 0, 0);
+    DUE("join 0", sheetdesk_join(OTHER, 0, ANSWER), SHEETDESK_OK, 0);
+    DUE("issue 0 0 2", sheetdesk_issue(OTHER, 0, 0, 2, ANSWER), SHEETDESK_OK, 3);
 }
 
 /* A desk that is copied, as to a file and back, is admitted; one whose last issue number is behind
@@ -180,6 +218,7 @@ int main(void)
     explained();
     rivals();
     rights();
+    lines();
     puts(wrong ? "example.c: wrong answers" : "example.c: case A answered as written");
     return wrong;
 }

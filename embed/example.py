@@ -1,5 +1,5 @@
-"""Case A of the specification, an explained break with stale marks, rival saves and rights through the Python module; ends
-with 1 if an answer is not as written."""
+"""Case A of the specification, an explained break with stale marks, rival saves, rights and two lines through the Python
+module; ends with 1 if an answer is not as written."""
 import sys
 
 import sheetdesk
@@ -9,7 +9,7 @@ from sheetdesk import Desk, Job, Look, Refusal, Standing, card, compare, covers,
 def case_a(desk):
     """The calls of case A and their answers, a line each."""
     return [
-        (desk.new(2, 2, 2, 1), "ok 105"),
+        (desk.new(2, 2, 2, 1), "ok 119"),
         (desk.open(0, [Job(0, 0, 0)]), "ok 1"),
         (desk.step(0, 0), "ok 0 0 0"),
         (desk.issue(0, 0, 3), "ok 1"),
@@ -36,7 +36,7 @@ def explained(desk):
     """A run has read sheet 0, both sheets are saved together, and its next job reads sheet 1. Then office 0 has an older
     sheet 0, and office 1 has none."""
     return [
-        (desk.new(2, 2, 2, 2), "ok 145"),
+        (desk.new(2, 2, 2, 2), "ok 173"),
         (desk.open(1, [Job(0, 0, 0)]), "ok 1"),
         (desk.step(1, 0), "ok 0 0 0"),
         (desk.issue(1, 0, 1), "ok 1"),
@@ -65,7 +65,7 @@ def explained(desk):
 def rivals(desk):
     """A writer saves a sheet without having read the other's: both lead, until one has read both."""
     return [
-        (desk.new(1, 2, 1, 1), "ok 62"),
+        (desk.new(1, 2, 1, 1), "ok 68"),
         (desk.open(0, [Job(0, 0, 0)]), "ok 1"),
         (desk.step(0, 0), "ok 0 0 0"),
         (desk.issue(0, 0, 1), "ok 1"),
@@ -85,7 +85,7 @@ def rights(desk):
     """Sheets 0 and 1 are saved together, so each needs the other: office 0 loses both with the right to hold sheet 0. Then
     the writer loses the right to save sheet 1."""
     return [
-        (desk.new(2, 1, 1, 1), "ok 70"),
+        (desk.new(2, 1, 1, 1), "ok 80"),
         (desk.open(0, [Job(0, 0, 0)]), "ok 1"),
         (desk.step(0, 0), "ok 0 0 0"),
         (desk.issue(0, 0, 3), "ok 1"),
@@ -103,6 +103,41 @@ def rights(desk):
     ]
 
 
+def lines(desk):
+    """Offices 0 and 1 have two versions of sheet 0. A run reads one on each line, so that they can't be joined. The next one
+    reads on line 0 alone, and is joined."""
+    first = [
+        (desk.new(2, 1, 2, 2), "ok 137"),
+        (desk.open(0, [Job(0, 0, 0)]), "ok 1"),
+        (desk.step(0, 0), "ok 0 0 0"),
+        (desk.issue(0, 0, 1), "ok 1"),
+        (desk.fetch(0, 0), "ok 1"),
+        (desk.open(0, [Job(0, 0, 0)]), "ok 1"),
+        (desk.step(0, 0), "ok 0 0 0"),
+        (desk.issue(0, 0, 1), "ok 2"),
+        (desk.fetch(1, 0), "ok 1"),
+    ]
+    return first + [
+        (desk.open(0, [Job(0, 1, 0), Job(1, 1, 0)]), "ok 2"),
+        (desk.step_on(0, 1, 1), "refused 14"),
+        (desk.fork(0), "ok 0"),
+        (desk.step(0, 0), "ok 0 1 0"),
+        (desk.explain_on(0, 1, 0), "clear"),
+        (desk.explain_on(0, 1, 1), "clear"),
+        (desk.step_on(0, 1, 1), "ok 0 1 0"),
+        (desk.issue(0, 0, 2), "refused 14"),
+        (desk.join(0), "broken 1"),
+        (desk.drop(0), "ok 0"),
+        (desk.open(0, [Job(0, 1, 0), Job(0, 0, 0)]), "ok 2"),
+        (desk.fork(0), "ok 0"),
+        (desk.step_on(0, 0, 0), "ok 0 1 0"),
+        (desk.step_on(0, 1, 1), "ok 0 0 0"),
+        (desk.join(0), "ok 0"),
+        (desk.fork(0), "refused 14"),
+        (desk.issue(0, 0, 2), "ok 3"),
+    ]
+
+
 def refuses(error, call, *arguments):
     """Whether the module refuses the arguments itself."""
     try:
@@ -116,7 +151,7 @@ def main():
     desk = Desk(words(2, 2, 2, 1))
     good = desk.look(MASTER, 0).refusal is Refusal.NOT_IN_FORM
     scripts = case_a(desk) + explained(Desk(words(2, 2, 2, 2))) + rivals(Desk(words(1, 2, 1, 1)))
-    scripts += rights(Desk(words(2, 1, 1, 1)))
+    scripts += rights(Desk(words(2, 1, 1, 1))) + lines(Desk(words(2, 1, 2, 2)))
     for answer, due in scripts:
         if str(answer) != due:
             print("wrong: %s for %s" % (answer, due))

@@ -1,5 +1,5 @@
-//! Case A of the specification, an explained break with stale marks, rival saves and rights through
-//! the Rust wrapper; ends with 1 if an answer is not as written.
+//! Case A of the specification, an explained break with stale marks, rival saves, rights and two
+//! lines through the Rust wrapper; ends with 1 if an answer is not as written.
 
 mod sheetdesk;
 
@@ -13,7 +13,7 @@ fn job(office: u32, reads: u32, upstream: u32) -> Job {
 /// The calls of case A and their answers, a line each.
 fn case_a(desk: &mut Desk) -> Vec<(Answer, &'static str)> {
     vec![
-        (desk.new(2, 2, 2, 1), "ok 105"),
+        (desk.new(2, 2, 2, 1), "ok 119"),
         (desk.open(0, &[job(0, 0, 0)]), "ok 1"),
         (desk.step(0, 0), "ok 0 0 0"),
         (desk.issue(0, 0, 3), "ok 1"),
@@ -40,7 +40,7 @@ fn case_a(desk: &mut Desk) -> Vec<(Answer, &'static str)> {
 /// office 0 has an older sheet 0, and office 1 has none.
 fn explained(desk: &mut Desk) -> Vec<(Answer, &'static str)> {
     vec![
-        (desk.new(2, 2, 2, 2), "ok 145"),
+        (desk.new(2, 2, 2, 2), "ok 173"),
         (desk.open(1, &[job(0, 0, 0)]), "ok 1"),
         (desk.step(1, 0), "ok 0 0 0"),
         (desk.issue(1, 0, 1), "ok 1"),
@@ -69,7 +69,7 @@ fn explained(desk: &mut Desk) -> Vec<(Answer, &'static str)> {
 /// A writer saves a sheet without having read the other's: both lead, until one has read both.
 fn rivals(desk: &mut Desk) -> Vec<(Answer, &'static str)> {
     vec![
-        (desk.new(1, 2, 1, 1), "ok 62"),
+        (desk.new(1, 2, 1, 1), "ok 68"),
         (desk.open(0, &[job(0, 0, 0)]), "ok 1"),
         (desk.step(0, 0), "ok 0 0 0"),
         (desk.issue(0, 0, 1), "ok 1"),
@@ -89,7 +89,7 @@ fn rivals(desk: &mut Desk) -> Vec<(Answer, &'static str)> {
 /// hold sheet 0. Then the writer loses the right to save sheet 1.
 fn rights(desk: &mut Desk) -> Vec<(Answer, &'static str)> {
     vec![
-        (desk.new(2, 1, 1, 1), "ok 70"),
+        (desk.new(2, 1, 1, 1), "ok 80"),
         (desk.open(0, &[job(0, 0, 0)]), "ok 1"),
         (desk.step(0, 0), "ok 0 0 0"),
         (desk.issue(0, 0, 3), "ok 1"),
@@ -104,6 +104,45 @@ fn rights(desk: &mut Desk) -> Vec<(Answer, &'static str)> {
         (desk.step(0, 0), "ok 0 0 0"),
         (desk.issue(0, 0, 2), "refused 13"),
         (desk.issue(0, 0, 1), "ok 2"),
+    ]
+}
+
+/// Offices 0 and 1 have two versions of sheet 0.
+fn two_versions(desk: &mut Desk) -> Vec<(Answer, &'static str)> {
+    vec![
+        (desk.new(2, 1, 2, 2), "ok 137"),
+        (desk.open(0, &[job(0, 0, 0)]), "ok 1"),
+        (desk.step(0, 0), "ok 0 0 0"),
+        (desk.issue(0, 0, 1), "ok 1"),
+        (desk.fetch(0, 0), "ok 1"),
+        (desk.open(0, &[job(0, 0, 0)]), "ok 1"),
+        (desk.step(0, 0), "ok 0 0 0"),
+        (desk.issue(0, 0, 1), "ok 2"),
+        (desk.fetch(1, 0), "ok 1"),
+    ]
+}
+
+/// A run reads one version on each line, so that they can't be joined. The next one reads on line 0
+/// alone, and is joined.
+fn lines(desk: &mut Desk) -> Vec<(Answer, &'static str)> {
+    vec![
+        (desk.open(0, &[job(0, 1, 0), job(1, 1, 0)]), "ok 2"),
+        (desk.step_on(0, 1, 1), "refused 14"),
+        (desk.fork(0), "ok 0"),
+        (desk.step(0, 0), "ok 0 1 0"),
+        (desk.explain_on(0, 1, 0), "clear"),
+        (desk.explain_on(0, 1, 1), "clear"),
+        (desk.step_on(0, 1, 1), "ok 0 1 0"),
+        (desk.issue(0, 0, 2), "refused 14"),
+        (desk.join(0), "broken 1"),
+        (desk.drop(0), "ok 0"),
+        (desk.open(0, &[job(0, 1, 0), job(0, 0, 0)]), "ok 2"),
+        (desk.fork(0), "ok 0"),
+        (desk.step_on(0, 0, 0), "ok 0 1 0"),
+        (desk.step_on(0, 1, 1), "ok 0 0 0"),
+        (desk.join(0), "ok 0"),
+        (desk.fork(0), "refused 14"),
+        (desk.issue(0, 0, 2), "ok 3"),
     ]
 }
 
@@ -152,6 +191,9 @@ fn main() {
     good &= as_written(explained(&mut Desk::lend(&mut [0; words(2, 2, 2, 2)])));
     good &= as_written(rivals(&mut Desk::lend(&mut [0; words(1, 2, 1, 1)])));
     good &= as_written(rights(&mut Desk::lend(&mut [0; words(2, 1, 1, 1)])));
+    let mut third = [0; words(2, 1, 2, 2)];
+    let mut forked = Desk::lend(&mut third);
+    good &= as_written(two_versions(&mut forked)) && as_written(lines(&mut forked));
     println!("example.rs: {}", if good { "case A answered as written" } else { "wrong answers" });
     std::process::exit(if good { 0 } else { 1 });
 }

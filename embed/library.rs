@@ -4,6 +4,24 @@
 use crate::embed::exports::*;
 use crate::text::Call;
 
+// A run with two lines.
+extern "C" {
+    fn sheetdesk_fork(
+        desk: *mut u32, desk_len: usize, run: u32, answer: *mut u32, answer_len: usize,
+    ) -> u32;
+    fn sheetdesk_join(
+        desk: *mut u32, desk_len: usize, run: u32, answer: *mut u32, answer_len: usize,
+    ) -> u32;
+    fn sheetdesk_step_on(
+        desk: *mut u32, desk_len: usize, run: u32, job: u32, line: u32,
+        answer: *mut u32, answer_len: usize,
+    ) -> u32;
+    fn sheetdesk_explain_on(
+        desk: *const u32, desk_len: usize, run: u32, job: u32, line: u32,
+        answer: *mut u32, answer_len: usize,
+    ) -> u32;
+}
+
 /// One call on lent words. Gives how many words of the answer were written.
 pub fn call(desk: &mut [u32], call: &Call, answer: &mut [u32]) -> u32 {
     let (d, dn) = (desk.as_mut_ptr(), desk.len());
@@ -22,8 +40,17 @@ pub fn call(desk: &mut [u32], call: &Call, answer: &mut [u32]) -> u32 {
                 sheetdesk_look(d, dn, *place, *number, *sheet, a, an)
             }
             Call::Prepare(run) => sheetdesk_prepare(d, dn, *run, a, an),
-            Call::Step(run, job) => sheetdesk_step(d, dn, *run, *job, a, an),
-            Call::Explain(run, job) => sheetdesk_explain(d, dn, *run, *job, a, an),
+            // Line 0 has exports without a line too: they are taken for even jobs.
+            Call::Step(run, job, 0) if job % 2 == 0 => sheetdesk_step(d, dn, *run, *job, a, an),
+            Call::Explain(run, job, 0) if job % 2 == 0 => {
+                sheetdesk_explain(d, dn, *run, *job, a, an)
+            }
+            Call::Step(run, job, line) => sheetdesk_step_on(d, dn, *run, *job, *line, a, an),
+            Call::Explain(run, job, line) => {
+                sheetdesk_explain_on(d, dn, *run, *job, *line, a, an)
+            }
+            Call::Fork(run) => sheetdesk_fork(d, dn, *run, a, an),
+            Call::Join(run) => sheetdesk_join(d, dn, *run, a, an),
             Call::Stale(office) => sheetdesk_stale(d, dn, *office, a, an),
             Call::Admit => sheetdesk_admit(d, dn, a, an),
             Call::Allow(office, number) => sheetdesk_allow(d, dn, *office, *number, a, an),

@@ -20,7 +20,7 @@
  * changed.
  *
  * Every call writes its answer's words and returns how many it wrote:
- *   0 and the answer's numbers (ok), 1 and a mask (broken, step alone), 2 and a number (refused),
+ *   0 and the answer's numbers (ok), 1 and a mask (broken, step and join), 2 and a number (refused),
  *   3 (clear) or 4 and sheets (path), explain alone; 5 (nothing to do), pick alone.
  * An answer_len below SHEETDESK_ANSWER_WORDS returns 0, and nothing is changed. Words of the
  * answer's slice behind the written ones stay as they were. A refused call leaves every word of
@@ -39,9 +39,9 @@ extern "C" {
 #endif
 
 /* The version of the calls: rises when one is added or changes what it takes, does or answers. */
-#define SHEETDESK_VERSION 9
+#define SHEETDESK_VERSION 10
 /* The version of the desk's words: rises when a desk of the same counts has other words. */
-#define SHEETDESK_LAYOUT 6
+#define SHEETDESK_LAYOUT 7
 /* The same two of the library that is linked: compare them with these. */
 uint32_t sheetdesk_version(void);
 uint32_t sheetdesk_layout(void);
@@ -49,7 +49,7 @@ uint32_t sheetdesk_layout(void);
 /* The length of a slice that holds any answer. */
 #define SHEETDESK_ANSWER_WORDS 40
 /* The words of the largest desk (32 sheets, 16 writers, 8 offices, 8 runs). */
-#define SHEETDESK_MOST_WORDS 288099
+#define SHEETDESK_MOST_WORDS 419699
 
 /* The words of a desk of k sheets, w writers, n offices and p runs, to be lent before new; 0 if
  * new refuses the counts. A constant if they are. */
@@ -57,12 +57,13 @@ uint32_t sheetdesk_layout(void);
     ((size_t)(k) - 1 < 32 && (size_t)(w) - 1 < 16 && (size_t)(n) - 1 < 8 && (size_t)(p) - 1 < 8 \
          ? SHEETDESK_WORDS_OF((size_t)(k), (size_t)(w), (size_t)(n), (size_t)(p)) \
          : 0)
-/* The same for counts in range: header, then master, shelves and cards of k versions each, a
- * mark and an allowance for each shelf, a count and a past for each writer, 28 words more for
- * each run, the last picked run, and a mask of sheets for each office and each writer. */
+/* The same for counts in range: header, then master, shelves and cards, two for each run, of k
+ * versions each, a mark and an allowance for each shelf, a count and a past for each writer, 30
+ * words more for each run, the last picked run, and a mask of sheets for each office and each
+ * writer. */
 #define SHEETDESK_WORDS_OF(k, w, n, p) \
-    (10 + (k) * (2 + (k) * (w)) * (1 + (n) + (p)) + 2 * (n) + (w) * (1 + (k) * (w)) + 28 * (p) + 1 \
-     + (n) + (w))
+    (10 + (k) * (2 + (k) * (w)) * (1 + (n) + 2 * (p)) + 2 * (n) + (w) * (1 + (k) * (w)) + 30 * (p) \
+     + 1 + (n) + (w))
 
 /* The answer's first word. */
 enum sheetdesk_outcome {
@@ -88,7 +89,8 @@ enum sheetdesk_refusal {
     SHEETDESK_WRITER_SPENT = 10, /* the writer's count is 4294967295 */
     SHEETDESK_NOT_ADMITTED = 11, /* admit: in form, but no desk that the calls can have left */
     SHEETDESK_OVER_ALLOWANCE = 12, /* a shelf would hold more sheets than its allowance */
-    SHEETDESK_NO_RIGHT = 13 /* the office may not hold a sheet, or the writer not save it */
+    SHEETDESK_NO_RIGHT = 13, /* the office may not hold a sheet, or the writer not save it */
+    SHEETDESK_WRONG_LINE = 14 /* the run is forked, or isn't, or has no such line */
 };
 
 /* How one clock stands against another: all counts are equal; some are smaller and none larger;
@@ -126,15 +128,15 @@ uint32_t sheetdesk_evict(uint32_t *desk, size_t desk_len, uint32_t office, uint3
 uint32_t sheetdesk_prepare(uint32_t *desk, size_t desk_len, uint32_t run, uint32_t *answer,
                            size_t answer_len);
 
-/* Works a job of an open run: its reads come onto the card. Ok: three masks that divide the
- * job's reads: from the card, from the shelf, from the master; returns 4 words. Broken: the
- * mask of the sheets that the run had read otherwise; returns 2 words. */
+/* Works a job of an open run, on line 0: its reads come onto the card. Ok: three masks that divide
+ * the job's reads: from the card, from the shelf, from the master; returns 4 words. Broken: the
+ * mask of the sheets that were read otherwise on this line; returns 2 words. */
 uint32_t sheetdesk_step(uint32_t *desk, size_t desk_len, uint32_t run, uint32_t job,
                         uint32_t *answer, size_t answer_len);
 
-/* Explains what a step of the job would come to. Clear: it would be ok; returns 1 word. Path: it
- * would break the run, by these sheets, up to 32: the first is a read of the job that the card
- * lacks; each next one is needed by the version before it, as the step would find it on the
+/* Explains what a step of the job on line 0 would come to. Clear: it would be ok; returns 1 word.
+ * Path: it would break the run, by these sheets, up to 32: the first is a read of the job that the
+ * card lacks; each next one is needed by the version before it, as the step would find it on the
  * shelf; the last was read already. A shortest such path; of equally short ones the smallest,
  * sheet by sheet. Returns 1 word more than it has sheets. Refused as step is: 2 words. Changes
  * nothing. */
@@ -150,7 +152,8 @@ uint32_t sheetdesk_issue(uint32_t *desk, size_t desk_len, uint32_t run, uint32_t
 uint32_t sheetdesk_drop(uint32_t *desk, size_t desk_len, uint32_t run, uint32_t *answer,
                         size_t answer_len);
 
-/* Looks at a version: place 0 is the master (number 0), 1 an office's shelf, 2 a run's card.
+/* Looks at a version: place 0 is the master (number 0), 1 an office's shelf, 2 a run's card, of
+ * line 0.
  * Ok: the issue number; the mask of the leading writers, bit u for writer u: those whose last
  * save in the version no other save in it knew of (two or more are rivals); the version's own
  * clock, one count per writer; and how that clock stands against the own clock of the master's
@@ -164,8 +167,8 @@ uint32_t sheetdesk_look(const uint32_t *desk, size_t desk_len, uint32_t place, u
 uint32_t sheetdesk_stale(const uint32_t *desk, size_t desk_len, uint32_t office, uint32_t *answer,
                          size_t answer_len);
 
-/* Admits a desk that was read back: it is in form, master and shelves are causal cuts, each card is
- * one among what its run's jobs read, the master's own row of a sheet covers every row kept for it
+/* Admits a desk that was read back: it is in form, master and shelves are causal cuts, each line's
+ * card is one among what its run's jobs read, the master's own row of a sheet covers every row kept for it
  * anywhere, no count in a row exceeds its writer's, and no issue number exceeds the last one. Any
  * desk that calls left since new or since an admission is admitted. Ok: 0. Refused with 1 or 11 alone. Returns 2 words. Changes
  * nothing. */
@@ -199,6 +202,29 @@ uint32_t sheetdesk_mayhold(uint32_t *desk, size_t desk_len, uint32_t office, uin
  * stays. Ok: 0. Returns 2 words. */
 uint32_t sheetdesk_maysave(uint32_t *desk, size_t desk_len, uint32_t writer, uint32_t mask,
                            uint32_t *answer, size_t answer_len);
+
+/* Gives an open run a second line: its card and what was read are copied. From then on each job is
+ * stepped on line 0 or 1, which sheetdesk_step_on names; a job that is done on either is done. A
+ * run forks once. While it is forked, prepare and issue are refused with 14. Ok: 0. Returns 2
+ * words. */
+uint32_t sheetdesk_fork(uint32_t *desk, size_t desk_len, uint32_t run, uint32_t *answer,
+                        size_t answer_len);
+
+/* Makes the two lines of an open run one, line 0: the cards are merged sheet by sheet. Ok: 0; each
+ * sheet that was read on either line is still the version that was read. Broken: the mask of the
+ * sheets that were read and would become another version; only the run's state changes. Returns 2
+ * words. */
+uint32_t sheetdesk_join(uint32_t *desk, size_t desk_len, uint32_t run, uint32_t *answer,
+                        size_t answer_len);
+
+/* sheetdesk_step on a line, 0 or 1: that line's card, and what was read on it. Refused with 14 if
+ * the line is 1 and the run isn't forked, or if it is above 1. */
+uint32_t sheetdesk_step_on(uint32_t *desk, size_t desk_len, uint32_t run, uint32_t job,
+                           uint32_t line, uint32_t *answer, size_t answer_len);
+
+/* sheetdesk_explain on a line, as sheetdesk_step_on takes it. */
+uint32_t sheetdesk_explain_on(const uint32_t *desk, size_t desk_len, uint32_t run, uint32_t job,
+                              uint32_t line, uint32_t *answer, size_t answer_len);
 
 /* How clock p stands against clock q. Returns an enum sheetdesk_standing; two empty clocks (both
  * lengths 0) are equal. */

@@ -1,7 +1,7 @@
 """The sheet desk for Python: the library's calls by ctypes alone, with the names of the Rust wrapper.
 
     desk = sheetdesk.Desk(sheetdesk.words(2, 2, 2, 1))
-    print(desk.new(2, 2, 2, 1))                # ok 105
+    print(desk.new(2, 2, 2, 1))                # ok 119
     print(desk.open(0, [sheetdesk.Job(0, 0, 0)]))
 
 A Desk owns its words; each call gives an Answer, which prints as the program prints it. sheetdesk.h says what each
@@ -16,10 +16,10 @@ import enum
 import os
 from typing import NamedTuple
 
-VERSION = 9
-LAYOUT = 6
+VERSION = 10
+LAYOUT = 7
 ANSWER_WORDS = 40
-MOST_WORDS = 288099
+MOST_WORDS = 419699
 
 
 class Refusal(enum.IntEnum):
@@ -38,6 +38,7 @@ class Refusal(enum.IntEnum):
     NOT_ADMITTED = 11
     OVER_ALLOWANCE = 12
     NO_RIGHT = 13
+    WRONG_LINE = 14
 
 
 class Standing(enum.IntEnum):
@@ -120,7 +121,7 @@ def words(sheets, writers, offices, runs):
             return 0
     version, writer = 2 + sheets * writers, 1 + sheets * writers
     tail = 1 + offices + writers
-    return 10 + sheets * version * (1 + offices + runs) + 2 * offices + writers * writer + 28 * runs + tail
+    return 10 + sheets * version * (1 + offices + 2 * runs) + 2 * offices + writers * writer + 30 * runs + tail
 
 
 def _word(number):
@@ -172,11 +173,11 @@ class Unrecorded(Exception):
 
 def _line(name, arguments):
     """A call as the program's line. An open of more than 27 numbers is recorded with so many: over 8 jobs, it is refused
-    whatever the others are, for the same cause."""
+    whatever the others are, for the same cause. A name's first word is the line's."""
     numbers = [a for a in arguments if isinstance(a, int)]
     if name == "open":
         numbers += arguments[1][: min(arguments[2].value, 27)]
-    return " ".join([name, *("%d" % number for number in numbers)])
+    return " ".join([name.split("_")[0], *("%d" % number for number in numbers)])
 
 
 def _library():
@@ -187,7 +188,8 @@ def _library():
     # PyDLL keeps Python's lock during a call: two threads never work on one desk's words at once.
     library = ctypes.PyDLL(path)
     calls = "new open fetch evict prepare step explain issue drop look stale admit allow pick mayhold maysave"
-    for call in (calls + " compare covers merge version layout").split():
+    calls += " fork join step_on explain_on compare covers merge version layout"
+    for call in calls.split():
         getattr(library, "sheetdesk_" + call).restype = ctypes.c_uint32
     if (library.sheetdesk_version(), library.sheetdesk_layout()) != (VERSION, LAYOUT):
         raise ImportError("%s has other calls or another layout than this module" % path)
@@ -245,11 +247,20 @@ class Desk:
         return self._call("prepare", run)
 
     def step(self, run, job):
+        """On line 0."""
         return self._call("step", run, job)
 
+    def step_on(self, run, job, line):
+        """On line 0 or 1 of a forked run."""
+        return self._call("step_on", run, job, line)
+
     def explain(self, run, job):
-        """What a step of the job would come to: clear, or the path behind the break."""
+        """What a step of the job would come to: clear, or the path behind the break. On line 0."""
         return self._call("explain", run, job)
+
+    def explain_on(self, run, job, line):
+        """The same on line 0 or 1 of a forked run."""
+        return self._call("explain_on", run, job, line)
 
     def issue(self, run, writer, mask):
         return self._call("issue", run, writer, mask)
@@ -286,6 +297,14 @@ class Desk:
     def maysave(self, writer, mask):
         """Sets which sheets the writer may save."""
         return self._call("maysave", writer, mask)
+
+    def fork(self, run):
+        """Gives the run a second line: its card and what was read are copied."""
+        return self._call("fork", run)
+
+    def join(self, run):
+        """Makes the run's two lines one, or breaks it, with the sheets that were read and would become another version."""
+        return self._call("join", run)
 
 
 def compare(p, q):

@@ -9,16 +9,16 @@
 use std::fmt::{self, Write};
 
 /// The version of the calls: `SHEETDESK_VERSION` of the header.
-pub const VERSION: u32 = 9;
+pub const VERSION: u32 = 10;
 
 /// The version of the desk's words: `SHEETDESK_LAYOUT` of the header. Save it with the words.
-pub const LAYOUT: u32 = 6;
+pub const LAYOUT: u32 = 7;
 
 /// Words of a slice that holds any answer.
 pub const ANSWER_WORDS: usize = 40;
 
 /// The words of the largest desk (32 sheets, 16 writers, 8 offices, 8 runs).
-pub const MOST_WORDS: usize = 288_099;
+pub const MOST_WORDS: usize = 419_699;
 
 /// The words to lend for a desk of so many sheets, writers, offices and runs; 0 if new refuses
 /// the counts.
@@ -28,7 +28,7 @@ pub const fn words(sheets: u32, writers: u32, offices: u32, runs: u32) -> usize 
         return 0;
     }
     let (version, writer) = (2 + k * w, 1 + k * w);
-    10 + k * version * (1 + n + p) + 2 * n + w * writer + 28 * p + 1 + n + w
+    10 + k * version * (1 + n + 2 * p) + 2 * n + w * writer + 30 * p + 1 + n + w
 }
 
 /// The exports as C has them: a slice is a pointer and a length in words.
@@ -61,6 +61,10 @@ pub mod exports {
         sheetdesk_pick(*mut u32);
         sheetdesk_mayhold(*mut u32, office, mask);
         sheetdesk_maysave(*mut u32, writer, mask);
+        sheetdesk_fork(*mut u32, run);
+        sheetdesk_join(*mut u32, run);
+        sheetdesk_step_on(*mut u32, run, job, line);
+        sheetdesk_explain_on(*const u32, run, job, line);
     }
 
     extern "C" {
@@ -98,7 +102,7 @@ impl Numbers {
 pub enum Answer {
     /// The call was done; its numbers.
     Ok(Numbers),
-    /// Step alone: the run is broken, with these sheets.
+    /// Step and join alone: the run is broken, with these sheets.
     Broken(u32),
     /// Nothing was changed; why.
     Refused(Refusal),
@@ -140,12 +144,14 @@ pub enum Refusal {
     OverAllowance,
     /// 13: the office may not hold a sheet, or the writer not save it.
     NoRight,
+    /// 14: the run is forked, or isn't, or has no such line.
+    WrongLine,
     /// A number that this wrapper has no name for: the library is newer.
     Other(u32),
 }
 
 impl Refusal {
-    const NAMED: [Refusal; 13] = [
+    const NAMED: [Refusal; 14] = [
         Refusal::NotInForm,
         Refusal::BadCount,
         Refusal::OutOfRange,
@@ -159,6 +165,7 @@ impl Refusal {
         Refusal::NotAdmitted,
         Refusal::OverAllowance,
         Refusal::NoRight,
+        Refusal::WrongLine,
     ];
 
     /// The refusal of a number.
@@ -368,14 +375,14 @@ impl<'a> Desk<'a> {
     }
 
     /// Hands a call over, if calls are recorded. An open of more than 9 jobs is recorded with 9:
-    /// it is refused whatever the others are, for the same cause.
+    /// it is refused whatever the others are, for the same cause. A name's first word is the line's.
     fn hand(&self, answer: Answer, name: &str, numbers: &[u32], jobs: &[Job]) -> Answer {
         if let Some(take) = self.record {
             let mut lines = Lines { bytes: [0; 1024], length: 0 };
             let list = jobs.iter().take(9).flat_map(|job| [job.office, job.reads, job.upstream]);
             let mut all = numbers.iter().copied().chain(list);
             let written = lines
-                .write_str(name)
+                .write_str(name.split('_').next().unwrap_or(name))
                 .and_then(|_| all.try_for_each(|number| write!(lines, " {number}")))
                 .and_then(|_| write!(lines, "\n{answer}\n"));
             let text = std::str::from_utf8(&lines.bytes[..lines.length]);
@@ -396,6 +403,7 @@ impl<'a> Desk<'a> {
         fetch(office, sheet) = sheetdesk_fetch;
         evict(office, sheet) = sheetdesk_evict;
         prepare(run) = sheetdesk_prepare;
+        /// On line 0.
         step(run, job) = sheetdesk_step;
         issue(run, writer, mask) = sheetdesk_issue;
         /// Frees the run (not the desk, which only borrows its words).
@@ -408,11 +416,20 @@ impl<'a> Desk<'a> {
         mayhold(office, mask) = sheetdesk_mayhold;
         /// Sets which sheets the writer may save.
         maysave(writer, mask) = sheetdesk_maysave;
+        /// Gives the run a second line: its card and what was read are copied.
+        fork(run) = sheetdesk_fork;
+        /// Makes the run's two lines one, or breaks it, with the sheets that were read and would
+        /// become another version.
+        join(run) = sheetdesk_join;
+        /// A step on line 0 or 1 of a forked run.
+        step_on(run, job, line) = sheetdesk_step_on;
     }
 
     tells! {
-        /// What a step of the job would come to: clear, or the path behind the break.
+        /// What a step of the job would come to: clear, or the path behind the break. On line 0.
         explain(run, job) = sheetdesk_explain;
+        /// The same on line 0 or 1 of a forked run.
+        explain_on(run, job, line) = sheetdesk_explain_on;
         /// The mask of the sheets on the office's shelf that are behind the master's.
         stale(office) = sheetdesk_stale;
         /// Takes the words back that were saved to a file; the header says what it asks of them.

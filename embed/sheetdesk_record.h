@@ -102,13 +102,17 @@ static inline uint32_t sheetdesk_hand(const struct sheetdesk_record *record, con
 #define SHEETDESK_TAKES_3(a, b, c) uint32_t a, uint32_t b, uint32_t c
 #define SHEETDESK_TAKES_4(a, b, c, d) uint32_t a, uint32_t b, uint32_t c, uint32_t d
 #define SHEETDESK_RECORDED(name, word, count, ...) \
+    SHEETDESK_RECORDED_AS(#name, name, word, count, __VA_ARGS__)
+
+/* The same for a call whose line begins with another word. */
+#define SHEETDESK_RECORDED_AS(first, name, word, count, ...) \
     static inline uint32_t sheetdesk_##name##_recorded( \
         const struct sheetdesk_record *record, word *desk, size_t desk_len, \
         SHEETDESK_TAKES_##count(__VA_ARGS__), uint32_t *answer, size_t answer_len) \
     { \
         const uint32_t numbers[] = {__VA_ARGS__}; \
 \
-        return sheetdesk_hand(record, #name, numbers, count, numbers, 0, answer, \
+        return sheetdesk_hand(record, first, numbers, count, numbers, 0, answer, \
                               sheetdesk_##name(desk, desk_len, __VA_ARGS__, answer, answer_len)); \
     }
 
@@ -137,6 +141,10 @@ SHEETDESK_RECORDED(allow, uint32_t, 2, office, number)
 SHEETDESK_RECORDED_ALONE(pick, uint32_t)
 SHEETDESK_RECORDED(mayhold, uint32_t, 2, office, mask)
 SHEETDESK_RECORDED(maysave, uint32_t, 2, writer, mask)
+SHEETDESK_RECORDED(fork, uint32_t, 1, run)
+SHEETDESK_RECORDED(join, uint32_t, 1, run)
+SHEETDESK_RECORDED_AS("step", step_on, uint32_t, 3, run, job, line)
+SHEETDESK_RECORDED_AS("explain", explain_on, const uint32_t, 3, run, job, line)
 
 static inline uint32_t sheetdesk_open_recorded(const struct sheetdesk_record *record,
                                                uint32_t *desk, size_t desk_len, uint32_t run,

@@ -9,6 +9,7 @@ mod allowances;
 pub mod checks;
 pub mod follow;
 pub mod ledger;
+mod lines;
 mod paths;
 mod rights;
 pub mod rows;
@@ -19,7 +20,7 @@ mod turns;
 
 use crate::text::Call;
 use ledger::Ledger;
-pub use runs::{Finished, Job, Run};
+pub use runs::{Finished, Job, Line, Run};
 use saves::Saves;
 use turns::Turns;
 
@@ -83,7 +84,9 @@ impl Book {
             Call::Fetch(office, sheet) => vec![self.fetch(*office as usize, 1 << sheet)],
             Call::Evict(office, sheet) => vec![self.let_go(*office as usize, 1 << sheet)],
             Call::Prepare(run) => self.prepare(*run as usize),
-            Call::Step(run, job) => self.step(*run as usize, *job as usize),
+            Call::Step(run, job, line) => {
+                self.step(*run as usize, *job as usize, *line as usize)
+            }
             Call::Issue(run, writer, mask) => {
                 let number = self.issue(*run as usize, *writer as usize, *mask);
                 self.clear(*run as usize);
@@ -106,6 +109,8 @@ impl Book {
             Call::Pick => Vec::new(),
             Call::MayHold(office, mask) => self.set_may_hold(*office as usize, *mask),
             Call::MaySave(writer, mask) => self.set_may_save(*writer as usize, *mask),
+            Call::Fork(run) => self.fork(*run as usize),
+            Call::Join(run) => self.join(*run as usize),
         }
     }
 
@@ -199,8 +204,9 @@ impl Book {
                 card[k].join(&self.shelves[job.office][k]);
             }
         }
-        self.runs[run].card = card;
-        vec![plan & !self.lacking(&self.runs[run].card, plan)]
+        let carried = plan & !self.lacking(&card, plan);
+        self.runs[run].lines[0].card = card;
+        vec![carried]
     }
 
     /// "If S isn't empty it is entered, and for each k in S the master's copy takes in what
@@ -209,9 +215,9 @@ impl Book {
         if mask == 0 {
             return 0;
         }
-        let run = &self.runs[run];
-        let sheets = (0..self.k).filter(|k| has(run.read, *k));
-        let read = sheets.map(|k| run.card[k].clone()).collect::<Vec<Saves>>();
+        let line = &self.runs[run].lines[0];
+        let sheets = (0..self.k).filter(|k| has(line.read, *k));
+        let read = sheets.map(|k| line.card[k].clone()).collect::<Vec<Saves>>();
         let number = self.ledger.enter(writer, mask, &read);
         for k in (0..self.k).filter(|k| has(mask, *k)) {
             let included = self.ledger.new_version(number, k);
@@ -232,7 +238,7 @@ impl Book {
         let copy = match place {
             0 => &self.master[k],
             1 => &self.shelves[number][k],
-            _ => &self.runs[number].card[k],
+            _ => &self.runs[number].lines[0].card[k],
         };
         let (number, past) = self.ledger.counted(copy, self.k, self.w);
         let mut answer = vec![number, self.ledger.leading(copy, self.w)];

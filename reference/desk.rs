@@ -1,8 +1,8 @@
 //! Document 01's sheet desk over lent words, written the plainest way.
 //!
 //! Every call takes a buffer of any length and content and any numbers. It answers `Ok`
-//! with the answer's numbers, `Broken` (step alone), `Clear` or `Path` (explain alone), `Nothing`
-//! (pick alone) or `Refused` with the table's number; a refused call leaves every word.
+//! with the answer's numbers, `Broken` (step and join), `Clear` or `Path` (explain alone),
+//! `Nothing` (pick alone) or `Refused` with the table's number; a refused call leaves every word.
 
 mod admit;
 pub mod allowance;
@@ -11,6 +11,7 @@ mod evict;
 pub mod explain;
 mod form;
 pub mod layout;
+mod lines;
 mod pick;
 pub mod reads;
 pub mod rights;
@@ -29,6 +30,7 @@ pub use explain::explain;
 pub use form::in_form;
 #[allow(unused_imports)]
 pub use layout::Sizes;
+pub use lines::{fork, join};
 pub use pick::pick;
 pub use reads::{fetch, prepare, step};
 pub use rights::{mayhold, maysave};
@@ -62,8 +64,17 @@ pub const WRITER_SPENT: u32 = 10;
 pub const NOT_ADMITTED: u32 = 11;
 pub const OVER_ALLOWANCE: u32 = 12;
 pub const NO_RIGHT: u32 = 13;
+pub const WRONG_LINE: u32 = 14;
 
 // A run's states.
 pub const FREE: u32 = 0;
 pub const OPEN: u32 = 1;
 pub const BROKEN: u32 = 2;
+
+/// A run has lines 0 and 1.
+pub const LINES: usize = 2;
+
+// A run's marks.
+pub const NEVER_FORKED: u32 = 0;
+pub const FORKED: u32 = 1;
+pub const JOINED: u32 = 2;

@@ -5,6 +5,8 @@
 //! script meets.
 #![allow(dead_code)]
 
+#[path = "generate/branches.rs"]
+mod branches;
 #[path = "generate/chains.rs"]
 mod chains;
 #[path = "generate/counts.rs"]
@@ -12,6 +14,8 @@ mod counts;
 mod desk;
 #[path = "generate/everyday.rs"]
 mod everyday;
+#[path = "generate/forked.rs"]
+mod forked;
 #[path = "generate/odd.rs"]
 mod odd;
 #[path = "generate/plots.rs"]

@@ -6,6 +6,8 @@
 #[path = "generate/bent.rs"]
 mod bent;
 mod book;
+#[path = "generate/branches.rs"]
+mod branches;
 #[path = "generate/chains.rs"]
 mod chains;
 #[path = "generate/counts.rs"]
@@ -13,6 +15,8 @@ mod counts;
 mod desk;
 #[path = "generate/everyday.rs"]
 mod everyday;
+#[path = "generate/forked.rs"]
+mod forked;
 #[path = "generate/odd.rs"]
 mod odd;
 #[path = "generate/plots.rs"]
@@ -76,8 +80,14 @@ fn main() {
     println!(
         "readback: {desks} desks, {taken} admitted, {refused} refused with 11, {formless} with 1; \
          {} calls, {} steps tried against all choices, {} broken, {} pairs of finished jobs, \
-         {} paths",
-        seen.calls, seen.tried, seen.broken, seen.snapshots, seen.paths
+         {} paths, {} joins, {} broken ones",
+        seen.calls,
+        seen.tried,
+        seen.broken,
+        seen.snapshots,
+        seen.paths,
+        seen.joins,
+        seen.joins_broken
     );
     // Of a few desks chance has too large a part.
     let few = 2 * taken < desks || 10 * refused < desks || (10 * seen.broken as u64) < desks;

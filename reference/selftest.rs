@@ -1,7 +1,7 @@
 //! Checks on lent buffers: the paper's numbers, the ten marked readings, the form, refusals
 //! 9 and 10, how clocks stand, paths behind a break, leading writers, stale marks, admission,
-//! allowances, picks, rights, other layouts, what stands behind a save, and random buffers. Panics
-//! at the first check that fails.
+//! allowances, picks, rights, two lines, other layouts, what stands behind a save, and random
+//! buffers. Panics at the first check that fails.
 #![allow(dead_code)]
 
 #[path = "selftest/admitted.rs"]
@@ -11,9 +11,13 @@ mod allowances;
 #[path = "selftest/behind.rs"]
 mod behind;
 mod book;
+#[path = "selftest/branches.rs"]
+mod branches;
 mod desk;
 #[path = "selftest/explained.rs"]
 mod explained;
+#[path = "selftest/forked.rs"]
+mod forked;
 #[path = "selftest/forms.rs"]
 mod forms;
 #[path = "selftest/layouts.rs"]
@@ -127,4 +131,21 @@ fn of_the_later_calls() {
     rights::of_held_sheets_alone();
     rights::after_the_turn();
     rights::asked_by_form();
+    of_lines();
+}
+
+/// Two lines of one run.
+fn of_lines() {
+    branches::joined();
+    branches::two_versions();
+    branches::by_the_rule();
+    branches::own_reads();
+    branches::left_out();
+    branches::words();
+    branches::by_leaders_alone();
+    branches::lists_hidden();
+    branches::both_admitted();
+    forked::asked_by_form();
+    forked::written_back();
+    forked::in_all_words();
 }

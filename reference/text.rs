@@ -6,7 +6,7 @@ use crate::desk::{self, Answer};
 pub const LENT: usize = 16_384;
 const LONGEST: usize = 400;
 
-/// One of the sixteen calls with its numbers.
+/// One of the eighteen calls with its numbers; a step or explain always has its line.
 #[derive(Clone, PartialEq, Eq, Debug)]
 pub enum Call {
     New([u32; 4]),
@@ -14,21 +14,23 @@ pub enum Call {
     Fetch(u32, u32),
     Evict(u32, u32),
     Prepare(u32),
-    Step(u32, u32),
+    Step(u32, u32, u32),
     Issue(u32, u32, u32),
     Drop(u32),
     Look(u32, u32, u32),
-    Explain(u32, u32),
+    Explain(u32, u32, u32),
     Stale(u32),
     Admit,
     Allow(u32, u32),
     Pick,
     MayHold(u32, u32),
     MaySave(u32, u32),
+    Fork(u32),
+    Join(u32),
 }
 
 impl Call {
-    /// Its word and its numbers, as they stand in its line.
+    /// Its word and all its numbers.
     fn parts(&self) -> (&'static str, Vec<u32>) {
         match self {
             Call::New(sizes) => ("new", sizes.to_vec()),
@@ -36,17 +38,19 @@ impl Call {
             Call::Fetch(office, sheet) => ("fetch", vec![*office, *sheet]),
             Call::Evict(office, sheet) => ("evict", vec![*office, *sheet]),
             Call::Prepare(run) => ("prepare", vec![*run]),
-            Call::Step(run, job) => ("step", vec![*run, *job]),
+            Call::Step(run, job, line) => ("step", vec![*run, *job, *line]),
             Call::Issue(run, writer, mask) => ("issue", vec![*run, *writer, *mask]),
             Call::Drop(run) => ("drop", vec![*run]),
             Call::Look(place, number, sheet) => ("look", vec![*place, *number, *sheet]),
-            Call::Explain(run, job) => ("explain", vec![*run, *job]),
+            Call::Explain(run, job, line) => ("explain", vec![*run, *job, *line]),
             Call::Stale(office) => ("stale", vec![*office]),
             Call::Admit => ("admit", Vec::new()),
             Call::Allow(office, number) => ("allow", vec![*office, *number]),
             Call::Pick => ("pick", Vec::new()),
             Call::MayHold(office, mask) => ("mayhold", vec![*office, *mask]),
             Call::MaySave(writer, mask) => ("maysave", vec![*writer, *mask]),
+            Call::Fork(run) => ("fork", vec![*run]),
+            Call::Join(run) => ("join", vec![*run]),
         }
     }
 
@@ -58,10 +62,13 @@ impl Call {
         self.parts().1
     }
 
-    /// The line that it is read from.
+    /// The line that it is read from; line 0 of a run is left out.
     pub fn line(&self) -> String {
         let (name, numbers) = self.parts();
-        listed(name, &numbers)
+        match (self, numbers.as_slice()) {
+            (Call::Step(..) | Call::Explain(..), [front @ .., 0]) => listed(name, front),
+            _ => listed(name, &numbers),
+        }
     }
 
     /// Whether it only answers: it writes nothing, whatever the answer is.
@@ -72,8 +79,9 @@ impl Call {
     /// The run that it is about, if it is about one.
     pub fn run(&self) -> Option<u32> {
         match self {
-            Call::Open(run, _) | Call::Prepare(run) | Call::Step(run, _) => Some(*run),
-            Call::Issue(run, ..) | Call::Drop(run) | Call::Explain(run, _) => Some(*run),
+            Call::Open(run, _) | Call::Prepare(run) | Call::Step(run, ..) => Some(*run),
+            Call::Issue(run, ..) | Call::Drop(run) | Call::Explain(run, ..) => Some(*run),
+            Call::Fork(run) | Call::Join(run) => Some(*run),
             _ => None,
         }
     }
@@ -93,17 +101,22 @@ pub fn read_line(line: &[u8]) -> Option<Call> {
         (b"fetch", [office, sheet]) => Some(Call::Fetch(*office, *sheet)),
         (b"evict", [office, sheet]) => Some(Call::Evict(*office, *sheet)),
         (b"prepare", [run]) => Some(Call::Prepare(*run)),
-        (b"step", [run, job]) => Some(Call::Step(*run, *job)),
+        // A line is "0 if left out".
+        (b"step", [run, job]) => Some(Call::Step(*run, *job, 0)),
+        (b"step", [run, job, line]) => Some(Call::Step(*run, *job, *line)),
         (b"issue", [run, writer, mask]) => Some(Call::Issue(*run, *writer, *mask)),
         (b"drop", [run]) => Some(Call::Drop(*run)),
         (b"look", [place, number, sheet]) => Some(Call::Look(*place, *number, *sheet)),
-        (b"explain", [run, job]) => Some(Call::Explain(*run, *job)),
+        (b"explain", [run, job]) => Some(Call::Explain(*run, *job, 0)),
+        (b"explain", [run, job, line]) => Some(Call::Explain(*run, *job, *line)),
         (b"stale", [office]) => Some(Call::Stale(*office)),
         (b"admit", []) => Some(Call::Admit),
         (b"allow", [office, number]) => Some(Call::Allow(*office, *number)),
         (b"pick", []) => Some(Call::Pick),
         (b"mayhold", [office, mask]) => Some(Call::MayHold(*office, *mask)),
         (b"maysave", [writer, mask]) => Some(Call::MaySave(*writer, *mask)),
+        (b"fork", [run]) => Some(Call::Fork(*run)),
+        (b"join", [run]) => Some(Call::Join(*run)),
         _ => None,
     }
 }
@@ -131,17 +144,19 @@ pub fn run(words: &mut [u32], call: &Call) -> Answer {
         Call::Fetch(office, sheet) => desk::fetch(words, *office, *sheet),
         Call::Evict(office, sheet) => desk::evict(words, *office, *sheet),
         Call::Prepare(run) => desk::prepare(words, *run),
-        Call::Step(run, job) => desk::step(words, *run, *job),
+        Call::Step(run, job, line) => desk::step(words, *run, *job, *line),
         Call::Issue(run, writer, mask) => desk::issue(words, *run, *writer, *mask),
         Call::Drop(run) => desk::drop_run(words, *run),
         Call::Look(place, number, sheet) => desk::look(words, *place, *number, *sheet),
-        Call::Explain(run, job) => desk::explain(words, *run, *job),
+        Call::Explain(run, job, line) => desk::explain(words, *run, *job, *line),
         Call::Stale(office) => desk::stale(words, *office),
         Call::Admit => desk::admit(words),
         Call::Allow(office, number) => desk::allow(words, *office, *number),
         Call::Pick => desk::pick(words),
         Call::MayHold(office, mask) => desk::mayhold(words, *office, *mask),
         Call::MaySave(writer, mask) => desk::maysave(words, *writer, *mask),
+        Call::Fork(run) => desk::fork(words, *run),
+        Call::Join(run) => desk::join(words, *run),
     }
 }
 

@@ -34,8 +34,14 @@ fn main() {
     }
     println!(
         "{} calls held against a book, {} steps tried against all choices, {} broken, {} pairs of finished jobs, \
-         {} paths",
-        seen.calls, seen.tried, seen.broken, seen.snapshots, seen.paths
+         {} paths, {} joins, {} broken ones",
+        seen.calls,
+        seen.tried,
+        seen.broken,
+        seen.snapshots,
+        seen.paths,
+        seen.joins,
+        seen.joins_broken
     );
 }
 
@@ -52,8 +58,8 @@ fn one_call(
     if (refused || call.only_answers()) && before != words {
         return Err("a call that is refused or only answers changed the desk".into());
     }
-    if let Call::Explain(run, job) = call {
-        check_explain(before, *run, *job, &answer)?;
+    if let Call::Explain(run, job, line) = call {
+        check_explain(before, [*run, *job, *line], &answer)?;
     }
     if let (Call::Stale(office), Answer::Ok(marks)) = (call, &answer) {
         check_stale(words, *office, marks[0])?;
@@ -79,11 +85,10 @@ fn one_call(
 /// sheet of the broken mask.
 fn check_explain(
     mut words: Vec<u32>,
-    run: u32,
-    job: u32,
+    [run, job, line]: [u32; 3],
     answer: &Answer,
 ) -> Result<(), String> {
-    let step = desk::step(&mut words, run, job);
+    let step = desk::step(&mut words, run, job, line);
     let agree = match (answer, &step) {
         (Answer::Clear, Answer::Ok(_)) => true,
         (Answer::Path(sheets), Answer::Broken(mask)) => {

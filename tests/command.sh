@@ -52,7 +52,8 @@ trial_options() {
   told "^REFUSALS"
   [ "$(awk '{ gsub(/·/, ".") } length($0) > 80 || /`|\*\*|^#|^\|/' "$work/out")" = "" ] ||
     bad "--man: over 80 columns, or marks of Markdown"
-  want 141 "--man to head" env --default-signal=PIPE bash -c './sheetdesk --man | head -n 1; exit "${PIPESTATUS[0]}"'
+  # The page fits the pipe: a reader that is gone before it is written, so that no load on the machine matters.
+  want 141 "--man to head" env --default-signal=PIPE bash -c '{ sleep 0.3; ./sheetdesk --man; } | true; exit "${PIPESTATUS[0]}"'
   [ ! -s "$work/err" ] || bad "--man to head: a word"
   want 0 "--version" ./sheetdesk --version
   told "^sheetdesk [0-9]*, layout [0-9]*, toolchain [a-z]"
@@ -145,7 +146,7 @@ trial_speed() {
 
 # Each line of --echo is its number, the script's line, and the answer, with words behind what isn't ok.
 trial_echo() {
-  for script in case-a refused-1 refused-2 refused-3 refused-4 refused-5 refused-6 refused-7 refused-8 break-several explain-path explain-refused stale-refused admit allow-refused allow-counts-held pick-refused pick-goes-round refused-13 rights-refused mayhold-before-7; do
+  for script in case-a refused-1 refused-2 refused-3 refused-4 refused-5 refused-6 refused-7 refused-8 break-several explain-path explain-refused stale-refused admit allow-refused allow-counts-held pick-refused pick-goes-round refused-13 rights-refused mayhold-before-7 fork-and-join fork-own-reads join-two-versions fork-left-out; do
     want 0 "--echo $script" ./sheetdesk --echo "scripts/$script.txt"
     sed -E 's/((refused|broken) [0-9]+|unread|clear|nothing|path [0-9 ]+): .*/\1/' "$work/out" >"$work/plain"
     paste -d '|' "scripts/$script.txt" "scripts/$script.out" | sed 's/|/ -> /' | awk '{ print NR ": " $0 }' |
@@ -162,6 +163,8 @@ trial_echo() {
   told "^7: step 0 8 -> refused 3: there is no such run or job"
   told "^9: a? -> unread: the line is none of the calls' forms$"
   told "^10: last -> unread: "
+  want 0 "--echo of a join" ./sheetdesk --echo scripts/join-two-versions.txt
+  told "^14: join 0 -> broken 1: a line has read these sheets, and the join would move them"
   printf 'fetch 0 1 \nfetch 0 4294967296\nfetch  0 1\nfetch 0 04294967295\n' >"$work/spaces"
   want 0 "--echo of numbers and spaces" ./sheetdesk --echo "$work/spaces"
   told "^1: fetch 0 1  -> unread: the line ends with a space$"
@@ -247,7 +250,7 @@ page_example() {
   grep -qF -f "$work/due" "$page" || bad "the page's example, $3, answers $(cat "$work/due"), the page says otherwise"
 }
 
-# And of a step that is explained, of allowances, rights and picks.
+# And of a step that is explained, of allowances, rights, picks and two lines.
 trial_explained() {
   page_example explain-path 15 "EXPLAINED STEPS" "BROKEN RUNS" " and "
 }
@@ -261,7 +264,11 @@ trial_rights() {
 }
 
 trial_picks() {
-  page_example pick-goes-round 4 PICKING "EXPLAINED STEPS" ", "
+  page_example pick-goes-round 4 PICKING "TWO LINES" ", "
+}
+
+trial_two_lines() {
+  page_example join-two-versions 11 "TWO LINES" "EXPLAINED STEPS" ", "
 }
 
 # And of leading writers: the two looks that the page tells are the script's.
@@ -307,7 +314,7 @@ trial_readme() {
 }
 
 trials=("$@")
-[ $# -gt 0 ] || trials=(files options histories installed_histories lost strict speed echo prompt terminal signal broken explained allowances rights picks leading refusals line_ends examples readme)
+[ $# -gt 0 ] || trials=(files options histories installed_histories lost strict speed echo prompt terminal signal broken explained allowances rights picks two_lines leading refusals line_ends examples readme)
 for trial in "${trials[@]}"; do
   (trial_"$trial") || exit 1
 done

@@ -24,9 +24,11 @@ mod reference {
 #[path = "../reference/generate"]
 mod generate {
     pub mod bent;
+    pub mod branches;
     pub mod chains;
     pub mod counts;
     pub mod everyday;
+    pub mod forked;
     pub mod odd;
     pub mod plots;
     pub mod random;
@@ -51,7 +53,8 @@ mod parts {
     pub mod stories;
 }
 
-use generate::{bent, chains, counts, everyday, odd, plots, rights, rivals, rounds, small, teller};
+use generate::{bent, branches, chains, counts, everyday, forked, odd, plots};
+use generate::{rights, rivals, rounds, small, teller};
 use parts::{admitted, arguments, built, clocks, damaged, met, pair, random, script, stories};
 use reference::{book, desk, text};
 

@@ -73,6 +73,10 @@ static int layout_refused(const uint32_t offsets[HEADER - OFFSETS])
         && NOT_TAKEN(sheetdesk_allow, 0, 0)
         && NOT_TAKEN(sheetdesk_mayhold, 0, 0)
         && NOT_TAKEN(sheetdesk_maysave, 0, 0)
+        && NOT_TAKEN(sheetdesk_fork, 0)
+        && NOT_TAKEN(sheetdesk_join, 0)
+        && NOT_TAKEN(sheetdesk_step_on, 0, 0, 0)
+        && NOT_TAKEN(sheetdesk_explain_on, 0, 0, 0)
         && refused(sheetdesk_pick(other, LENT, ANSWER), SHEETDESK_NOT_IN_FORM)
         && refused(sheetdesk_admit(other, LENT, ANSWER), SHEETDESK_NOT_IN_FORM);
     return good && memcmp(before, other, sizeof other) == 0;
@@ -87,7 +91,8 @@ static int other_layouts_refused(void)
         {10, 22, 35, 45, 85}, /* layout 3 */
         {10, 22, 36, 46, 86}, /* layout 4 */
         {10, 22, 36, 46, 87}, /* layout 5 */
-        {10, 22, 36, 48, 92}, /* long writers */
+        {10, 22, 36, 46, 90}, /* layout 6 */
+        {10, 22, 36, 48, 106}, /* long writers */
     };
     size_t each;
 
@@ -112,7 +117,7 @@ static int says(const char *call, uint32_t number, const char *text)
 }
 
 /* The largest number of a refusal. */
-enum { LAST = SHEETDESK_NO_RIGHT };
+enum { LAST = SHEETDESK_WRONG_LINE };
 
 /* Each refusal has words, for a call that isn't known too, and no other number has. */
 static int reasons_fit(void)
@@ -127,7 +132,9 @@ static int reasons_fit(void)
         && says("look 1 0 0", 8, "the shelf does not hold the sheet: fetch it")
         && says("look 0 0 0", 8, "the master does not hold the sheet: issue it")
         && says("look", 8, "the master does not hold the sheet: issue it") && says("", 8, "the sheet is not held there")
-        && says("opened", 4, "the run is not open: it is free, or broken");
+        && says("opened", 4, "the run is not open: it is free, or broken")
+        && says("step 0 1 7", 14, "the run has no such line: 0 always, 1 from its fork to its join")
+        && says("joined", 14, "the run is forked, or is not, or has no such line");
 }
 
 int main(void)

@@ -94,6 +94,16 @@ FACTS = [
     ("mayhold-takes-needs", "document.querySelector('#line13 .words').textContent",
      "13Office 0 may hold sheets 1 and 2. It evicts sheet 0 of issue 1, and with it what needs it: sheet 1 of issue 2, sheet 2 of"
      " issue 3."),
+    # Two lines have read two versions: the join has no path. The red line leads over issue 2 to the step that had read issue 1.
+    ("join-two-versions", SENTENCES,
+     ["Line 1 of run 0 has sheet 0 of issue 2, brought by the shelf of office 1 at line 13; line 0 of run 0 had read the older sheet 0 of"
+      " issue 1, brought by the shelf of office 0 at line 12."]),
+    ("join-two-versions", RINGS, [8, 12]),
+    ("join-two-versions", CAUSE, ["Line 14", "Behind drop 0, open 0 0 1 0 1 1 0, prepare 0 every job goes through."]),
+    ("join-two-versions", "document.querySelector('#line14 .chain').textContent",
+     "The other line has sheet 0 of issue 2.Run 0 had read sheet 0 of issue 1, at line 12."),
+    ("fork-own-reads", "document.querySelector('#line12 .words').textContent",
+     "12Job 0 of run 0, on line 1, reads sheet 0 of issue 1 from the shelf of office 0."),
 ]
 
 # What is wider than its place, or is cut at the right.
@@ -157,7 +167,7 @@ def main():
             if not browser.ask("document.title").startswith("Sheet desk: ") or browser.ask(SMALL) != 0 or browser.ask(OVER) != 0:
                 wrong.append("%s: no page, words that are too small, or a path over the sheets of an arrow" % page)
             printed = 1032 if browser.ask("document.body.innerHTML.includes('A4 landscape')") else 703
-            some = os.path.basename(page).startswith(("eight", "long", "far", "generated", "explain-path", "break-several"))
+            some = os.path.basename(page).startswith(("eight", "long", "far", "generated", "explain-path", "break-several", "join-two-versions"))
             for width, media in ((800, "screen"), (printed, "print"), (1280, "screen")) if some else ((1280, "screen"),):
                 browser.lie(width, media)
                 if browser.ask(WIDE) != 0:

@@ -76,14 +76,16 @@ done
 # hundredths).
 awk '
 BEGIN {
-    n = split("unread 100 rivals 1000 fetches-of-more 300 evicts-of-more 50 prepares 500 " \
+    n = split("unread 100 rivals 1000 fetches-of-more 300 evicts-of-more 50 prepares 300 " \
         "prepares-unlike 40 steps 2000 breaks 200 issues 2000 looks-older 500 " \
         "looks-several 500 stales 500 stales-marked 200 admits 200 allows 100 picks 100 nothing 20 " \
         "hidden-breaks 5 breaks-marked 15 clear 500 " \
         "paths 100 paths-of-3 30 paths-tied 15 paths-carried 10 refused-1 10 refused-2 10 " \
         "refused-3 20 refused-4 100 refused-5 10 refused-6 50 refused-7 10 refused-8 50 " \
         "refused-12 50 refused-13 100 mayholds 150 mayholds-evicting 50 mayholds-evicting-more 40 " \
-        "maysaves 30 rights-before-7 10 rights-before-12 3 rights-before-a-break 8", word, " ")
+        "maysaves 30 rights-before-7 10 rights-before-12 3 rights-before-a-break 8 " \
+        "forks 150 forks-read 30 joins 60 joins-apart 10 joins-broken 10 steps-on-1 60 breaks-on-1 20 " \
+        "breaks-on-one-alone 2 paths-on-1 20 refused-14 150", word, " ")
     for (i = 1; i < n; i += 2) least[word[i]] = word[i + 1]
 }
 { for (i = 1; i < NF; i += 2) { if (!($i in sum)) order[++k] = $i; sum[$i] += $(i + 1) } }

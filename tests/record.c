@@ -51,8 +51,12 @@ static void make(const struct sheetdesk_record *record, const char *name, int co
         sheetdesk_prepare_recorded(DESK, x[0], ANSWER);
     else if (strcmp(name, "step") == 0 && count == 2)
         sheetdesk_step_recorded(DESK, x[0], x[1], ANSWER);
+    else if (strcmp(name, "step") == 0 && count == 3)
+        sheetdesk_step_on_recorded(DESK, x[0], x[1], x[2], ANSWER);
     else if (strcmp(name, "explain") == 0 && count == 2)
         sheetdesk_explain_recorded(DESK, x[0], x[1], ANSWER);
+    else if (strcmp(name, "explain") == 0 && count == 3)
+        sheetdesk_explain_on_recorded(DESK, x[0], x[1], x[2], ANSWER);
     else if (strcmp(name, "issue") == 0 && count == 3)
         sheetdesk_issue_recorded(DESK, x[0], x[1], x[2], ANSWER);
     else if (strcmp(name, "drop") == 0 && count == 1)
@@ -71,6 +75,10 @@ static void make(const struct sheetdesk_record *record, const char *name, int co
         sheetdesk_mayhold_recorded(DESK, x[0], x[1], ANSWER);
     else if (strcmp(name, "maysave") == 0 && count == 2)
         sheetdesk_maysave_recorded(DESK, x[0], x[1], ANSWER);
+    else if (strcmp(name, "fork") == 0 && count == 1)
+        sheetdesk_fork_recorded(DESK, x[0], ANSWER);
+    else if (strcmp(name, "join") == 0 && count == 1)
+        sheetdesk_join_recorded(DESK, x[0], ANSWER);
 }
 
 int main(int argc, char **argv)

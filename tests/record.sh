@@ -43,8 +43,8 @@ trial_record() {
     due_log "$script" >"$work/due"
     target/tools/record_rs <"$script" >"$work/log" && cmp -s "$work/log" "$work/due" || bad "sheetdesk.rs: $script"
   done
-  cat scripts/{case-a,explain-path,refused-5,jobs-8-and-9,look-places,admit-any-desk,allow-counts-held,pick-goes-round,refused-13}.txt >"$work/some.txt"
-  cat scripts/{case-a,explain-path,refused-5,jobs-8-and-9,look-places,admit-any-desk,allow-counts-held,pick-goes-round,refused-13}.out >"$work/some.out"
+  cat scripts/{case-a,explain-path,refused-5,jobs-8-and-9,look-places,admit-any-desk,allow-counts-held,pick-goes-round,refused-13,fork-and-join,fork-own-reads,join-two-versions}.txt >"$work/some.txt"
+  cat scripts/{case-a,explain-path,refused-5,jobs-8-and-9,look-places,admit-any-desk,allow-counts-held,pick-goes-round,refused-13,fork-and-join,fork-own-reads,join-two-versions}.out >"$work/some.out"
   due_log "$work/some.txt" >"$work/due"
   record_py <"$work/some.txt" >"$work/log" && cmp -s "$work/log" "$work/due" || bad "sheetdesk.py: golden scripts"
   PYTHONPATH=embed python3 tests/desk.py || bad "tests/desk.py"
@@ -75,7 +75,7 @@ trial_sizes() {
 trial_alone() {
   local name
   { echo '#include "embed/sheetdesk_record.h"'
-    sed -n -E 's/^(SHEETDESK_RECORDED(_ALONE)?\(|static inline uint32_t sheetdesk_)([a-z]+)(,|_recorded\().*/\3/p' embed/sheetdesk_record.h |
+    sed -n -E 's/^(SHEETDESK_RECORDED(_ALONE|_AS)?\(("[a-z]+", )?|static inline uint32_t sheetdesk_)([a-z_]+)(,|_recorded\().*/\4/p' embed/sheetdesk_record.h |
       sed 's/.*/void *use_&(void); void *use_&(void) { return (void *)sheetdesk_&_recorded; }/'; } >"$work/alone.c"
   [ "$(grep -c '^void' "$work/alone.c")" -eq "$(grep -c '^uint32_t sheetdesk_.*desk' embed/sheetdesk.h)" ] ||
     bad "a call isn't recorded"
@@ -83,7 +83,7 @@ trial_alone() {
     bad "sheetdesk_record.h has other first words of answers than sheetdesk.py"
   for level in -O0 -O2 -O3; do
     gcc -std=c99 "$level" -I. -c -o "$work/alone.o" "$work/alone.c" || bad "sheetdesk_record.h"
-    nm -u "$work/alone.o" | grep -v ' sheetdesk_[a-z]*$' >"$work/err" &&
+    nm -u "$work/alone.o" | grep -v ' sheetdesk_[a-z_]*$' >"$work/err" &&
       bad "sheetdesk_record.h asks for more than the library"
   done
   ! command -v g++ >/dev/null || g++ -Wall -Wextra -Werror -fsyntax-only -x c++ embed/sheetdesk_record.h ||

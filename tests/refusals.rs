@@ -1,10 +1,9 @@
-// Every refusal that new, open, drop, look, explain, stale, admit, allow, pick, mayhold, maysave, fetch and evict can give, tried on
+// Every refusal that new, open, drop, look, explain, stale, admit, allow, pick, mayhold, maysave, fork, join, fetch and evict can give, tried on
 // lent buffers through the exported library: answer as expected, every word as it was, guard words untouched. Besides them: the largest store;
 // looks, leading writers and stale marks on desks that no list of calls from new leaves; the longest path; clocks compared.
 // Usage: refusals. Prints what went wrong and exits 1, or how many trials there were.
 
 #![allow(dead_code)]
-
 #[path = "refusals/admitted.rs"]
 mod admitted;
 #[path = "../embed/sheetdesk.rs"]
@@ -13,6 +12,8 @@ mod embed;
 mod lent;
 #[path = "../embed/library.rs"]
 mod library;
+#[path = "refusals/lines.rs"]
+mod lines;
 #[path = "../reference"]
 mod reference {
     pub mod desk;
@@ -50,12 +51,12 @@ fn of_new(t: &mut Trials) {
     let counts = [2, 2, 1, 1];
     t.refused("new 1, a word short", &mut Desk::of(total(counts) - 1, 7), Call::New(counts), 1);
     t.refused("new 1, empty", &mut Desk::of(0, 7), Call::New([1, 1, 1, 1]), 1);
-    let mut desk = Desk::of(92, 7);
-    t.ok("new", &mut desk, Call::New(counts), &[90]);
-    t.check("offsets", desk.words[..HEADER] == [2, 2, 1, 1, 0, 10, 22, 36, 46, 90]);
+    let mut desk = Desk::of(106, 7);
+    t.ok("new", &mut desk, Call::New(counts), &[104]);
+    t.check("offsets", desk.words[..HEADER] == [2, 2, 1, 1, 0, 10, 22, 36, 46, 104]);
     t.check("the allowance is all sheets", std::mem::take(&mut desk.words[35]) == 2);
-    t.check("the rights are all sheets", desk.words[87..90] == [3; 3]);
-    t.check("fresh, and past the total as it was", desk.words[HEADER..87].iter().all(|&w| w == 0) && desk.words[90..92] == [7, 7]);
+    t.check("the rights are all sheets", desk.words[101..104] == [3; 3]);
+    t.check("fresh, and past the total as it was", desk.words[HEADER..101].iter().all(|&w| w == 0) && desk.words[104..106] == [7, 7]);
 }
 
 // One word of a new desk 2 2 2 1 changed, such that it isn't in form any more.
@@ -77,6 +78,7 @@ fn spoiled(fresh: &Desk) -> Vec<(usize, u32)> {
         (s.mayhold_at(0), 4), (s.mayhold_at(1), u32::MAX), (s.maysave_at(0), 7), (s.maysave_at(1), 1 << 31),
         // A run: a state that there isn't, an open one without jobs, a free one with words.
         (run + STATE, 3), (run + STATE, 1), (run + JOBS, 9), (run + DONE, 1), (run + READ, 1), (run + JOB_LIST + 6, 1),
+        (s.mark_at(0), 1), (s.mark_at(0), 2), (s.read_at(0, 1), 1), (s.line_card_at(0, 1, 0), 1), (s.line_card_at(0, 1, 1) + LEADERS, 1),
     ]
 }
 
@@ -100,9 +102,9 @@ fn of_form(t: &mut Trials) {
 // Each call but new, with numbers that are out of range on any desk but a large one.
 pub fn calls_but_new() -> Vec<Call> {
     vec![
-        Call::Open(9, vec![]), Call::Fetch(9, 9), Call::Evict(9, 9), Call::Prepare(9), Call::Step(9, 9), Call::Issue(9, 9, 9),
-        Call::Drop(9), Call::Look(9, 9, 9), Call::Explain(9, 9), Call::Stale(9), Call::Admit, Call::Allow(9, 99), Call::Pick,
-        Call::MayHold(9, 9), Call::MaySave(99, 9),
+        Call::Open(9, vec![]), Call::Fetch(9, 9), Call::Evict(9, 9), Call::Prepare(9), Call::Step(9, 9, 9), Call::Issue(9, 9, 9),
+        Call::Drop(9), Call::Look(9, 9, 9), Call::Explain(9, 9, 9), Call::Stale(9), Call::Admit, Call::Allow(9, 99), Call::Pick,
+        Call::MayHold(9, 9), Call::MaySave(99, 9), Call::Fork(9), Call::Join(9),
     ]
 }
 
@@ -152,34 +154,34 @@ fn of_caches(t: &mut Trials) {
 // The refusals of explain are those of the step, and clear is answered exactly where the step is ok.
 fn of_explain(t: &mut Trials) {
     let mut d = Desk::fresh([2, 2, 1, 2]);
-    t.refused("explain 3, run", &mut d, Call::Explain(2, 0), 3);
-    t.refused("explain 3, job", &mut d, Call::Explain(0, 8), 3);
-    t.refused("explain 3, both", &mut d, Call::Explain(u32::MAX, u32::MAX), 3);
-    t.refused("explain 4, free", &mut d, Call::Explain(0, 7), 4);
+    t.refused("explain 3, run", &mut d, Call::Explain(2, 0, 0), 3);
+    t.refused("explain 3, job", &mut d, Call::Explain(0, 8, 0), 3);
+    t.refused("explain 3, both", &mut d, Call::Explain(u32::MAX, u32::MAX, 0), 3);
+    t.refused("explain 4, free", &mut d, Call::Explain(0, 7, 0), 4);
     d.call(&Call::Open(0, vec![0, 1, 0, 0, 2, 1]));
-    t.refused("explain 3, no such job", &mut d, Call::Explain(0, 2), 3);
-    t.refused("explain 6, waits", &mut d, Call::Explain(0, 1), 6);
-    t.refused("explain 7", &mut d, Call::Explain(0, 0), 7);
+    t.refused("explain 3, no such job", &mut d, Call::Explain(0, 2, 0), 3);
+    t.refused("explain 6, waits", &mut d, Call::Explain(0, 1, 0), 6);
+    t.refused("explain 7", &mut d, Call::Explain(0, 0, 0), 7);
     d.call(&Call::Open(1, vec![0, 0, 0]));
-    t.told("explain, nothing read", &mut d, Call::Explain(1, 0), &[3]);
-    t.ok("step, nothing read", &mut d, Call::Step(1, 0), &[0, 0, 0]);
+    t.told("explain, nothing read", &mut d, Call::Explain(1, 0, 0), &[3]);
+    t.ok("step, nothing read", &mut d, Call::Step(1, 0, 0), &[0, 0, 0]);
     d.call(&Call::Issue(1, 0, 1));
-    t.told("explain, from the master", &mut d, Call::Explain(0, 0), &[3]);
-    t.ok("step, from the master", &mut d, Call::Step(0, 0), &[0, 0, 1]);
-    t.refused("explain 6, done", &mut d, Call::Explain(0, 0), 6);
-    t.refused("explain 7, the next", &mut d, Call::Explain(0, 1), 7);
+    t.told("explain, from the master", &mut d, Call::Explain(0, 0, 0), &[3]);
+    t.ok("step, from the master", &mut d, Call::Step(0, 0, 0), &[0, 0, 1]);
+    t.refused("explain 6, done", &mut d, Call::Explain(0, 0, 0), 6);
+    t.refused("explain 7, the next", &mut d, Call::Explain(0, 1, 0), 7);
     d.call(&Call::Open(1, vec![0, 0, 0]));
-    d.call(&Call::Step(1, 0));
+    d.call(&Call::Step(1, 0, 0));
     d.call(&Call::Issue(1, 0, 3));
-    t.told("explain, a path", &mut d, Call::Explain(0, 1), &[4, 1, 0]);
-    t.check("step, broken", d.call(&Call::Step(0, 1)) == [1, 1]);
-    t.refused("explain 4, broken", &mut d, Call::Explain(0, 1), 4);
+    t.told("explain, a path", &mut d, Call::Explain(0, 1, 0), &[4, 1, 0]);
+    t.check("step, broken", d.call(&Call::Step(0, 1, 0)) == [1, 1]);
+    t.refused("explain 4, broken", &mut d, Call::Explain(0, 1, 0), 4);
 }
 
 fn of_the_largest(t: &mut Trials) {
-    t.refused("largest, a word short", &mut Desk::of(288_098, 7), Call::New([32, 16, 8, 8]), 1);
-    let mut d = Desk::of(288_099, 7);
-    t.ok("largest", &mut d, Call::New([32, 16, 8, 8]), &[288_099]);
+    t.refused("largest, a word short", &mut Desk::of(419_698, 7), Call::New([32, 16, 8, 8]), 1);
+    let mut d = Desk::of(419_699, 7);
+    t.ok("largest", &mut d, Call::New([32, 16, 8, 8]), &[419_699]);
     t.refused("largest, fetch 7", &mut d, Call::Fetch(7, 31), 7);
     t.ok("largest, open", &mut d, Call::Open(7, [7, u32::MAX, 0].repeat(8)), &[8]);
     chain(&mut d);
@@ -238,10 +240,8 @@ fn main() {
     lent::of_allowances_in_form(&mut t);
     lent::of_rounds(&mut t);
     rights::of_all(&mut t);
-    admitted::of_conditions(&mut t);
-    admitted::of_words(&mut t);
-    admitted::of_lists(&mut t);
-    admitted::of_pasts(&mut t);
+    lines::of_all(&mut t);
+    admitted::of_all(&mut t);
     of_explain(&mut t);
     lent::of_the_longest_path(&mut t);
     of_clocks(&mut t);

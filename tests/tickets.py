@@ -70,11 +70,12 @@ class Log:
         """What is wrong with the bills of some steps and issues."""
         places = [place for place, (call, answer) in enumerate(zip(self.calls, self.answers))
                   if call.startswith(("step", "issue")) and answer.startswith("ok")]
-        for place in places[::max(1, len(places) // 6)]:
+        second = [place for place in places if re.match(r"step \d+ \d+ 1$", self.calls[place])]
+        for place in places[::max(1, len(places) // 6)] + second[:2]:
             bill, run = json.loads(self.had("set-json", 2 * place + 1)), self.calls[place].split(" ")[1]
             until = place + self.calls[place].startswith("step")
             looks = ["look 2 %s %d" % (run, k) for k in range(32)] + ["look 0 0 %d" % k for k in range(32)]
-            given = self.asked(self.calls[:until] + looks)[until:]
+            given = self.asked(self.shown(place)[:until] + looks)[until:]
             due = [(k, given[k], given[32 + k]) for k in range(32) if given[k].startswith("ok")]
             if [item["version"]["sheet"] for item in bill["sheets"]] != [k for k, _, _ in due]:
                 yield "line %d: the sheets %s, due %s" % (2 * place + 1, bill["sheets"], due)
@@ -82,6 +83,17 @@ class Log:
                 yield "line %d: no table of %d sheets" % (2 * place + 1, len(due))
             for item, (k, card, master) in zip(bill["sheets"], due):
                 yield from self.item(item, k, card, master, run)
+
+    def shown(self, place):
+        """The calls, such that looks behind a step show the card of its line: until they are joined, a run's lines are alike, and
+        for line 1 they are changed about from the fork on."""
+        step = re.match(r"step (\d+) \d+ 1$", self.calls[place])
+        if not step:
+            return self.calls
+        forks = [at for at in range(place) if self.calls[at] == "fork " + step[1] and self.answers[at].startswith("ok")]
+        steps = re.compile(r"(step %s \d+)(?: ([01]))?$" % step[1])
+        other = [steps.sub(lambda found: "%s %d" % (found[1], found[2] != "1"), call) for call in self.calls[forks[-1]:]]
+        return self.calls[:forks[-1]] + other
 
     def item(self, item, k, card, master, run):
         for version, look in ((item["version"], card), (item["master"], master)):

@@ -27,7 +27,7 @@ fn sizes() -> bool {
 /// A name for each number of the refusal table, and each number back.
 fn refusals() -> bool {
     let named = |number| !matches!(Refusal::of(number), Refusal::Other(_));
-    (0..40).all(|number| Refusal::of(number).number() == number && named(number) == (1..=13).contains(&number))
+    (0..40).all(|number| Refusal::of(number).number() == number && named(number) == (1..=14).contains(&number))
 }
 
 /// A name for each number of a standing, and the standing of two clocks.

@@ -25,6 +25,7 @@ mod parts {
     pub mod copies;
     pub mod desks;
     pub mod draw;
+    pub mod forks;
     pub mod had;
     pub mod head;
     pub mod json;

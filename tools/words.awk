@@ -58,7 +58,10 @@ function unread(line) {
 # What an answer says that isn't ok.
 function said(call, answer) {
   if (answer ~ /^refused/) return refusal(call, substr(answer, 9))
-  if (answer ~ /^broken/) return "the run has read these sheets, and the step would move them: drop it, open it, prepare it"
+  if (answer ~ /^broken/) {
+    if (call ~ /^join/) return "a line has read these sheets, and the join would move them: drop the run, open it, prepare it, fork it"
+    return "the run has read these sheets, and the step would move them: drop it, open it, prepare it"
+  }
   if (answer ~ /^clear/) return "the step would be ok"
   if (answer ~ /^nothing/) return "no open run has a job that could be stepped"
   if (answer ~ /^path/) return "the step would break the run: each sheet draws in the next, and the last was read already"

@@ -9,6 +9,18 @@ pub struct Case {
     pub call: Call,
 }
 
+impl Case {
+    /// The call's word; on line 1 of a run it says so.
+    pub fn name(&self) -> String {
+        match &self.call {
+            Call::Step(_, _, 1) | Call::Explain(_, _, 1) => {
+                format!("{} on line 1", self.call.name())
+            }
+            call => call.name().into(),
+        }
+    }
+}
+
 /// The mask of all sheets.
 fn all(k: u32) -> u32 {
     u32::MAX >> (32 - k)
@@ -23,7 +35,7 @@ fn full([k, w, n, p]: [u32; 4]) -> Vec<u32> {
     for sheet in 0..k {
         // Reads all lower sheets, so that the new version needs them.
         run(&mut words, &Call::Open(0, vec![0, (1 << sheet) - 1, 0]));
-        run(&mut words, &Call::Step(0, 0));
+        run(&mut words, &Call::Step(0, 0, 0));
         run(&mut words, &Call::Issue(0, sheet % w, 1 << sheet));
     }
     run(&mut words, &Call::Evict(0, 0));
@@ -32,7 +44,7 @@ fn full([k, w, n, p]: [u32; 4]) -> Vec<u32> {
     }
     for other in 1..p {
         run(&mut words, &Call::Open(other, vec![other % n, all(k), 0]));
-        run(&mut words, &Call::Step(other, 0));
+        run(&mut words, &Call::Step(other, 0, 0));
     }
     // A run at office 0 has fetched there: the shelf is emptied again.
     run(&mut words, &Call::Evict(0, 0));
@@ -68,7 +80,7 @@ fn chained(full: &[u32], [k, w, n, p]: [u32; 4]) -> Vec<u32> {
         (0..s.n).for_each(|office| set_mark(&mut words, s, office));
     }
     run(&mut words, &Call::Open(0, vec![0, 1 << (k - 1), 0, 0, 1, 0, 0, all(k), 0]));
-    run(&mut words, &Call::Step(0, 0));
+    run(&mut words, &Call::Step(0, 0, 0));
     let card = words[8] as usize + 28 + (k - 1) as usize * size;
     words[row(card, k - 1)] = 1;
     run(&mut words, &Call::Evict(0, k - 1));
@@ -84,8 +96,9 @@ pub fn cases(sizes: [u32; 4]) -> Vec<Case> {
     let [k, w, n, _] = sizes;
     let full = full(sizes);
     let open = Call::Open(0, eight_jobs(k, n));
-    let reader = [Call::Open(0, vec![0, all(k), 0]), Call::Step(0, 0)];
+    let reader = [Call::Open(0, vec![0, all(k), 0]), Call::Step(0, 0, 0)];
     let filled = [Call::Fetch(0, k - 1)];
+    let fork = Call::Fork(0);
     let case = |words, call| Case { words, call };
     vec![
         case(full.clone(), Call::New(sizes)),
@@ -93,8 +106,8 @@ pub fn cases(sizes: [u32; 4]) -> Vec<Case> {
         case(full.clone(), Call::Fetch(0, k - 1)),
         case(after(&full, &filled), Call::Evict(0, 0)),
         case(after(&full, std::slice::from_ref(&open)), Call::Prepare(0)),
-        case(after(&full, &reader[..1]), Call::Step(0, 0)),
-        case(chained(&full, sizes), Call::Explain(0, 1)),
+        case(after(&full, &reader[..1]), Call::Step(0, 0, 0)),
+        case(chained(&full, sizes), Call::Explain(0, 1, 0)),
         case(after(&full, &reader), Call::Issue(0, 0, all(k))),
         case(after(&full, &reader), Call::Drop(0)),
         case(full.clone(), Call::Look(0, 0, k - 1)),
@@ -106,5 +119,10 @@ pub fn cases(sizes: [u32; 4]) -> Vec<Case> {
         // Every other sheet on the shelf needs sheet 0: all leave.
         case(after(&full, &filled), Call::MayHold(0, all(k) & !1)),
         case(full.clone(), Call::MaySave(w - 1, all(k))),
+        case(after(&full, &reader), fork.clone()),
+        // Both lines have read all sheets, in one version.
+        case(after(&full, &[&reader[..], &[fork.clone()]].concat()), Call::Join(0)),
+        case(after(&full, &[reader[0].clone(), fork.clone()]), Call::Step(0, 0, 1)),
+        case(after(&chained(&full, sizes), &[fork]), Call::Explain(0, 1, 1)),
     ]
 }

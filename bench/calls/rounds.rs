@@ -73,7 +73,7 @@ pub fn check(case: &Case) {
     let (mut mine, mut theirs) = (case.words.clone(), case.words.clone());
     let mut answer = [0; 40];
     let count = library::call(&mut mine, &case.call, &mut answer) as usize;
-    let (name, due) = (case.call.name(), text::run(&mut theirs, &case.call));
+    let (name, due) = (case.name(), text::run(&mut theirs, &case.call));
     assert!(matches!(due, Answer::Ok(_) | Answer::Path(_)), "{name}: not answered ok");
     assert!(answer[..count] == due.words() && mine == theirs, "{name}");
 }

@@ -5,8 +5,8 @@ use super::ledger::{Base, Ledger};
 use super::rows::Rows;
 use super::saves::Saves;
 use super::turns::Turns;
-use super::{has, Book, Finished, Job, Run};
-use crate::desk::layout::{COUNT, DONE, JOBS, JOB_LIST, LAST_ISSUE, NUMBER, PAST, READ};
+use super::{has, Book, Finished, Job, Line, Run};
+use crate::desk::layout::{COUNT, DONE, JOBS, JOB_LIST, LAST_ISSUE, NUMBER, PAST};
 use crate::desk::Sizes;
 
 impl Book {
@@ -42,17 +42,28 @@ fn copies(desk: &[u32], s: Sizes, at: impl Fn(usize) -> usize) -> Vec<Saves> {
     (0..s.k).map(copy).collect()
 }
 
-/// A run as it was admitted. What it has read counts as read by one finished job.
+/// A run as it was admitted. What a line has read counts as read by one finished job, on that line
+/// alone: the words don't tell what was done before the fork.
 fn admitted_run(desk: &[u32], s: Sizes, run: usize) -> Run {
     let words = &desk[s.run_at(run)..];
     let list = words[JOB_LIST..].chunks(3).take(words[JOBS] as usize);
     let jobs = list.map(|job| Job { office: job[0] as usize, reads: job[1] }).collect();
-    let card = copies(desk, s, |k| s.card_at(run, k));
-    let read = (0..s.k).filter(|k| has(words[READ], *k)).map(|k| (k, card[k].clone())).collect();
-    let done = words[DONE];
-    let finished = match done {
-        0 => Vec::new(),
-        _ => vec![Finished { job: done.trailing_zeros() as usize, read }],
-    };
-    Run { jobs, read: words[READ], card, finished }
+    let lines = [0, 1].map(|line| Line {
+        read: desk[s.read_at(run, line)],
+        card: copies(desk, s, |k| s.line_card_at(run, line, k)),
+    });
+    let job = words[DONE].trailing_zeros() as usize;
+    let done = lines.iter().enumerate().filter(|(_, line)| line.read != 0);
+    let finished = done.map(|(number, line)| Finished {
+        job,
+        read: sheets_of(line.read).map(|k| (k, line.card[k].clone())).collect(),
+        on: [number == 0, number == 1],
+    });
+    let finished = finished.collect();
+    Run { jobs, mark: desk[s.mark_at(run)], lines, finished }
+}
+
+/// The sheets of a mask.
+fn sheets_of(mask: u32) -> impl Iterator<Item = usize> {
+    (0..32).filter(move |k| has(mask, *k))
 }

@@ -46,9 +46,10 @@ impl Book {
                 self.fetch_to(&mut shelf, 1 << sheet);
                 over(*office as usize, &shelf)
             }
-            Call::Step(run, job) | Call::Explain(run, job) => {
+            Call::Step(run, job, line) | Call::Explain(run, job, line) => {
                 let office = self.runs[*run as usize].jobs[*job as usize].office;
-                over(office, &self.find_step(*run as usize, *job as usize).shelf)
+                let [run, job, line] = [*run, *job, *line].map(|number| number as usize);
+                over(office, &self.find_step(run, job, line).shelf)
             }
             Call::Prepare(run) => {
                 let shelves = self.prepared_shelves(*run as usize);

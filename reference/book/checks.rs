@@ -2,7 +2,7 @@
 //! and the book after each call.
 
 use super::saves::Saves;
-use super::{has, Book, Finished, Run};
+use super::{has, Book, Finished, Line};
 use crate::desk::layout::{LEADERS, NUMBER, PAST};
 use crate::desk::version::{compare, held, meets, needs, row, Standing, NOBODY};
 use crate::desk::Sizes;
@@ -36,11 +36,18 @@ impl Book {
             for office in 0..s.n {
                 self.check_version(desk, s, s.shelf_at(office, k), &self.shelves[office][k])?;
             }
-            for run in 0..s.p {
-                self.check_version(desk, s, s.card_at(run, k), &self.runs[run].card[k])?;
+            for (at, copy) in self.cards(s, k) {
+                self.check_version(desk, s, at, copy)?;
             }
         }
         Ok(())
+    }
+
+    /// Where each line of each run has its version of sheet k, and the copy.
+    fn cards(&self, s: Sizes, k: usize) -> Vec<(usize, &Saves)> {
+        let lines = (0..s.p).flat_map(|run| [(run, 0), (run, 1)]);
+        let copy = |(run, line): (usize, usize)| &self.runs[run].lines[line].card[k];
+        lines.map(|at| (s.line_card_at(at.0, at.1, k), copy(at))).collect()
     }
 
     /// The version at a place of the desk is its copy counted; on a desk from new its mask "names
@@ -72,8 +79,8 @@ impl Book {
             for office in 0..s.n {
                 self.check_behind(desk, s, s.shelf_at(office, k), k, &self.shelves[office][k])?;
             }
-            for run in 0..s.p {
-                self.check_behind(desk, s, s.card_at(run, k), k, &self.runs[run].card[k])?;
+            for (at, copy) in self.cards(s, k) {
+                self.check_behind(desk, s, at, k, copy)?;
             }
         }
         Ok(())
@@ -121,7 +128,7 @@ impl Book {
     /// Lists "pass on by merge, reading and issue": a copy's own list has all that is listed behind
     /// its later saves.
     pub fn check_lists(&self) -> Result<(), String> {
-        let cards = self.runs.iter().map(|run| &run.card);
+        let cards = self.runs.iter().flat_map(|run| &run.lines).map(|line| &line.card);
         for copy in cards.chain(&self.shelves).chain([&self.master]).flatten() {
             if !copy.rows().includes(&self.ledger.with_behind(copy).rows()) {
                 return Err(format!("a list lacks what is behind the copy's saves: {copy:?}"));
@@ -130,13 +137,14 @@ impl Book {
         Ok(())
     }
 
-    /// 3c for each pair of finished jobs of each run. A job is paired with itself too, which
-    /// asks more than the demand does.
+    /// 3c for each pair of finished jobs of each run whose reads stand on one line: "two share one
+    /// if on one line, or if one was done before the fork", and "once their lines are joined". A
+    /// job is paired with itself too, which asks more than the demand does.
     pub fn check_snapshots(&self) -> Result<(), String> {
         for (number, run) in self.runs.iter().enumerate() {
             for (place, one) in run.finished.iter().enumerate() {
                 for other in &run.finished[..=place] {
-                    if !self.one_snapshot(one, other) {
+                    if one.shares_line(other) && !self.one_snapshot(one, other) {
                         let (a, b) = (one.job, other.job);
                         return Err(format!("3c: run {number}, jobs {a} and {b}"));
                     }
@@ -152,15 +160,16 @@ impl Book {
         let all = one.read.iter().chain(&other.read).collect::<Vec<_>>();
         all.iter().all(|(sheet, copy)| {
             all.iter().all(|(d, read)| {
-                (sheet != d || copy.alike(read)) && copy.includes(&self.ledger.need(read, *sheet))
+                (sheet != d || self.one_version(copy, read))
+                    && copy.includes(&self.ledger.need(read, *sheet))
             })
         })
     }
 
     /// 3d by trying every choice: does a step go through? Nothing for a plan that isn't small.
-    pub fn goes_through(&self, run: usize, job: usize) -> Option<bool> {
-        let found = self.find_step(run, job);
-        let run = &self.runs[run];
+    pub fn goes_through(&self, run: usize, job: usize, line: usize) -> Option<bool> {
+        let found = self.find_step(run, job, line);
+        let (run, line) = (&self.runs[run], &self.runs[run].lines[line]);
         let sheets = (0..self.k).filter(|k| has(run.plan(), *k)).collect::<Vec<usize>>();
         if sheets.len() as u32 > SMALL_PLAN {
             return None;
@@ -171,18 +180,18 @@ impl Book {
             let mut chosen = vec![Saves::default(); self.k];
             for (place, k) in sheets.iter().enumerate() {
                 let kind = (choice >> (2 * place)) & 3;
-                chosen[*k] = choose(kind, &run.card[*k], &found.shelf[*k]);
+                chosen[*k] = choose(kind, &line.card[*k], &found.shelf[*k]);
             }
-            self.choice_stands(run, reads, &sheets, &chosen)
+            self.choice_stands(line, reads, &sheets, &chosen)
         }))
     }
 
     /// The choice "holds all that the job reads, leaves the sheets already read as they were
     /// and meets every need among the plan's sheets".
-    fn choice_stands(&self, run: &Run, reads: u32, sheets: &[usize], chosen: &[Saves]) -> bool {
+    fn choice_stands(&self, line: &Line, reads: u32, sheets: &[usize], chosen: &[Saves]) -> bool {
         sheets.iter().all(|k| {
             let holds = !has(reads, *k) || !chosen[*k].is_empty();
-            let leaves = !has(run.read, *k) || chosen[*k].alike(&run.card[*k]);
+            let leaves = !has(line.read, *k) || chosen[*k].alike(&line.card[*k]);
             holds && leaves
         }) && sheets.iter().all(|k| {
             let others = sheets.iter().filter(|d| *d != k);

@@ -1,6 +1,7 @@
 //! One call after the other: what each was answered, and the desk that it left, held against the
 //! book.
 
+use super::lines::broken_mask;
 use super::{Book, Run};
 use crate::desk::{admit, in_form, Answer};
 use crate::text::Call;
@@ -13,6 +14,8 @@ pub struct Seen {
     pub tried: usize,
     pub broken: usize,
     pub paths: usize,
+    pub joins: usize,
+    pub joins_broken: usize,
 }
 
 impl Book {
@@ -26,20 +29,21 @@ impl Book {
     ) -> Result<(), String> {
         seen.calls += 1;
         let refused = matches!(answer, Answer::Refused(_));
+        self.check_line(call, answer)?;
         self.check_right(call, answer)?;
         self.check_over(call, answer)?;
-        if let (Call::Step(run, job), false) = (call, refused) {
-            self.check_step(*run as usize, *job as usize, answer, seen)?;
-        }
-        if let (Call::Explain(run, job), false) = (call, refused) {
-            self.check_path(*run as usize, *job as usize, answer, seen)?;
+        match call {
+            _ if refused => {}
+            Call::Step(run, job, line) => self.check_step([*run, *job, *line], answer, seen)?,
+            Call::Explain(run, job, line) => self.check_path([*run, *job, *line], answer, seen)?,
+            Call::Join(run) => self.check_joined(*run as usize, answer, words, seen)?,
+            _ => {}
         }
         if let (Call::Pick, Some(s), false) = (call, in_form(words), refused) {
             self.check_pick(answer, words, s)?;
         }
         self.check_answer(call, answer)?;
         self.check_claims(words)?;
-        let pairs = |run: &Run| run.finished.len() * run.finished.len().saturating_sub(1) / 2;
         seen.snapshots += self.runs.iter().map(pairs).sum::<usize>();
         Ok(())
     }
@@ -55,6 +59,8 @@ impl Book {
         self.check_within(words, s)?;
         self.check_unbarred(words, s)?;
         self.check_round(words, s)?;
+        self.check_reads(words, s)?;
+        self.check_cards()?;
         self.check_lists()?;
         if admit(words) != Answer::Ok(vec![0]) {
             return Err("admit doesn't take the desk back".into());
@@ -65,18 +71,18 @@ impl Book {
     /// 3d: a step breaks exactly if no choice stands; the broken sheets are those of C.
     fn check_step(
         &self,
-        run: usize,
-        job: usize,
+        step: [u32; 3],
         answer: &Answer,
         seen: &mut Seen,
     ) -> Result<(), String> {
-        let due = self.find_step(run, job).set & self.runs[run].read;
-        let given = if let Answer::Broken(mask) = answer { *mask } else { 0 };
+        let [run, job, line] = step.map(|number| number as usize);
+        let due = self.find_step(run, job, line).set & self.runs[run].lines[line].read;
+        let given = broken_mask(answer);
         if given != due {
             return Err(format!("the step broke with {given}, the book has {due}"));
         }
         seen.broken += usize::from(given != 0);
-        if let Some(goes) = self.goes_through(run, job) {
+        if let Some(goes) = self.goes_through(run, job, line) {
             seen.tried += 1;
             if goes != (given == 0) {
                 return Err(format!("3d: broken with {given}, some choice stands: {goes}"));
@@ -88,22 +94,36 @@ impl Book {
     /// The path is the one on copies, and there is one exactly if no choice of 3d stands.
     fn check_path(
         &self,
-        run: usize,
-        job: usize,
+        step: [u32; 3],
         answer: &Answer,
         seen: &mut Seen,
     ) -> Result<(), String> {
-        let due = self.find_path(run, job).map_or(Answer::Clear, Answer::Path);
+        let [run, job, line] = step.map(|number| number as usize);
+        let due = self.find_path(run, job, line).map_or(Answer::Clear, Answer::Path);
         if *answer != due {
             return Err(format!("explain answered {answer:?}, the book has {due:?}"));
         }
         seen.paths += usize::from(due != Answer::Clear);
-        match self.goes_through(run, job) {
+        match self.goes_through(run, job, line) {
             Some(goes) if goes != (due == Answer::Clear) => {
                 Err(format!("explain answered {answer:?}, some choice stands: {goes}"))
             }
             _ => Ok(()),
         }
+    }
+
+    /// A join that isn't refused.
+    fn check_joined(
+        &self,
+        run: usize,
+        answer: &Answer,
+        words: &[u32],
+        seen: &mut Seen,
+    ) -> Result<(), String> {
+        let s = in_form(words).ok_or("the desk is not in form")?;
+        seen.joins += usize::from(broken_mask(answer) == 0);
+        seen.joins_broken += usize::from(broken_mask(answer) != 0);
+        self.check_join(run, answer, words, s)
     }
 
     /// Feeds the book and compares what the rules on copies answer. `Clear`, `Path` and `Nothing`
@@ -122,4 +142,13 @@ impl Book {
         }
         Ok(())
     }
+}
+
+/// The pairs of a run's finished jobs that share a snapshot.
+fn pairs(run: &Run) -> usize {
+    let entries = run.finished.iter().enumerate();
+    let shared = entries.map(|(place, one)| {
+        run.finished[..place].iter().filter(|other| one.shares_line(other)).count()
+    });
+    shared.sum()
 }

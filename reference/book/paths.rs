@@ -6,16 +6,17 @@ use super::{has, Book};
 impl Book {
     /// The path that explain gives for a step that isn't refused; nothing if the step goes
     /// through.
-    pub fn find_path(&self, run: usize, job: usize) -> Option<Vec<u32>> {
-        let found = self.find_step(run, job);
-        let run = &self.runs[run];
+    pub fn find_path(&self, run: usize, job: usize, line: usize) -> Option<Vec<u32>> {
+        let found = self.find_step(run, job, line);
+        let (plan, line) = (self.runs[run].plan(), &self.runs[run].lines[line]);
         let sheets = (0..self.k).filter(|k| has(found.set, *k)).collect::<Vec<usize>>();
         let mut next = vec![Vec::new(); self.k];
         for c in &sheets {
-            let led = sheets.iter().filter(|d| *d != c && self.leads(run, &found.shelf, *c, **d));
+            let leads = |d: usize| self.leads(plan, &line.card, &found.shelf, *c, d);
+            let led = sheets.iter().filter(|d| *d != c && leads(**d));
             next[*c] = led.copied().collect();
         }
-        let far = self.distances(&sheets, &next, run.read);
+        let far = self.distances(&sheets, &next, line.read);
         let starts = sheets.iter().filter(|k| has(found.off_card, **k));
         let nearest = starts.filter_map(|k| far[*k].map(|left| (left, *k))).min();
         let (mut left, mut at) = nearest?;

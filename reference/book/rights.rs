@@ -6,7 +6,7 @@ use crate::desk::{Answer, Sizes, NO_RIGHT};
 use crate::text::Call;
 
 /// The refusals that are tested before 13; behind all others a right was there.
-const BEFORE: [u32; 4] = [1, 3, 4, 6];
+const BEFORE: [u32; 5] = [1, 3, 4, 14, 6];
 
 /// The sheets whose copy isn't empty.
 fn held(shelf: &[Saves]) -> u32 {
@@ -73,9 +73,10 @@ impl Book {
                 self.fetch_to(&mut shelf, 1 << sheet);
                 barred(office, 1 << sheet | held(&shelf))
             }
-            Call::Step(run, job) | Call::Explain(run, job) => {
+            Call::Step(run, job, line) | Call::Explain(run, job, line) => {
                 let asked = &self.runs[*run as usize].jobs[*job as usize];
-                let shelf = self.find_step(*run as usize, *job as usize).shelf;
+                let [run, job, line] = [*run, *job, *line].map(|number| number as usize);
+                let shelf = self.find_step(run, job, line).shelf;
                 barred(asked.office, asked.reads | held(&shelf))
             }
             Call::Prepare(run) => {

@@ -4,7 +4,7 @@ use super::form::in_form;
 use super::layout::{has, Sizes, COUNT, LAST_ISSUE, NUMBER, PAST};
 use super::reads::plan;
 use super::version::{covers, held, meets, needs, row};
-use super::{Answer, NOT_ADMITTED, NOT_IN_FORM};
+use super::{Answer, LINES, NOT_ADMITTED, NOT_IN_FORM};
 
 /// "Admission writes nothing" and "answers 0"; "a desk in form that breaks one of these gets 11,
 /// from admission alone, after 1".
@@ -26,7 +26,12 @@ pub fn admit(desk: &[u32]) -> Answer {
 fn all_cuts(desk: &[u32], s: Sizes) -> bool {
     causal_cut(desk, s, |k| s.master_at(k))
         && (0..s.n).all(|office| causal_cut(desk, s, |k| s.shelf_at(office, k)))
-        && (0..s.p).all(|run| overlapping_cut(desk, s, plan(desk, s, run), |k| s.card_at(run, k)))
+        && (0..s.p).all(|run| (0..LINES).all(|line| card_cut(desk, s, run, line)))
+}
+
+/// A line's card, "a keyset-overlapping cut for its plan": admission treats "each line as a card".
+fn card_cut(desk: &[u32], s: Sizes, run: usize, line: usize) -> bool {
+    overlapping_cut(desk, s, plan(desk, s, run), |k| s.line_card_at(run, line, k))
 }
 
 /// "Every need of every held version is met by a held version."
@@ -82,13 +87,15 @@ fn pasts(desk: &[u32], s: Sizes) -> Vec<&[u32]> {
     pasts
 }
 
-/// Where the versions on master, shelves and cards begin.
+/// Where the versions on master, shelves and both lines' cards begin.
 fn places(s: Sizes) -> Vec<usize> {
     let mut places = Vec::new();
     for k in 0..s.k {
         places.push(s.master_at(k));
         places.extend((0..s.n).map(|office| s.shelf_at(office, k)));
-        places.extend((0..s.p).map(|run| s.card_at(run, k)));
+        for line in 0..LINES {
+            places.extend((0..s.p).map(|run| s.line_card_at(run, line, k)));
+        }
     }
     places
 }

@@ -2,6 +2,7 @@
 
 use super::form::{in_form, valid_job};
 use super::layout::*;
+use super::lines::is_forked;
 use super::rights::may_save;
 use super::stale::set_mark;
 use super::version::{compare, held, merge, row, standing_number, take_larger};
@@ -79,6 +80,9 @@ fn issue_refusal(desk: &[u32], run: u32, writer: u32, mask: u32) -> Result<Sizes
     let head = &desk[s.run_at(run as usize)..];
     if head[STATE] != OPEN {
         return Err(WRONG_STATE);
+    }
+    if is_forked(desk, s, run as usize) {
+        return Err(WRONG_LINE);
     }
     if (0..head[JOBS] as usize).any(|job| !has(head[DONE], job)) {
         return Err(WRONG_TURN);

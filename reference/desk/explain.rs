@@ -1,6 +1,6 @@
 //! Explain: "The drawing behind a break".
 
-use super::layout::{has, READ};
+use super::layout::has;
 use super::reads::{step_refusal, step_view};
 use super::sets::leads;
 use super::Answer;
@@ -8,14 +8,14 @@ use super::Answer;
 /// "Explains a job of an open run without stepping it. If the job would break, it gives a path:
 /// first a read of the job that the card lacks, each next one" a sheet to which the one before
 /// leads, "the last already read". "It turns down what step does, by the same numbers, and
-/// writes nothing."
-pub fn explain(desk: &[u32], run: u32, job: u32) -> Answer {
-    let s = match step_refusal(desk, run, job) {
+/// writes nothing." On a line it goes by that line's card and reads.
+pub fn explain(desk: &[u32], run: u32, job: u32, line: u32) -> Answer {
+    let s = match step_refusal(desk, run, job, line) {
         Err(number) => return Answer::Refused(number),
         Ok(s) => s,
     };
-    let view = step_view(desk, s, run as usize, job as usize);
-    let read = desk[s.run_at(view.run) + READ];
+    let view = step_view(desk, s, run as usize, job as usize, line as usize);
+    let read = desk[s.read_at(view.run, view.line)];
     match path(s.k, view.off_card, read, |c, d| leads(desk, s, &view, c, d)) {
         None => Answer::Clear,
         Some(sheets) => Answer::Path(sheets),

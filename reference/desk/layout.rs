@@ -1,7 +1,7 @@
 //! "Size and layout": limits, offsets and the places of the desk's parts.
 
 pub const HEADER: usize = 10;
-/// State, number of jobs, done mask, read mask and 8 jobs of 3 words.
+/// State, number of jobs, done mask, read mask and 8 jobs of 3 words; the card follows.
 pub const RUN_HEAD: usize = 28;
 pub const MOST_JOBS: usize = 8;
 
@@ -78,8 +78,14 @@ impl Sizes {
         self.writers() + self.w * self.writer()
     }
 
+    /// All sheets' versions.
+    pub fn card(&self) -> usize {
+        self.k * self.version()
+    }
+
+    /// "A run's words gain at their end a mark, a second read mask and a second card."
     pub fn run_words(&self) -> usize {
-        RUN_HEAD + self.k * self.version()
+        RUN_HEAD + self.card() + 2 + self.card()
     }
 
     /// Where the last picked run is: behind the runs.
@@ -140,8 +146,27 @@ impl Sizes {
         self.runs() + run * self.run_words()
     }
 
+    /// Where line 0's version of sheet k starts.
     pub fn card_at(&self, run: usize, k: usize) -> usize {
-        self.run_at(run) + RUN_HEAD + k * self.version()
+        self.line_card_at(run, 0, k)
+    }
+
+    /// Where a line's version of sheet k starts: line 1's card is the run's end.
+    pub fn line_card_at(&self, run: usize, line: usize, k: usize) -> usize {
+        self.run_at(run) + RUN_HEAD + line * (self.card() + 2) + k * self.version()
+    }
+
+    /// Where the mark is: "0 never forked, 1 forked, 2 joined".
+    pub fn mark_at(&self, run: usize) -> usize {
+        self.run_at(run) + RUN_HEAD + self.card()
+    }
+
+    /// Where a line's read mask is.
+    pub fn read_at(&self, run: usize, line: usize) -> usize {
+        match line {
+            0 => self.run_at(run) + READ,
+            _ => self.mark_at(run) + 1,
+        }
     }
 
     /// The V words that start at a place.

@@ -3,6 +3,7 @@
 use super::allowance::over_with;
 use super::form::{carried, in_form};
 use super::layout::*;
+use super::lines::{is_forked, no_such_line};
 use super::rights::barred;
 use super::sets::*;
 use super::stale::set_mark;
@@ -56,7 +57,7 @@ pub fn prepare(desk: &mut [u32], run: u32) -> Answer {
         return Answer::Refused(OVER_ALLOWANCE);
     }
     make_card(desk, s, run);
-    Answer::Ok(vec![carried(desk, s, run)])
+    Answer::Ok(vec![carried(desk, s, run, 0)])
 }
 
 /// "For each job in number order, its reads that its shelf lacks are fetched together." Answers
@@ -86,6 +87,9 @@ fn prepare_refusal(desk: &[u32], run: u32) -> Result<Sizes, u32> {
     let head = &desk[s.run_at(run)..];
     if head[STATE] != OPEN {
         return Err(WRONG_STATE);
+    }
+    if is_forked(desk, s, run) {
+        return Err(WRONG_LINE);
     }
     if head[DONE] != 0 {
         return Err(WRONG_TURN);
@@ -120,45 +124,45 @@ fn make_card(desk: &mut [u32], s: Sizes, run: usize) {
     }
 }
 
-/// Step: one job reads its sheets, or the run breaks.
-pub fn step(desk: &mut [u32], run: u32, job: u32) -> Answer {
-    let s = match step_refusal(desk, run, job) {
+/// Step: one job reads its sheets on a line, or the run breaks. The other line keeps every word.
+pub fn step(desk: &mut [u32], run: u32, job: u32, line: u32) -> Answer {
+    let s = match step_refusal(desk, run, job, line) {
         Err(number) => return Answer::Refused(number),
         Ok(s) => s,
     };
-    let (run, job) = (run as usize, job as usize);
+    let (run, job, line) = (run as usize, job as usize, line as usize);
     let (office, reads, _) = job_words(desk, s, run, job);
-    let view = step_view(desk, s, run, job);
+    let view = step_view(desk, s, run, job, line);
     let (fetched, set) = (view.fetched, card_set(desk, s, &view));
-    let at = s.run_at(run);
-    if set & desk[at + READ] != 0 {
+    let (at, read) = (s.run_at(run), s.read_at(run, line));
+    if set & desk[read] != 0 {
         // "Its state becomes 2, nothing else changes."
         desk[at + STATE] = BROKEN;
-        return Answer::Broken(set & desk[at + READ]);
+        return Answer::Broken(set & desk[read]);
     }
     take(desk, s, office, fetched);
     for k in 0..s.k {
         if has(set, k) {
             let version = s.words(desk, s.shelf_at(office, k)).to_vec();
-            let card = s.card_at(run, k);
+            let card = s.line_card_at(run, line, k);
             merge(&mut desk[card..card + s.version()], &version, s.w, k);
         }
     }
-    desk[at + READ] |= reads;
+    desk[read] |= reads;
     desk[at + DONE] |= 1 << job;
     Answer::Ok(vec![reads & !set, reads & set & !fetched, reads & set & fetched])
 }
 
 /// "Reads R that the card lacks and the shelf lacks are fetched together."
-pub fn step_view(desk: &[u32], s: Sizes, run: usize, job: usize) -> StepView {
+pub fn step_view(desk: &[u32], s: Sizes, run: usize, job: usize, line: usize) -> StepView {
     let (office, reads, _) = job_words(desk, s, run, job);
-    let off_card = reads & !carried(desk, s, run);
+    let off_card = reads & !carried(desk, s, run, line);
     let fetched = fetch_set(desk, s, office, lacking(desk, s, office, off_card));
-    StepView { run, office, off_card, fetched, plan: plan(desk, s, run) }
+    StepView { run, line, office, off_card, fetched, plan: plan(desk, s, run) }
 }
 
 /// What turns a step down; explain too.
-pub fn step_refusal(desk: &[u32], run: u32, job: u32) -> Result<Sizes, u32> {
+pub fn step_refusal(desk: &[u32], run: u32, job: u32, line: u32) -> Result<Sizes, u32> {
     let s = in_form(desk).ok_or(NOT_IN_FORM)?;
     if u64::from(run) >= s.p as u64 {
         return Err(OUT_OF_RANGE);
@@ -171,21 +175,24 @@ pub fn step_refusal(desk: &[u32], run: u32, job: u32) -> Result<Sizes, u32> {
     if head[STATE] != OPEN {
         return Err(WRONG_STATE);
     }
-    let (run, job) = (run as usize, job as usize);
+    if no_such_line(desk, s, run as usize, line) {
+        return Err(WRONG_LINE);
+    }
+    let (run, job, line) = (run as usize, job as usize, line as usize);
     let (office, reads, upstream) = job_words(desk, s, run, job);
     if has(head[DONE], job) || upstream & !head[DONE] != 0 {
         return Err(WRONG_TURN);
     }
+    let view = step_view(desk, s, run, job, line);
     // "A job may not read it at that office, even from the card", and T may have further sheets.
-    if barred(desk, s, office, reads | step_view(desk, s, run, job).fetched) {
+    if barred(desk, s, office, reads | view.fetched) {
         return Err(NO_RIGHT);
     }
-    let off_card = reads & !carried(desk, s, run);
-    if lacking(desk, s, office, off_card) & !on_master(desk, s) != 0 {
+    if lacking(desk, s, office, view.off_card) & !on_master(desk, s) != 0 {
         return Err(NOT_ON_MASTER);
     }
     // "Looked for only when the fetch fits": 12 comes before a break.
-    if over_with(desk, s, office, step_view(desk, s, run, job).fetched) {
+    if over_with(desk, s, office, view.fetched) {
         return Err(OVER_ALLOWANCE);
     }
     Ok(s)

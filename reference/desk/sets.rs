@@ -52,10 +52,11 @@ pub fn shelf_after(desk: &[u32], s: Sizes, office: usize, fetched: u32, k: usize
     }
 }
 
-/// What step works from: its run, its office, those of its reads that the card lacks, T of its
-/// fetch and the plan's sheets.
+/// What step works from: its run and line, its office, those of its reads that the line's card
+/// lacks, T of its fetch and the plan's sheets.
 pub struct StepView {
     pub run: usize,
+    pub line: usize,
     pub office: usize,
     pub off_card: u32,
     pub fetched: u32,
@@ -66,9 +67,10 @@ pub struct StepView {
 /// holds d".
 pub fn leads(desk: &[u32], s: Sizes, view: &StepView, c: usize, d: usize) -> bool {
     let version = shelf_after(desk, s, view.office, view.fetched, c);
+    let card = s.line_card_at(view.run, view.line, d);
     has(view.plan, d)
         && needs(version, s.w, c, d)
-        && !meets(s.words(desk, s.card_at(view.run, d)), s.w, d, row(version, s.w, d))
+        && !meets(s.words(desk, card), s.w, d, row(version, s.w, d))
         && held(shelf_after(desk, s, view.office, view.fetched, d))
 }
 

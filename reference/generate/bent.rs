@@ -7,6 +7,7 @@ use crate::desk::reads::plan;
 use crate::desk::rights::held_mask;
 use crate::desk::stale::stale_mask;
 use crate::desk::version::{all_zero, row};
+use crate::forked;
 use crate::random::Random;
 
 /// Bends a desk in form. In most cases it is mended, so that admit takes it; of these some are
@@ -16,6 +17,7 @@ pub fn bend(random: &mut Random, words: &mut [u32], s: Sizes) {
         lift(random, words, s);
     }
     words[s.round_at()] = random.below(s.p) as u32;
+    forked::fork_some(random, words, s);
     for _ in 0..1 + random.below(12) {
         bend_one(random, words, s);
     }
@@ -76,8 +78,14 @@ fn lift(random: &mut Random, words: &mut [u32], s: Sizes) {
 /// Where the versions on master, shelves and cards begin.
 fn all_places(s: Sizes) -> Vec<usize> {
     let shelves = (0..s.n).flat_map(|office| (0..s.k).map(move |k| s.shelf_at(office, k)));
-    let cards = (0..s.p).flat_map(|run| (0..s.k).map(move |k| s.card_at(run, k)));
+    let card = move |(run, line)| (0..s.k).map(move |k| s.line_card_at(run, line, k));
+    let cards = all_lines(s).flat_map(card);
     (0..s.k).map(|k| s.master_at(k)).chain(shelves).chain(cards).collect()
+}
+
+/// Each line of each run.
+fn all_lines(s: Sizes) -> impl Iterator<Item = (usize, usize)> {
+    (0..s.p).flat_map(|run| [(run, 0), (run, 1)])
 }
 
 /// Where a past begins: of each version and each writer.
@@ -178,8 +186,8 @@ fn mend(words: &mut [u32], s: Sizes) {
     for office in 0..s.n {
         mend_needs(words, s, u32::MAX, &|k| s.shelf_at(office, k));
     }
-    for run in 0..s.p {
-        mend_needs(words, s, plan(words, s, run), &|k| s.card_at(run, k));
+    for (run, line) in all_lines(s) {
+        mend_needs(words, s, plan(words, s, run), &|k| s.line_card_at(run, line, k));
     }
 }
 

@@ -1,7 +1,7 @@
 //! Breaks with a path of several sheets: layers of sheets, each drawn against the next one, of
 //! which the last was read too old.
 
-use crate::desk::layout::{has, READ};
+use crate::desk::layout::has;
 use crate::desk::reads::step_view;
 use crate::desk::sets::leads;
 use crate::desk::{in_form, FREE};
@@ -196,12 +196,13 @@ fn finish(t: &mut Teller, run: usize) {
 }
 
 /// Of a path: is there another one as short, and does it pass a carried sheet that isn't read?
-pub fn tied_and_carried(words: &[u32], [run, job]: [u32; 2], path: &[u32]) -> (bool, bool) {
+pub fn tied_and_carried(words: &[u32], step: [u32; 3], path: &[u32]) -> (bool, bool) {
     let Some(s) = in_form(words) else {
         return (false, false);
     };
-    let view = step_view(words, s, run as usize, job as usize);
-    let read = words[s.run_at(view.run) + READ];
+    let [run, job, line] = step.map(|number| number as usize);
+    let view = step_view(words, s, run, job, line);
+    let read = words[s.read_at(run, line)];
     // In how many ways so many sheets lead to each sheet; 2 stands for more too.
     let mut ways = (0..s.k).map(|k| u32::from(has(view.off_card, k))).collect::<Vec<u32>>();
     for _ in 1..path.len() {
@@ -214,6 +215,6 @@ pub fn tied_and_carried(words: &[u32], [run, job]: [u32; 2], path: &[u32]) -> (b
         ways = longer;
     }
     let ended = (0..s.k).filter(|k| has(read, *k)).map(|k| ways[k]).sum::<u32>();
-    let carried = |k: usize| words[s.card_at(view.run, k)] != 0 && !has(read, k);
+    let carried = |k: usize| words[s.line_card_at(run, line, k)] != 0 && !has(read, k);
     (ended > 1, path.iter().any(|k| carried(*k as usize)))
 }

@@ -5,6 +5,7 @@ use crate::desk::layout::{has, JOBS, JOB_LIST, LEADERS};
 use crate::desk::reads::step_view;
 use crate::desk::version::{covers, held, row};
 use crate::desk::{in_form, Answer};
+use crate::forked;
 use crate::rights;
 use crate::text::{run, Call};
 
@@ -37,7 +38,8 @@ pub struct Counts {
     tied_paths: u64,
     carried_paths: u64,
     rights: rights::Met,
-    refused: [u64; 14],
+    forked: forked::Met,
+    refused: [u64; 15],
 }
 
 impl Counts {
@@ -72,7 +74,8 @@ impl Counts {
             ("paths-carried".into(), self.carried_paths),
         ];
         names.extend(self.rights.names());
-        let refused = (1..=8).chain([12, 13]);
+        names.extend(self.forked.names());
+        let refused = (1..=8).chain([12, 13, 14]);
         names.extend(refused.map(|number| (format!("refused-{number}"), self.refused[number])));
         names.iter().map(|(name, count)| format!("{name} {count}")).collect::<Vec<_>>().join(" ")
     }
@@ -80,20 +83,21 @@ impl Counts {
     /// Takes in a call on a desk, and its answer.
     pub fn enter(&mut self, before: &[u32], after: &[u32], call: &Call, answer: &Answer) {
         self.rights.enter(before, after, call, answer);
+        self.forked.enter(before, call, answer);
         match (call, answer) {
             (_, Answer::Ok(numbers)) => self.enter_ok(before, after, call, numbers),
             (_, Answer::Refused(number)) => {
                 self.refused[*number as usize] += 1;
                 self.hidden_breaks += u64::from(*number == 12 && hides_break(before, call));
             }
-            (Call::Step(run, job), Answer::Broken(_)) => {
+            (Call::Step(run, job, line), Answer::Broken(_)) => {
                 self.breaks += 1;
-                self.breaks_marked += u64::from(fetches_stale(before, *run, *job));
+                self.breaks_marked += u64::from(fetches_stale(before, [*run, *job, *line]));
             }
             (_, Answer::Nothing) => self.nothing += 1,
             (_, Answer::Clear) => self.clear += 1,
-            (Call::Explain(run, job), Answer::Path(path)) => {
-                self.enter_path(before, [*run, *job], path);
+            (Call::Explain(run, job, line), Answer::Path(path)) => {
+                self.enter_path(before, [*run, *job, *line], path);
             }
             _ => {}
         }
@@ -131,7 +135,7 @@ impl Counts {
     }
 
     /// Takes in a path that an explain answered.
-    fn enter_path(&mut self, before: &[u32], step: [u32; 2], path: &[u32]) {
+    fn enter_path(&mut self, before: &[u32], step: [u32; 3], path: &[u32]) {
         let (tied, carried) = tied_and_carried(before, step, path);
         self.paths += 1;
         self.long_paths += u64::from(path.len() > 2);
@@ -164,11 +168,12 @@ fn hides_break(before: &[u32], call: &Call) -> bool {
 }
 
 /// Would the step's fetch have taken a sheet again that is marked as stale?
-fn fetches_stale(before: &[u32], run: u32, job: u32) -> bool {
+fn fetches_stale(before: &[u32], step: [u32; 3]) -> bool {
     let Some(s) = in_form(before) else {
         return false;
     };
-    let view = step_view(before, s, run as usize, job as usize);
+    let [run, job, line] = step.map(|number| number as usize);
+    let view = step_view(before, s, run, job, line);
     view.fetched & before[s.stale_at(view.office)] != 0
 }
 

@@ -1,5 +1,6 @@
 //! Runs without a plot: prepared or not, with changes in between, and calls of any kind.
 
+use crate::branches;
 use crate::desk::OPEN;
 use crate::plots::{end_run, free_run, pair_elsewhere, publish, some_sheets, untied_pair};
 use crate::rights;
@@ -59,15 +60,24 @@ pub fn plain_run(t: &mut Teller) {
     work_through(t, run);
 }
 
-/// Steps in number order, with changes in between, then an end.
+/// Steps in number order, with changes in between, then an end. Some runs fork and join.
 fn work_through(t: &mut Teller, run: usize) {
+    let forks = t.chance(15);
     for job in 0..t.run_head(run)[1] {
+        if forks && t.chance(50) {
+            t.tell("fork", &[run as u32]);
+        }
+        let line = if forks { t.below(2) as u32 } else { 0 };
         if t.chance(30) {
             disturb(t, run);
         }
         if t.run_head(run)[0] == OPEN && t.chance(95) {
-            t.tell("step", &[run as u32, job]);
+            let numbers = [run as u32, job, line];
+            t.tell("step", &numbers[..2 + line as usize]);
         }
+    }
+    if forks {
+        t.tell("join", &[run as u32]);
     }
     end_run(t, run);
     rights::give_back_all(t, 30);
@@ -114,7 +124,8 @@ pub fn any_call(t: &mut Teller) {
     let sheets = some_sheets(t, 30);
     let job = t.below(4) as u32;
     let place = t.below(3) as u32;
-    match t.below(16) {
+    let line = branches::any_line(t);
+    match t.below(20) {
         0 => t.tell("open", &[run, office, sheets, 0, office, 1 << (sheet & 31), 1]),
         1 => t.tell("fetch", &[office, sheet]),
         2 => t.tell("evict", &[office, sheet]),
@@ -122,7 +133,7 @@ pub fn any_call(t: &mut Teller) {
         4 => t.tell("issue", &[run, writer, sheets]),
         5 => t.tell("drop", &[run]),
         6 => t.tell("look", &[place, [0, office, run][place as usize], sheet]),
-        7 => t.tell("explain", &[run, job]),
+        7 => t.tell("explain", &[run, job, line]),
         8 => t.tell("stale", &[office]),
         9 => t.tell("admit", &[]),
         10 => t.tell("pick", &[]),
@@ -135,6 +146,9 @@ pub fn any_call(t: &mut Teller) {
             let lost = if t.chance(70) { 0 } else { sheets };
             t.tell(name, &[number, s.all_sheets() & !lost])
         }
+        14 => t.tell("fork", &[run]),
+        15 => t.tell("join", &[run]),
+        16 | 17 => t.tell("step", &[run, job, line]),
         _ => t.tell("step", &[run, job]),
     };
 }

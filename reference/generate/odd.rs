@@ -1,12 +1,13 @@
 //! Refused calls of every number that text can reach.
 
+use crate::branches;
 use crate::desk::{FREE, OPEN};
 use crate::teller::Teller;
 
 /// "Before any new, the buffer is all zero": every call but new is refused.
 pub fn before_new(t: &mut Teller) {
     for _ in 0..t.below(3) {
-        match t.below(11) {
+        match t.below(13) {
             0 => t.tell("fetch", &[0, 0]),
             1 => t.tell("open", &[0]),
             2 => t.tell("explain", &[0, 0]),
@@ -17,6 +18,8 @@ pub fn before_new(t: &mut Teller) {
             7 => t.tell("pick", &[]),
             8 => t.tell("mayhold", &[0, 0]),
             9 => t.tell("maysave", &[0, 0]),
+            10 => t.tell("fork", &[0]),
+            11 => t.tell("join", &[0]),
             _ => t.tell("new", &[32, 16, 8, 8]),
         };
     }
@@ -24,20 +27,21 @@ pub fn before_new(t: &mut Teller) {
 
 /// A call that is refused with a number drawn first, as far as the desk has a way to it.
 pub fn refused(t: &mut Teller) {
-    match 1 + t.below(8) {
+    match 1 + t.below(10) {
         1 => too_large(t),
         2 => bad_count(t),
         3 => out_of_range(t),
         4 => wrong_state(t),
-        5 => bad_jobs(t),
+        5 | 10 => bad_jobs(t),
         6 => wrong_turn(t),
         7 => not_on_master(t),
+        8 => wrong_line(t),
         _ => not_held(t),
     }
 }
 
 fn too_large(t: &mut Teller) {
-    let sizes = [[32, 1, 8, 6], [13, 12, 2, 4], [32, 16, 8, 8]][t.below(3)];
+    let sizes = [[32, 1, 8, 3], [19, 7, 3, 1], [32, 16, 8, 8]][t.below(3)];
     t.tell("new", &sizes);
 }
 
@@ -56,7 +60,7 @@ fn out_of_range(t: &mut Teller) {
     let place = t.below(3) as u32;
     // K = 32: all sheets, in range.
     let past_last = s.all_sheets().saturating_add(1);
-    match t.below(21) {
+    match t.below(24) {
         0 => t.tell("open", &[p]),
         1 => t.tell("fetch", &[n, 0]),
         2 => t.tell("fetch", &[0, k]),
@@ -77,6 +81,9 @@ fn out_of_range(t: &mut Teller) {
         17 => t.tell("mayhold", &[0, past_last.max(far)]),
         18 => t.tell("maysave", &[w, 0]),
         19 => t.tell("maysave", &[0, past_last.max(far)]),
+        20 => t.tell("fork", &[p]),
+        21 => t.tell("join", &[p]),
+        22 => t.tell("step", &[0, 8, 2]),
         _ => t.tell("look", &[place, p.max(n), 0]),
     };
 }
@@ -91,9 +98,12 @@ fn wrong_state(t: &mut Teller) {
         t.tell("open", &[run, 99]);
     }
     if let Some(run) = run_in(t, |state| state != OPEN) {
-        match t.below(3) {
+        match t.below(6) {
             0 => t.tell("prepare", &[run]),
             1 => t.tell("step", &[run, 0]),
+            2 => t.tell("step", &[run, 0, 7]),
+            3 => t.tell("fork", &[run]),
+            4 => t.tell("join", &[run]),
             _ => t.tell("issue", &[run, 0, 1]),
         };
     }
@@ -138,6 +148,17 @@ fn wrong_turn(t: &mut Teller) {
     if done != (1 << jobs) - 1 {
         t.tell("issue", &[run, 0, 0]);
     }
+}
+
+/// What an open run's mark forbids.
+fn wrong_line(t: &mut Teller) {
+    let Some(run) = run_in(t, |state| state == OPEN) else {
+        return;
+    };
+    if t.chance(20) {
+        t.tell("fork", &[run]);
+    }
+    branches::wrong_line(t, run as usize);
 }
 
 fn not_on_master(t: &mut Teller) {

@@ -1,5 +1,6 @@
 //! Plots that steer: each is a short list of calls with a likely end.
 
+use crate::branches;
 use crate::chains;
 use crate::desk::layout::has;
 use crate::desk::version::needs;
@@ -15,11 +16,12 @@ use crate::teller::Teller;
 /// A plot of runs, by a number below 58.
 pub fn of_runs(t: &mut Teller, number: usize) {
     match number {
-        0..=20 => break_a_run(t),
+        0..=17 => break_a_run(t),
+        18..=20 | 49..=52 => branches::side_by_side(t),
         22..=24 => chains::explain_a_break(t),
         25..=36 => rivals::issue_rivals(t),
         37..=41 => rivals::rounds_of_rivals(t),
-        21 | 42..=52 => everyday::prepared_run(t),
+        21 | 42..=48 => everyday::prepared_run(t),
         53..=55 => everyday::prepare_again(t),
         _ => everyday::plain_run(t),
     }
@@ -42,7 +44,7 @@ pub fn without_new(t: &mut Teller) {
 /// A new desk, mostly small, so that sheets and writers meet often.
 pub fn fresh_desk(t: &mut Teller) {
     let sizes = if t.chance(8) {
-        const WIDE: [[u32; 4]; 4] = [[16, 6, 6, 3], [22, 4, 1, 6], [32, 1, 8, 5], [32, 2, 2, 2]];
+        const WIDE: [[u32; 4]; 4] = [[16, 6, 3, 3], [22, 4, 1, 3], [32, 1, 8, 2], [32, 2, 2, 2]];
         WIDE[t.below(4)]
     } else {
         [2 + t.below(6), 1 + t.below(6), 1 + t.below(4), 2 + t.below(3)].map(|n| n as u32)
@@ -137,6 +139,7 @@ pub fn break_a_run(t: &mut Teller) {
     if t.chance(90) {
         t.tell("step", &[run, 0]);
     }
+    let line = u32::from(t.chance(12) && t.tell("fork", &[run]) == Some(Answer::Ok(vec![0])));
     if t.chance(40) {
         // The step's fetch would take it again: a break leaves it, and its mark.
         t.tell("fetch", &[there, a as u32]);
@@ -149,9 +152,12 @@ pub fn break_a_run(t: &mut Teller) {
     }
     for job in 1..jobs as u32 {
         if t.chance(40) {
-            t.tell("explain", &[run, job]);
+            t.tell("explain", &[run, job, line]);
         }
-        t.tell("step", &[run, job]);
+        t.tell("step", &[run, job, line]);
+    }
+    if line == 1 {
+        t.tell("join", &[run]);
     }
     end_run(t, run as usize);
 }

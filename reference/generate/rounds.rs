@@ -16,8 +16,16 @@ pub fn dispatch(t: &mut Teller) {
         let Some(Answer::Ok(picked)) = t.tell("pick", &[]) else {
             break;
         };
+        if t.chance(8) {
+            t.tell("fork", &picked[..1]);
+        }
         if t.chance(75) {
-            t.tell("step", &picked);
+            // "Dispatching goes by the shared done mask."
+            let line = u32::from(t.chance(20));
+            t.tell("step", &[picked[0], picked[1], line]);
+        }
+        if t.chance(5) {
+            t.tell("join", &picked[..1]);
         }
         if t.chance(10) {
             let run = t.below(runs) as u32;

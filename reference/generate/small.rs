@@ -52,11 +52,19 @@ fn small_run(t: &mut Teller, office: usize) {
     if t.chance(60) {
         t.tell("prepare", &[run as u32]);
     }
+    let forks = t.chance(20);
+    if forks {
+        t.tell("fork", &[run as u32]);
+    }
     for job in 0..3 {
-        t.tell("step", &[run as u32, job]);
+        let line = if forks { t.below(2) as u32 } else { 0 };
+        t.tell("step", &[run as u32, job, line]);
         if t.chance(20) {
             tighten(t, office);
         }
+    }
+    if forks {
+        t.tell("join", &[run as u32]);
     }
     end_run(t, run);
 }

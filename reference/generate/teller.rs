@@ -99,7 +99,7 @@ impl Teller {
     fn glance(&mut self, name: &str, numbers: &[u32]) {
         let s = self.sizes();
         let (place, number) = match name {
-            "prepare" | "step" => (2, numbers[0] as usize),
+            "prepare" | "step" | "join" => (2, numbers[0] as usize),
             "fetch" | "evict" | "mayhold" => (1, numbers[0] as usize),
             "issue" => (0, 0),
             _ => return,

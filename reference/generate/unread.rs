@@ -3,7 +3,7 @@
 use crate::teller::Teller;
 
 /// Most of these only just miss a form.
-const MISSES: [&[u8]; 44] = [
+const MISSES: [&[u8]; 52] = [
     b"",
     b" ",
     b"new",
@@ -32,7 +32,15 @@ const MISSES: [&[u8]; 44] = [
     b"evict 0 1e1",
     b"explain",
     b"explain 0",
-    b"explain 0 0 0",
+    b"explain 0 0 0 0",
+    b"explain 0 0 0 ",
+    b"step 0",
+    b"step 0 0 0 0",
+    b"step 0 0 -1",
+    b"fork",
+    b"fork 0 0",
+    b"join",
+    b"join 0 1",
     b"stale",
     b"stale 0 0",
     b"stale -0",

@@ -29,10 +29,12 @@ fn taken() -> (Vec<u32>, Sizes) {
 /// is answered all the same.
 pub fn one_change_each() {
     let (words, s) = taken();
-    let mut due = vec![2, 1, 1, 1, 2, 10, 18, 28, 31, 70, 1, 1, 1, 0, 2, 1, 1, 2];
+    let mut due = vec![2, 1, 1, 1, 2, 10, 18, 28, 31, 80, 1, 1, 1, 0, 2, 1, 1, 2];
     due.extend([1, 1, 1, 0, 2, 1, 1, 2, 0, 2, 2, 1, 2, 1, 1, 0, 0, 0, 2, 0]);
     due.extend([0; 21]);
-    due.extend([0, 0, 0, 0, 2, 1, 1, 2, 0, 3, 3]);
+    due.extend([0, 0, 0, 0, 2, 1, 1, 2]);
+    due.extend([0; 10]);
+    due.extend([0, 3, 3]);
     assert_eq!(words, due);
     let (last, own) = (LAST_ISSUE, s.master_at(0) + 2);
     let (shelf, stale, card) = (s.shelf_at(0, 0), s.stale_at(0), s.card_at(0, 1));

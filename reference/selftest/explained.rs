@@ -128,7 +128,7 @@ pub fn all_sheets() {
     words[at + PAST + 31] = 1;
     put_marks(&mut words, s);
     assert!(in_form(&words).is_some());
-    assert_eq!(explain(&words, 0, 1), Answer::Path((0..32).collect()));
-    assert_eq!(explain(&words, 0, 2), Answer::Path(vec![30, 31]));
-    assert_eq!(step(&mut words, 0, 1), Answer::Broken(2_147_483_648));
+    assert_eq!(explain(&words, 0, 1, 0), Answer::Path((0..32).collect()));
+    assert_eq!(explain(&words, 0, 2, 0), Answer::Path(vec![30, 31]));
+    assert_eq!(step(&mut words, 0, 1, 0), Answer::Broken(2_147_483_648));
 }

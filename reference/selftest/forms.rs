@@ -8,10 +8,10 @@ use crate::marked::fresh;
 fn worked() -> (Vec<u32>, Sizes) {
     let (mut words, s) = fresh(2, 2, 2, 2);
     assert_eq!(open(&mut words, 0, &[0, 0, 0]), Answer::Ok(vec![1]));
-    assert_eq!(step(&mut words, 0, 0), Answer::Ok(vec![0, 0, 0]));
+    assert_eq!(step(&mut words, 0, 0, 0), Answer::Ok(vec![0, 0, 0]));
     assert_eq!(issue(&mut words, 0, 0, 3), Answer::Ok(vec![1]));
     assert_eq!(open(&mut words, 0, &[0, 1, 0, 1, 2, 1]), Answer::Ok(vec![2]));
-    assert_eq!(step(&mut words, 0, 0), Answer::Ok(vec![0, 0, 1]));
+    assert_eq!(step(&mut words, 0, 0, 0), Answer::Ok(vec![0, 0, 1]));
     (words, s)
 }
 
@@ -89,17 +89,19 @@ pub fn all_refuse(words: &mut [u32], number: u32) {
         assert_eq!(fetch(words, x, x), Answer::Refused(number));
         assert_eq!(evict(words, x, x), Answer::Refused(number));
         assert_eq!(prepare(words, x), Answer::Refused(number));
-        assert_eq!(step(words, x, x), Answer::Refused(number));
+        assert_eq!(step(words, x, x, x), Answer::Refused(number));
         assert_eq!(issue(words, x, x, x), Answer::Refused(number));
         assert_eq!(drop_run(words, x), Answer::Refused(number));
         assert_eq!(look(words, x, x, x), Answer::Refused(number));
-        assert_eq!(explain(words, x, x), Answer::Refused(number));
+        assert_eq!(explain(words, x, x, x), Answer::Refused(number));
         assert_eq!(stale(words, x), Answer::Refused(number));
         assert_eq!(admit(words), Answer::Refused(number));
         assert_eq!(allow(words, x, x), Answer::Refused(number));
         assert_eq!(pick(words), Answer::Refused(number));
         assert_eq!(mayhold(words, x, x), Answer::Refused(number));
         assert_eq!(maysave(words, x, x), Answer::Refused(number));
+        assert_eq!(fork(words, x), Answer::Refused(number));
+        assert_eq!(join(words, x), Answer::Refused(number));
     }
     assert_eq!(words, before);
 }
@@ -107,7 +109,7 @@ pub fn all_refuse(words: &mut [u32], number: u32) {
 /// Refusals 9 and 10, and 9 before 10; an empty mask skips both.
 pub fn spent_counts() {
     let (mut words, s) = worked();
-    assert_eq!(step(&mut words, 0, 1), Answer::Ok(vec![2, 0, 0]));
+    assert_eq!(step(&mut words, 0, 1, 0), Answer::Ok(vec![2, 0, 0]));
     let ready = words.clone();
     words[LAST_ISSUE] = u32::MAX;
     words[s.writer_at(1)] = u32::MAX;

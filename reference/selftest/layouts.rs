@@ -6,24 +6,26 @@ use crate::forms::all_refuse;
 use crate::marked::fresh;
 
 /// A layout by the words of a version before its rows, those of a shelf behind its versions, those
-/// behind the runs, and how many of each office and writer follow.
+/// behind the runs, how many of each office and writer follow, and a run's further lines.
 #[derive(Clone, Copy)]
 struct Layout {
     version: usize,
     shelf: usize,
     tail: usize,
     rights: usize,
+    lines: usize,
 }
 
 /// Document 01's, with leading writers, with stale marks, with allowances, with the last picked
-/// run, with rights.
-const LAYOUTS: [Layout; 6] = [
-    Layout { version: 1, shelf: 0, tail: 0, rights: 0 },
-    Layout { version: 2, shelf: 0, tail: 0, rights: 0 },
-    Layout { version: 2, shelf: 1, tail: 0, rights: 0 },
-    Layout { version: 2, shelf: 2, tail: 0, rights: 0 },
-    Layout { version: 2, shelf: 2, tail: 1, rights: 0 },
-    Layout { version: 2, shelf: 2, tail: 1, rights: 1 },
+/// run, with rights, with two lines of a run.
+const LAYOUTS: [Layout; 7] = [
+    Layout { version: 1, shelf: 0, tail: 0, rights: 0, lines: 0 },
+    Layout { version: 2, shelf: 0, tail: 0, rights: 0, lines: 0 },
+    Layout { version: 2, shelf: 1, tail: 0, rights: 0, lines: 0 },
+    Layout { version: 2, shelf: 2, tail: 0, rights: 0, lines: 0 },
+    Layout { version: 2, shelf: 2, tail: 1, rights: 0, lines: 0 },
+    Layout { version: 2, shelf: 2, tail: 1, rights: 1, lines: 0 },
+    Layout { version: 2, shelf: 2, tail: 1, rights: 1, lines: 1 },
 ];
 
 /// The layout's offsets and total.
@@ -33,7 +35,8 @@ fn offsets(layout: Layout, [k, w, n, p]: [usize; 4]) -> [u32; 5] {
     let writers = shelves + n * (k * version + layout.shelf);
     let runs = writers + w * writer;
     let tail = layout.tail + layout.rights * (n + w);
-    let total = runs + p * (RUN_HEAD + k * version) + tail;
+    let lines = layout.lines * (2 + k * version);
+    let total = runs + p * (RUN_HEAD + k * version + lines) + tail;
     [HEADER, shelves, writers, runs, total].map(|place| place as u32)
 }
 
@@ -55,6 +58,7 @@ pub fn none_agree() {
         [10, 22, 35, 45, 85],
         [10, 22, 36, 46, 86],
         [10, 22, 36, 46, 87],
+        [10, 22, 36, 46, 90],
     ];
     for (layout, due) in LAYOUTS.iter().zip(older) {
         let (mut words, _) = fresh(2, 2, 1, 1);

@@ -32,16 +32,22 @@ pub fn put_marks(words: &mut [u32], s: Sizes) {
 
 pub fn sizes() {
     let (words, _) = fresh(2, 2, 1, 1);
-    assert_eq!(words[..10], [2, 2, 1, 1, 0, 10, 22, 36, 46, 90]);
-    assert_eq!(Sizes::of(32, 16, 8, 8).unwrap().total(), 288_099);
+    assert_eq!(words[..10], [2, 2, 1, 1, 0, 10, 22, 36, 46, 104]);
+    assert_eq!(Sizes::of(32, 16, 8, 8).unwrap().total(), 419_699);
     let total = |k, w, n, p| Sizes::of(k, w, n, p).unwrap().total();
-    assert_eq!(total(2, 2, 2, 1), 105);
-    assert_eq!(total(2, 1, 1, 1), 70);
+    assert_eq!(total(2, 2, 2, 1), 119);
+    assert_eq!(total(2, 1, 1, 1), 80);
+    let offsets = |k, w, n, p| Sizes::of(k, w, n, p).unwrap().offsets();
+    assert_eq!(offsets(2, 2, 2, 1), [10, 22, 50, 60, 119]);
+    assert_eq!(offsets(3, 2, 2, 2), [10, 34, 86, 100, 261]);
+    assert_eq!(offsets(1, 1, 1, 1), [10, 13, 18, 20, 59]);
+    assert_eq!(offsets(32, 16, 8, 8), [10, 16_458, 148_058, 156_266, 419_699]);
     // No desk takes all that the program lends: the largest that fits, and the next larger one.
-    assert_eq!(total(22, 4, 1, 6), 16_382);
-    assert_eq!(total(19, 7, 4, 1), 16_386);
-    works(&["new 22 4 1 6 -> ok 16382", "new 19 7 4 1 -> refused 1"]);
-    assert!(total(32, 1, 8, 5) <= 16_384 && total(32, 1, 8, 6) > 16_384);
+    assert_eq!(total(11, 6, 4, 8), 16_379);
+    assert_eq!(total(19, 7, 3, 1), 16_385);
+    assert_eq!(total(32, 1, 8, 2), 14_273);
+    works(&["new 11 6 4 8 -> ok 16379", "new 19 7 3 1 -> refused 1"]);
+    works(&["new 32 1 8 2 -> ok 14273", "new 32 1 8 3 -> refused 1"]);
 }
 
 /// Marked 1 to 5.
@@ -91,16 +97,16 @@ fn step_case(need: u32, read: bool) -> (Vec<u32>, Sizes) {
 /// Marked 7: goes through. Marked 8: broken with mask 1. Marked 9: carried, no break.
 pub fn steps_seven_to_nine() {
     let (mut words, s) = step_case(1, true);
-    assert_eq!(step(&mut words, 0, 1), Answer::Ok(vec![0, 2, 0]));
+    assert_eq!(step(&mut words, 0, 1, 0), Answer::Ok(vec![0, 2, 0]));
     assert_eq!(s.words(&words, s.card_at(0, 0)), [1, 1, 1, 0, 0, 0]);
     assert_eq!(s.words(&words, s.card_at(0, 1)), [3, 1, 1, 0, 3, 0]);
     let (mut words, s) = step_case(2, true);
     let mut after = words.clone();
     after[s.run_at(0) + STATE] = BROKEN;
-    assert_eq!(step(&mut words, 0, 1), Answer::Broken(1));
+    assert_eq!(step(&mut words, 0, 1, 0), Answer::Broken(1));
     assert_eq!(words, after);
     let (mut words, s) = step_case(2, false);
-    assert_eq!(step(&mut words, 0, 1), Answer::Ok(vec![0, 2, 0]));
+    assert_eq!(step(&mut words, 0, 1, 0), Answer::Ok(vec![0, 2, 0]));
     assert_eq!(s.words(&words, s.card_at(0, 0)), [2, 1, 2, 0, 0, 0]);
 }
 
@@ -108,19 +114,19 @@ pub fn steps_seven_to_nine() {
 pub fn step_merges() {
     let (mut words, s) = step_case(2, false);
     put(&mut words, s.card_at(0, 0), &[9, 2, 1, 5, 0, 4]);
-    assert_eq!(step(&mut words, 0, 1), Answer::Ok(vec![0, 2, 0]));
+    assert_eq!(step(&mut words, 0, 1, 0), Answer::Ok(vec![0, 2, 0]));
     assert_eq!(s.words(&words, s.card_at(0, 0)), [9, 3, 2, 5, 0, 4]);
     // A rival on the shelf doesn't meet the need, and is taken all the same.
     let (mut words, s) = step_case(2, false);
     put(&mut words, s.shelf_at(0, 0), &[2, 2, 0, 7, 0, 0]);
     put_marks(&mut words, s);
-    assert_eq!(step(&mut words, 0, 1), Answer::Ok(vec![0, 2, 0]));
+    assert_eq!(step(&mut words, 0, 1, 0), Answer::Ok(vec![0, 2, 0]));
     assert_eq!(s.words(&words, s.card_at(0, 0)), [2, 3, 1, 7, 0, 0]);
     // A shelf that doesn't hold the needed sheet adds nothing.
     let (mut words, s) = step_case(2, true);
     put(&mut words, s.shelf_at(0, 0), &[0; 6]);
     put_marks(&mut words, s);
-    assert_eq!(step(&mut words, 0, 1), Answer::Ok(vec![0, 2, 0]));
+    assert_eq!(step(&mut words, 0, 1, 0), Answer::Ok(vec![0, 2, 0]));
     assert_eq!(s.words(&words, s.card_at(0, 0)), [1, 1, 1, 0, 0, 0]);
 }
 
@@ -146,18 +152,18 @@ pub fn unheld_ten() {
 
 /// New's range, and the jobs of open and step.
 pub fn new_and_open() {
-    let mut words = vec![7; 300_000];
+    let mut words = vec![7; 420_000];
     for bad in [[0, 1, 1, 1], [33, 1, 1, 1], [1, 17, 1, 1], [1, 1, 9, 1], [1, 1, 1, 9]] {
         let [k, w, n, p] = bad;
         assert_eq!(new(&mut words, k, w, n, p), Answer::Refused(2));
         assert_eq!(new(&mut [], k, w, n, p), Answer::Refused(2)); // 2 before 1
     }
     assert!(words.iter().all(|word| *word == 7));
-    assert_eq!(new(&mut words, 1, 1, 1, 1), Answer::Ok(vec![54]));
-    assert_eq!(new(&mut words, 32, 16, 8, 8), Answer::Ok(vec![288_099]));
-    assert!(words[288_099..].iter().all(|word| *word == 7));
-    assert_eq!(new(&mut words[..288_098], 32, 16, 8, 8), Answer::Refused(1));
-    assert_eq!(step(&mut words, 0, 0), Answer::Refused(4));
+    assert_eq!(new(&mut words, 1, 1, 1, 1), Answer::Ok(vec![59]));
+    assert_eq!(new(&mut words, 32, 16, 8, 8), Answer::Ok(vec![419_699]));
+    assert!(words[419_699..].iter().all(|word| *word == 7));
+    assert_eq!(new(&mut words[..419_698], 32, 16, 8, 8), Answer::Refused(1));
+    assert_eq!(step(&mut words, 0, 0, 0), Answer::Refused(4));
     assert_eq!(open(&mut words, 0, &[0; 27]), Answer::Refused(5));
     assert_eq!(open(&mut words, 0, &[0; 24]), Answer::Ok(vec![8]));
     assert_eq!(issue(&mut words, 0, 0, u32::MAX), Answer::Refused(6)); // K = 32: all bits

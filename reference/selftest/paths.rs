@@ -89,33 +89,39 @@ pub fn on_desks(seed: u64, desks: u32) -> Met {
     let mut met = Met::default();
     for _ in 0..desks {
         let (words, s) = any_desk(&mut draw);
+        let lines = 1 + words[s.mark_at(0)];
         for job in 1..words[s.run_at(0) + JOBS] {
-            let answer = explain(&words, 0, job);
-            match (&answer, step(&mut words.clone(), 0, job)) {
-                (Answer::Refused(number), due) => assert_eq!(due, Answer::Refused(*number)),
-                (Answer::Path(path), Answer::Broken(broken)) => {
-                    assert!(has(broken, path[path.len() - 1] as usize));
-                    met.enter(Some(path), &paths_of(&words, s, job as usize));
-                }
-                (Answer::Clear, Answer::Ok(_)) => {
-                    met.enter(None, &paths_of(&words, s, job as usize));
-                }
-                (given, due) => panic!("explain {given:?}, step {due:?}"),
-            }
+            (0..lines).for_each(|line| explain_one(&words, s, [job, line], &mut met));
         }
     }
     met
 }
 
+/// One job on a line: its explain, and the step on a copy.
+fn explain_one(words: &[u32], s: Sizes, [job, line]: [u32; 2], met: &mut Met) {
+    let answer = explain(words, 0, job, line);
+    match (&answer, step(&mut words.to_vec(), 0, job, line)) {
+        (Answer::Refused(number), due) => assert_eq!(due, Answer::Refused(*number)),
+        (Answer::Path(path), Answer::Broken(broken)) => {
+            assert!(has(broken, path[path.len() - 1] as usize));
+            met.enter(Some(path), &paths_of(words, s, job as usize, line as usize));
+        }
+        (Answer::Clear, Answer::Ok(_)) => {
+            met.enter(None, &paths_of(words, s, job as usize, line as usize));
+        }
+        (given, due) => panic!("explain {given:?}, step {due:?}"),
+    }
+}
+
 /// All paths of a job by the request's words. The shelf as the step's fetch would leave it is
 /// had by one fetch after the other.
-fn paths_of(words: &[u32], s: Sizes, job: usize) -> Vec<Vec<u32>> {
+fn paths_of(words: &[u32], s: Sizes, job: usize, line: usize) -> Vec<Vec<u32>> {
     let run = s.run_at(0);
     let jobs = words[run + JOB_LIST..].chunks(3).take(words[run + JOBS] as usize);
     let plan = jobs.fold(0, |plan, job| plan | job[1]);
     let (office, reads) = (words[run + JOB_LIST + 3 * job], words[run + JOB_LIST + 3 * job + 1]);
     let shelf = |k| s.shelf_at(office as usize, k);
-    let card = |k| s.words(words, s.card_at(0, k));
+    let card = |k| s.words(words, s.line_card_at(0, line, k));
     let lacks = (0..s.k).filter(|k| has(reads, *k) && !held(card(*k))).collect::<Vec<usize>>();
     let mut after = words.to_vec();
     for k in lacks.iter().filter(|k| !held(s.words(words, shelf(**k)))) {
@@ -131,7 +137,8 @@ fn paths_of(words: &[u32], s: Sizes, job: usize) -> Vec<Vec<u32>> {
             }
         }
     }
-    all_paths(&next, lacks.iter().fold(0, |mask, k| mask | 1 << k), words[run + READ])
+    let read = words[s.read_at(0, line)];
+    all_paths(&next, lacks.iter().fold(0, |mask, k| mask | 1 << k), read)
 }
 
 /// A desk in form with few needs, and a run of three or four jobs that has read some sheets.
@@ -156,9 +163,15 @@ fn any_desk(draw: &mut Draw) -> (Vec<u32>, Sizes) {
         words[run + JOB_LIST + 3 * job + 1] = reads;
         plan |= reads;
     }
-    for k in (0..s.k).filter(|k| has(plan, *k)) {
-        let percent = if has(read, k) { 100 } else { 20 };
-        version(draw, &mut words, s, s.card_at(0, k), k, percent);
+    words[s.mark_at(0)] = draw.below(2);
+    if words[s.mark_at(0)] == FORKED {
+        words[s.read_at(0, 1)] = read & mask(draw, s.k, 70);
+    }
+    for line in 0..1 + words[s.mark_at(0)] as usize {
+        for k in (0..s.k).filter(|k| has(plan, *k)) {
+            let percent = if has(words[s.read_at(0, line)], k) { 100 } else { 20 };
+            version(draw, &mut words, s, s.line_card_at(0, line, k), k, percent);
+        }
     }
     crate::marked::put_marks(&mut words, s);
     assert!(in_form(&words).is_some());

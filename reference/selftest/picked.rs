@@ -92,10 +92,10 @@ pub fn behind_all_upstreams() {
     ]);
 }
 
-/// "P - 1 on a new desk and below P in form." On the desk 2 2 1 1 it is word 86.
+/// "P - 1 on a new desk and below P in form." On the desk 2 2 1 1 it is word 100.
 pub fn asked_by_form() {
     let (words, s) = fresh(2, 2, 1, 1);
-    assert_eq!((s.round_at(), words[86]), (86, 0));
+    assert_eq!((s.round_at(), words[100]), (100, 0));
     let (mut words, s) = fresh(1, 1, 1, 3);
     assert_eq!(words[s.round_at()], 2);
     for last in [0, 1, 2] {

@@ -63,7 +63,7 @@ fn one(words: &mut [u32], call: &Call) -> bool {
     if let Answer::Refused(number) = answer {
         assert_eq!(words, before);
         let form = in_form(words).is_some();
-        assert!((1..=13).contains(&number));
+        assert!((1..=14).contains(&number));
         assert!(number != 11 || matches!(call, Call::Admit));
         assert!(matches!(call, Call::New(_)) || (number == 1) != form);
         return false;
@@ -87,7 +87,8 @@ fn start(draw: &mut Draw) -> Vec<u32> {
 
 fn any_call(draw: &mut Draw) -> Call {
     let [a, b, c] = [draw.number(), draw.number(), draw.number()];
-    match draw.below(55) {
+    let line = if draw.below(4) > 0 { draw.below(2) } else { c };
+    match draw.below(65) {
         0 => Call::New([a, b, c, draw.number()]),
         1..=6 => {
             let length = if draw.below(8) == 0 { draw.below(30) } else { 3 + 3 * draw.below(3) };
@@ -100,16 +101,18 @@ fn any_call(draw: &mut Draw) -> Call {
         7..=12 => Call::Fetch(a, b),
         13..=15 => Call::Evict(a, b),
         16..=18 => Call::Prepare(a),
-        19..=28 => Call::Step(a, b),
+        19..=28 => Call::Step(a, b, line),
         29..=35 => Call::Issue(a, b, c),
         36 => Call::Drop(a),
-        37..=39 => Call::Explain(a, b),
+        37..=39 => Call::Explain(a, b, line),
         40 | 41 => Call::Stale(a),
         42 | 43 => Call::Admit,
         44 | 45 => Call::Allow(a, b),
         46 | 47 => Call::Pick,
         48 | 49 => Call::MayHold(a, b | draw.below(4)),
         50 | 51 => Call::MaySave(a, b | draw.below(4)),
+        52..=56 => Call::Fork(a),
+        57..=60 => Call::Join(a),
         _ => Call::Look(a, b, c),
     }
 }

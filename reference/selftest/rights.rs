@@ -126,7 +126,7 @@ pub fn to_save() {
 /// K = 32: a mask of all bits.
 pub fn of_all_sheets() {
     works(&[
-        "new 32 1 1 1 -> ok 3340",
+        "new 32 1 1 1 -> ok 4430",
         "mayhold 0 2147483647 -> ok 0",
         "save 0 0 2147483648",
         "fetch 0 31 -> refused 13",
@@ -174,12 +174,12 @@ pub fn after_the_turn() {
 }
 
 /// "All sheets on a new desk; the words follow the round's, offices first": on the desk 2 2 1 1
-/// words 87, 88 and 89. A bit at K, or a held sheet that is barred, isn't in form.
+/// words 101, 102 and 103. A bit at K, or a held sheet that is barred, isn't in form.
 pub fn asked_by_form() {
     let (mut words, s) = fresh(2, 2, 1, 1);
-    assert_eq!((s.mayhold_at(0), s.maysave_at(0), s.maysave_at(1)), (87, 88, 89));
-    assert_eq!(words[86..], [0, 3, 3, 3]);
-    for at in 87..90 {
+    assert_eq!((s.mayhold_at(0), s.maysave_at(0), s.maysave_at(1)), (101, 102, 103));
+    assert_eq!(words[100..], [0, 3, 3, 3]);
+    for at in 101..104 {
         for mask in [0, 1, 2, 3, 4, 7, 1 << 31, u32::MAX] {
             words[at] = mask;
             assert_eq!(in_form(&words).is_some(), mask <= 3, "word {at} set to {mask}");

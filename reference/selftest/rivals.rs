@@ -127,7 +127,7 @@ fn save(draw: &mut Draw, told: &mut Told, met: &mut Met) {
     let held = (0..s.k).filter(|k| told.leaders(*k) != 0).fold(0, |all, k| all | 1 << k);
     let reads = draw.below(1 << s.k) & held;
     told.open(&[draw.below(s.n as u64)], reads);
-    told.call(Call::Step(0, 0));
+    told.call(Call::Step(0, 0, 0));
     let before = (0..s.k).map(|k| told.leaders(k)).collect::<Vec<u32>>();
     told.call(Call::Issue(0, writer, mask));
     for k in (0..s.k).filter(|k| has(mask, *k)) {

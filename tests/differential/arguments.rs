@@ -31,7 +31,7 @@ pub fn any_call(random: &mut Random, words: &[u32]) -> Call {
     let run = random.near(s.p);
     let office = random.near(s.n);
     let sheet = random.near(s.k);
-    match random.below(39) {
+    match random.below(45) {
         0 | 38 => Call::New(new_counts(random, words.len())),
         1 | 2 | 28 => Call::Open(run, jobs(random, s)),
         3..=5 => Call::Fetch(office, sheet),
@@ -39,7 +39,7 @@ pub fn any_call(random: &mut Random, words: &[u32]) -> Call {
         9 | 10 => Call::Prepare(run),
         11..=13 => {
             let jobs = random.one_of(&[2, 3, 8]);
-            Call::Step(run, random.near(jobs))
+            Call::Step(run, random.near(jobs), line(random))
         }
         14 | 15 => {
             let mask = random.mask(s.k, 30);
@@ -49,7 +49,7 @@ pub fn any_call(random: &mut Random, words: &[u32]) -> Call {
         16 => Call::Drop(run),
         17..=19 => {
             let jobs = random.one_of(&[2, 3, 8]);
-            Call::Explain(run, random.near(jobs))
+            Call::Explain(run, random.near(jobs), line(random))
         }
         20 | 21 => Call::Stale(office),
         22 | 23 => Call::Admit,
@@ -57,6 +57,8 @@ pub fn any_call(random: &mut Random, words: &[u32]) -> Call {
         26 | 27 => Call::Pick,
         34 | 35 => Call::MayHold(office, right(random, s)),
         36 | 37 => Call::MaySave(random.near(s.w), right(random, s)),
+        39 | 40 => Call::Fork(run),
+        41..=44 => Call::Join(run),
         _ => {
             let place = random.near(3);
             let number = match place {
@@ -67,6 +69,14 @@ pub fn any_call(random: &mut Random, words: &[u32]) -> Call {
             };
             Call::Look(place, number, sheet)
         }
+    }
+}
+
+/// A line of a run: mostly one that there may be.
+fn line(random: &mut Random) -> u32 {
+    match random.below(10) {
+        0 => random.near(2),
+        number => number as u32 % 2,
     }
 }
 

@@ -1,19 +1,20 @@
 //! Desks that no list of calls leads to: built in form, or random words.
 
 use crate::damaged::{
-    spoiled_allowance, spoiled_mark, spoiled_mask, spoiled_right, spoiled_round, version_place,
+    spoiled_allowance, spoiled_line, spoiled_mark, spoiled_mask, spoiled_right, spoiled_round,
+    version_place,
 };
 use crate::desk::allowance::held_count;
 use crate::desk::layout::{has, HEADER, LAST_ISSUE, OFFSETS};
 use crate::desk::layout::{COUNT, LEADERS, NUMBER, PAST, WRITER_PAST};
 use crate::desk::layout::{DONE, JOBS, JOB_LIST, READ, STATE};
 use crate::desk::stale::stale_mask;
-use crate::desk::{Sizes, BROKEN, OPEN};
+use crate::desk::{Sizes, BROKEN, FORKED, OPEN};
 use crate::random::Random;
 
 /// A desk in form: pasts, cards, leading writers and done jobs of any kind, needs that nobody
-/// meets too. Now and then leading writers, a shelf's mark, its allowance, the last picked run or a
-/// right aren't as form asks.
+/// meets too. Now and then leading writers, a shelf's mark, its allowance, the last picked run, a
+/// right or a run's line aren't as form asks.
 pub fn desk(random: &mut Random, [k, w, n, p]: [u32; 4], spare: usize) -> Option<Vec<u32>> {
     let s = Sizes::of(k, w, n, p)?;
     let mut words = vec![0; s.total()];
@@ -69,8 +70,8 @@ fn put_rights(random: &mut Random, s: Sizes, words: &mut [u32]) {
     }
 }
 
-/// Seldom: leading writers, a last picked run or a right that there can't be, or a mark or an
-/// allowance that isn't the shelf's.
+/// Seldom: leading writers, a last picked run, a right or a line that there can't be, or a mark or
+/// an allowance that isn't the shelf's.
 fn spoil(random: &mut Random, s: Sizes, words: &mut [u32]) {
     match random.below(40) {
         0 | 1 => {
@@ -89,6 +90,10 @@ fn spoil(random: &mut Random, s: Sizes, words: &mut [u32]) {
         5 => {
             let (at, right) = spoiled_right(random, words, s);
             words[at] = right;
+        }
+        6 | 7 => {
+            let (at, word) = spoiled_line(random, words, s);
+            words[at] = word;
         }
         _ => {}
     }
@@ -171,10 +176,33 @@ fn fill_run(random: &mut Random, s: Sizes, words: &mut [u32], run: usize) {
         read |= if has(done, job) { reads } else { 0 };
     }
     words[at + READ] = read;
-    for k in 0..s.k {
-        let percent = if has(read, k) { 100 } else { 40 };
-        if has(plan, k) {
-            version(random, s, words, s.card_at(run, k), k, percent);
+    fill_lines(random, s, words, run, plan);
+}
+
+/// The run's mark and cards. Some runs are forked: then each line has some of the reads, both
+/// together all, and a sheet is often the same on both.
+fn fill_lines(random: &mut Random, s: Sizes, words: &mut [u32], run: usize, plan: u32) {
+    let mark = random.one_of(&[0, 1, 1, 2]) as u32;
+    words[s.mark_at(run)] = mark;
+    if mark == FORKED {
+        let read = words[s.read_at(run, 0)];
+        let [one, other] = [0, 1].map(|_| read & random.mask(s.k, 70));
+        words[s.read_at(run, 0)] = one | read & !other;
+        words[s.read_at(run, 1)] = other;
+    }
+    let lines = if mark == FORKED { 2 } else { 1 };
+    let same = random.one_of(&[0, 60, 100]);
+    for (line, k) in (0..lines).flat_map(|line| (0..s.k).map(move |k| (line, k))) {
+        let percent = if has(words[s.read_at(run, line)], k) { 100 } else { 40 };
+        let to = s.line_card_at(run, line, k);
+        let from = s.card_at(run, k);
+        if line == 1 && words[from + NUMBER] != 0 && random.chance(same) {
+            words.copy_within(from..from + s.version(), to);
+            if random.chance(10) {
+                words[to + LEADERS] = leaders(random, s);
+            }
+        } else if has(plan, k) {
+            version(random, s, words, to, k, percent);
         }
     }
 }

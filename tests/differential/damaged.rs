@@ -9,14 +9,15 @@ use crate::pair::Pair;
 use crate::random::Random;
 
 /// Changes one to ten words, or a whole version, a version's mask, a shelf's mark or allowance, the
-/// last picked run, a right, or the first words of a run. In half of the cases of words only counts, issue numbers and jobs; and in most
-/// cases the shelves' marks follow, so that the desk often stays in form.
+/// last picked run, a right, a run's mark or read mask, or its first words. In half of the cases of
+/// words only counts, issue numbers and jobs; and in most cases the shelves' marks follow, so that
+/// the desk often stays in form.
 pub fn damage(random: &mut Random, pair: &mut Pair) {
     let [k, w, n, p] = [0, 1, 2, 3].map(|at| pair.words()[at]);
     let Some(s) = Sizes::of(k, w, n, p) else {
         return damage_words(random, pair);
     };
-    match random.below(14) {
+    match random.below(15) {
         0 | 1 => replace_version(random, pair, s),
         2 | 3 => damage_run(random, pair, s),
         4 => damage_mask(random, pair, s),
@@ -26,6 +27,10 @@ pub fn damage(random: &mut Random, pair: &mut Pair) {
         8 => {
             let (at, right) = spoiled_right(random, pair.words(), s);
             return pair.set(at, right);
+        }
+        9 => {
+            let (at, word) = spoiled_line(random, pair.words(), s);
+            pair.set(at, word);
         }
         _ => damage_words(random, pair),
     }
@@ -94,6 +99,20 @@ pub fn spoiled_right(random: &mut Random, words: &[u32], s: Sizes) -> (usize, u3
     (at, spoiled)
 }
 
+/// A run's mark or one of its read masks, and where it stands: another mark, one more than there
+/// are, a sheet more or less, or any word.
+pub fn spoiled_line(random: &mut Random, words: &[u32], s: Sizes) -> (usize, u32) {
+    let run = random.below(s.p);
+    match random.below(6) {
+        0..=2 => (s.mark_at(run), random.below(4) as u32),
+        3 => (s.mark_at(run), random.word()),
+        _ => {
+            let at = s.read_at(run, random.below(2));
+            (at, words[at] ^ 1 << random.below(s.k))
+        }
+    }
+}
+
 /// A mark that isn't this one: a sheet more or less, or any word.
 pub fn spoiled_mark(random: &mut Random, s: Sizes, mark: u32) -> u32 {
     match random.below(4) {
@@ -117,12 +136,13 @@ fn replace_version(random: &mut Random, pair: &mut Pair, s: Sizes) {
     }
 }
 
-/// Where the version of sheet k begins on the master, a shelf or, mostly, a card.
+/// Where the version of sheet k begins on the master, a shelf or, mostly, a card of a line.
 fn place_of(random: &mut Random, s: Sizes, k: usize) -> usize {
     match random.below(4) {
         0 => s.master_at(k),
         1 => s.shelf_at(random.below(s.n), k),
-        _ => s.card_at(random.below(s.p), k),
+        2 => s.card_at(random.below(s.p), k),
+        _ => s.line_card_at(random.below(s.p), random.below(2), k),
     }
 }
 

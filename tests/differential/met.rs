@@ -22,12 +22,14 @@ pub enum Source {
 const SOURCES: [&str; 8] =
     ["story", "reached", "damaged", "short", "bent", "admitted", "built", "noise"];
 /// The calls that are answered `ok`: explain never is.
-const CALLS: [&str; 15] = [
+const CALLS: [&str; 17] = [
     "new", "open", "fetch", "evict", "prepare", "step", "issue", "drop", "look", "stale", "admit",
-    "allow", "pick", "mayhold", "maysave",
+    "allow", "pick", "mayhold", "maysave", "fork", "join",
 ];
 /// The calls that a missing right turns down.
 const BARRED: [&str; 5] = ["fetch", "prepare", "step", "explain", "issue"];
+/// The calls that a line or a mark turns down.
+const MARKED: [&str; 6] = ["prepare", "step", "explain", "issue", "fork", "join"];
 
 #[derive(Default)]
 pub struct Met {
@@ -49,10 +51,15 @@ pub struct Met {
     /// Calls answered ok, by source.
     by_source: [u64; 8],
     /// Answered ok, by call.
-    ok: [u64; 15],
-    refused: [u64; 14],
+    ok: [u64; 17],
+    refused: [u64; 15],
     /// Refused for a missing right, by call.
     barred: [u64; 5],
+    /// Refused for a line or a mark, by call.
+    marked: [u64; 6],
+    /// Steps answered ok, broken and explained by a path, on line 1.
+    on_line_1: [u64; 3],
+    joins_broken: u64,
     breaks: u64,
     clear: u64,
     nothing: u64,
@@ -68,9 +75,13 @@ pub struct Met {
 impl Met {
     pub fn enter(&mut self, source: Source, call: &Call, answer: &Option<Answer>) {
         self.calls += 1;
+        self.enter_line(call, answer);
         match answer {
             None => self.no_room += 1,
-            Some(Answer::Broken(_)) => self.breaks += 1,
+            Some(Answer::Broken(_)) => match call {
+                Call::Join(_) => self.joins_broken += 1,
+                _ => self.breaks += 1,
+            },
             Some(Answer::Clear) => self.clear += 1,
             Some(Answer::Nothing) => self.nothing += 1,
             Some(Answer::Path(sheets)) => {
@@ -81,6 +92,8 @@ impl Met {
                 self.refused[*number as usize] += 1;
                 let place = BARRED.iter().position(|name| *number == 13 && *name == call.name());
                 place.into_iter().for_each(|place| self.barred[place] += 1);
+                let place = MARKED.iter().position(|name| *number == 14 && *name == call.name());
+                place.into_iter().for_each(|place| self.marked[place] += 1);
             }
             Some(Answer::Ok(numbers)) => {
                 self.by_source[source as usize] += 1;
@@ -101,6 +114,16 @@ impl Met {
         }
     }
 
+    /// Takes in a step or explain on line 1.
+    fn enter_line(&mut self, call: &Call, answer: &Option<Answer>) {
+        match (call, answer) {
+            (Call::Step(_, _, 1), Some(Answer::Ok(_))) => self.on_line_1[0] += 1,
+            (Call::Step(_, _, 1), Some(Answer::Broken(_))) => self.on_line_1[1] += 1,
+            (Call::Explain(_, _, 1), Some(Answer::Path(_))) => self.on_line_1[2] += 1,
+            _ => {}
+        }
+    }
+
     /// Each count with the least that 1000 stories must give.
     fn table(&self) -> Vec<(String, u64, u64)> {
         let mut table = vec![
@@ -109,6 +132,10 @@ impl Met {
             ("looks at several leaders".into(), self.several_leaders, 1000),
             ("marks that aren't 0".into(), self.marks, 1000),
             ("breaks".into(), self.breaks, 1000),
+            ("broken joins".into(), self.joins_broken, 250),
+            ("steps on line 1".into(), self.on_line_1[0], 750),
+            ("breaks on line 1".into(), self.on_line_1[1], 100),
+            ("paths on line 1".into(), self.on_line_1[2], 50),
             ("explained as clear".into(), self.clear, 1000),
             ("nothing to pick".into(), self.nothing, 500),
             ("paths".into(), self.paths, 500),
@@ -122,6 +149,8 @@ impl Met {
             ("steps by a book against all choices".into(), self.by_books.tried as u64, 1000),
             ("breaks by a book".into(), self.by_books.broken as u64, 50),
             ("pairs of finished jobs by a book".into(), self.by_books.snapshots as u64, 1000),
+            ("joins by a book".into(), self.by_books.joins as u64, 50),
+            ("broken joins by a book".into(), self.by_books.joins_broken as u64, 10),
         ];
         for (name, count) in CALLS.iter().zip(self.ok) {
             table.push((format!("{name} ok"), count, 600));
@@ -132,6 +161,9 @@ impl Met {
         }
         for (name, count) in BARRED.iter().zip(self.barred) {
             table.push((format!("{name} refused 13"), count, 50));
+        }
+        for (name, count) in MARKED.iter().zip(self.marked) {
+            table.push((format!("{name} refused 14"), count, 50));
         }
         // Short buffers are all refused.
         let kinds = SOURCES.iter().zip(self.by_source).filter(|(name, _)| **name != "short");
@@ -168,7 +200,7 @@ impl Met {
                 few.push(format!("{name}: {count} of {least}"));
             }
         }
-        if self.largest < 288_099 {
+        if self.largest < 419_699 {
             few.push(format!("the largest desk: {} words", self.largest));
         }
         few

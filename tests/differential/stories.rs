@@ -97,8 +97,8 @@ fn plot(teller: &mut Teller) {
     }
 }
 
-/// Each run of a built desk prepared, and issued if it can be: merges of versions that no list of
-/// calls leads to.
+/// Each run of a built desk joined, prepared, and issued if it can be: merges of versions that no
+/// list of calls leads to.
 fn merging_calls(
     random: &mut Random,
     built: &Pair,
@@ -108,7 +108,7 @@ fn merging_calls(
     for run in 0..p {
         let mut pair = built.clone();
         let (writer, mask) = (random.below(w as usize) as u32, random.mask(k as usize, 60));
-        for call in [Call::Prepare(run), Call::Issue(run, writer, mask)] {
+        for call in [Call::Join(run), Call::Prepare(run), Call::Issue(run, writer, mask)] {
             let answer = pair.call(&call, ANSWER)?;
             met.enter(Source::Built, &call, &answer);
         }

@@ -23,6 +23,15 @@ fn answer(out: &mut [u32], call: impl FnOnce() -> Answer) -> u32 {
     words.len() as u32
 }
 
+// "Step and explaining gain a line, 0 or 1, 0 if left out."
+fn step(words: &mut [u32], run: u32, job: u32) -> Answer {
+    desk::step(words, run, job, 0)
+}
+
+fn explain(words: &mut [u32], run: u32, job: u32) -> Answer {
+    desk::explain(words, run, job, 0)
+}
+
 macro_rules! export {
     ($name:ident, $call:path $(, $argument:ident)*) => {
         #[no_mangle]
@@ -38,17 +47,21 @@ export!(sheetdesk_new, desk::new, k, w, n, p);
 export!(sheetdesk_fetch, desk::fetch, office, sheet);
 export!(sheetdesk_evict, desk::evict, office, sheet);
 export!(sheetdesk_prepare, desk::prepare, run);
-export!(sheetdesk_step, desk::step, run, job);
+export!(sheetdesk_step, step, run, job);
+export!(sheetdesk_step_on, desk::step, run, job, line);
 export!(sheetdesk_issue, desk::issue, run, writer, mask);
 export!(sheetdesk_drop, desk::drop_run, run);
 export!(sheetdesk_look, desk::look, place, number, sheet);
-export!(sheetdesk_explain, desk::explain, run, job);
+export!(sheetdesk_explain, explain, run, job);
+export!(sheetdesk_explain_on, desk::explain, run, job, line);
 export!(sheetdesk_stale, desk::stale, office);
 export!(sheetdesk_admit, desk::admit);
 export!(sheetdesk_allow, desk::allow, office, number);
 export!(sheetdesk_pick, desk::pick);
 export!(sheetdesk_mayhold, desk::mayhold, office, mask);
 export!(sheetdesk_maysave, desk::maysave, writer, mask);
+export!(sheetdesk_fork, desk::fork, run);
+export!(sheetdesk_join, desk::join, run);
 
 #[no_mangle]
 pub unsafe extern "C" fn sheetdesk_open(

@@ -29,15 +29,15 @@ pub fn of_the_longest_path(t: &mut Trials) {
         d.words[card + word] = value;
     }
     let path: Vec<u32> = [4].into_iter().chain(0..32).collect();
-    t.told("the longest path", &mut d, Call::Explain(0, 1), &path);
-    t.told("the last two of it", &mut d, Call::Explain(0, 2), &[4, 30, 31]);
+    t.told("the longest path", &mut d, Call::Explain(0, 1, 0), &path);
+    t.told("the last two of it", &mut d, Call::Explain(0, 2, 0), &[4, 30, 31]);
     let before = d.words.clone();
-    let none = d.call_with(&Call::Explain(0, 1), 39).is_empty();
+    let none = d.call_with(&Call::Explain(0, 1, 0), 39).is_empty();
     t.check("the longest path, 39 words", none && d.words == before);
-    let all = d.call_with(&Call::Explain(0, 1), 40) == path;
+    let all = d.call_with(&Call::Explain(0, 1, 0), 40) == path;
     t.check("the longest path, 40 words", all && d.words == before);
-    t.check("the longest path's step", d.call(&Call::Step(0, 1)) == [1, 2_147_483_648]);
-    t.refused("the longest path, broken", &mut d, Call::Explain(0, 1), 4);
+    t.check("the longest path's step", d.call(&Call::Step(0, 1, 0)) == [1, 2_147_483_648]);
+    t.refused("the longest path, broken", &mut d, Call::Explain(0, 1, 0), 4);
 }
 
 // A desk 2 2 1 1 whose master has sheet 0 at (1,1), in issue 3, led by writer 1, and lacks sheet

@@ -122,23 +122,23 @@ fn of_jobs(t: &mut Trials) {
     let mut d = Desk::fresh([3, 2, 2, 1]);
     chain(&mut d);
     t.ok("job, open", &mut d, Call::Open(0, vec![0, 1, 0, 1, 1, 0, 1, 2, 1]), &[3]);
-    t.ok("job, the first", &mut d, Call::Step(0, 0), &[0, 0, 1]);
+    t.ok("job, the first", &mut d, Call::Step(0, 0, 0), &[0, 0, 1]);
     t.ok("job, taken", &mut d, Call::MayHold(1, 6), &[0]);
     for job in [1, 2] {
-        t.refused("step 13", &mut d, Call::Step(0, job), 13);
-        t.refused("explain 13", &mut d, Call::Explain(0, job), 13);
+        t.refused("step 13", &mut d, Call::Step(0, job, 0), 13);
+        t.refused("explain 13", &mut d, Call::Explain(0, job, 0), 13);
     }
-    t.refused("step 6 before 13", &mut d, Call::Step(0, 0), 6);
+    t.refused("step 6 before 13", &mut d, Call::Step(0, 0, 0), 6);
     t.ok("job, the card keeps it", &mut d, Call::Look(2, 0, 0), &[1, 1, 1, 0, 0]);
     t.ok("job, given", &mut d, Call::MayHold(1, 3), &[0]);
-    t.ok("job, from the card", &mut d, Call::Step(0, 1), &[1, 0, 0]);
+    t.ok("job, from the card", &mut d, Call::Step(0, 1, 0), &[1, 0, 0]);
     let mut d = Desk::fresh([2, 1, 1, 1]);
     t.ok("job, barred", &mut d, Call::MayHold(0, 2), &[0]);
     t.ok("job, open both", &mut d, Call::Open(0, vec![0, 3, 0]), &[1]);
-    t.refused("step 13 before 7", &mut d, Call::Step(0, 0), 13);
-    t.refused("explain 13 before 7", &mut d, Call::Explain(0, 0), 13);
+    t.refused("step 13 before 7", &mut d, Call::Step(0, 0, 0), 13);
+    t.refused("explain 13 before 7", &mut d, Call::Explain(0, 0, 0), 13);
     t.ok("job, not barred", &mut d, Call::MayHold(0, 3), &[0]);
-    t.refused("step 7", &mut d, Call::Step(0, 0), 7);
+    t.refused("step 7", &mut d, Call::Step(0, 0, 0), 7);
 }
 
 // Job 0 alone is 7 or 12, job 1 at the other office is 13: it comes first. A done job is 6.
@@ -156,10 +156,10 @@ fn of_prepares(t: &mut Trials) {
     t.refused("prepare 12", &mut d, Call::Prepare(0), 12);
     t.ok("prepare, allowed", &mut d, Call::Allow(0, 3), &[0]);
     t.ok("prepare", &mut d, Call::Prepare(0), &[3]);
-    t.ok("prepare, the first", &mut d, Call::Step(0, 0), &[1, 0, 0]);
+    t.ok("prepare, the first", &mut d, Call::Step(0, 0, 0), &[1, 0, 0]);
     t.ok("prepare, taken again", &mut d, Call::MayHold(1, 0), &[0]);
     t.refused("prepare 6 before 13", &mut d, Call::Prepare(0), 6);
-    t.refused("step 13, prepared", &mut d, Call::Step(0, 1), 13);
+    t.refused("step 13, prepared", &mut d, Call::Step(0, 1, 0), 13);
 }
 
 // A writer's right is asked behind 6 and before 9 and 10, and an empty issue needs none.
@@ -170,7 +170,7 @@ fn of_issues(t: &mut Trials) {
     t.ok("issue, the other writer's right", &mut d, Call::MaySave(1, 0), &[0]);
     t.ok("issue, taken", &mut d, Call::MaySave(0, 1), &[0]);
     t.refused("issue 6 before 13", &mut d, Call::Issue(0, 0, 2), 6);
-    d.call(&Call::Step(0, 0));
+    d.call(&Call::Step(0, 0, 0));
     for (at, number) in [(LAST_ISSUE, 9), (count, 10)] {
         let before = std::mem::replace(&mut d.words[at], u32::MAX);
         t.refused("issue 13 before 9 and 10", &mut d, Call::Issue(0, 0, 2), 13);
@@ -200,7 +200,7 @@ fn of_the_largest(t: &mut Trials) {
     t.ok("largest, fetch the rest", &mut d, Call::Fetch(7, 31), &[0xFFFF_0000]);
     t.ok("largest, no save", &mut d, Call::MaySave(15, 0), &[0]);
     t.ok("largest, open", &mut d, Call::Open(0, vec![0, 0, 0]), &[1]);
-    t.ok("largest, step", &mut d, Call::Step(0, 0), &[0, 0, 0]);
+    t.ok("largest, step", &mut d, Call::Step(0, 0, 0), &[0, 0, 0]);
     t.refused("largest, issue 13", &mut d, Call::Issue(0, 15, 1 << 31), 13);
     t.ok("largest, another's issue", &mut d, Call::Issue(0, 14, 1 << 31), &[1]);
 }

@@ -24,6 +24,8 @@ pub struct Bill {
     call: String,
     answer: String,
     run: usize,
+    /// The line of the run, if it is forked.
+    branch: Option<usize>,
     items: Vec<Item>,
     /// What an issue saved, with its number.
     saved: Option<(u32, u32)>,
@@ -42,23 +44,28 @@ pub fn bill(entries: &[Entry]) -> Option<Bill> {
     let until = entries.len() - usize::from(ends && row.answer.starts_with("ok"));
     let told = if until == entries.len() { told } else { story::tell_on(&entries[..until]).1 };
     let issues = std::mem::take(&mut parts.last_mut()?.issues);
-    let items = items(&told?, run, &issues)?;
+    let told = told?;
+    let branch = branch_of(last.call.as_ref()?);
+    let branch = told.book.runs.get(run)?.is_forked.then_some(branch);
+    let items = items(&told, run, branch.unwrap_or(0), &issues);
     let saved = saved.and_then(|number| Some((number, issues.get(number)?.sheets)));
-    Some(Bill { line: last.line, call, answer, run, items, saved, issues })
+    Some(Bill { line: last.line, call, answer, run, branch, items, saved, issues })
 }
 
-fn items(told: &Told, run: usize, issues: &Issues) -> Option<Vec<Item>> {
-    let card = &told.book.runs.get(run)?.card;
-    let item = |k: usize| {
-        let brought = told.brought[run].iter().filter(|brought| brought.sheet == k);
-        Item {
-            version: issues.version(k, &card[k]),
-            read_at: told.reads[run].iter().find(|read| read.0 == k).map(|read| read.1),
-            brought: brought.cloned().collect(),
-            master: issues.version(k, &told.book.master[k]),
-        }
+/// The line of its run that a call is about: 0, unless it names the other.
+fn branch_of(call: &Call) -> usize {
+    usize::from(matches!(call, Call::Step(_, _, 1) | Call::Explain(_, _, 1)))
+}
+
+fn items(told: &Told, run: usize, branch: usize, issues: &Issues) -> Vec<Item> {
+    let (card, had) = (&told.book.runs[run].branches[branch].card, &told.had[run][branch]);
+    let item = |k: usize| Item {
+        version: issues.version(k, &card[k]),
+        read_at: had.read_at(k),
+        brought: had.brought(k),
+        master: issues.version(k, &told.book.master[k]),
     };
-    Some(sheets(held(card)).map(item).collect())
+    sheets(held(card)).map(item).collect()
 }
 
 impl Bill {
@@ -66,7 +73,8 @@ impl Bill {
     pub fn text(&self) -> String {
         let mut text = format!("line {}: {} -> {}\n", self.line, self.call, self.answer);
         let count = counted(self.items.len(), "sheet");
-        text.push_str(&format!("the card of run {} has {count}", self.run));
+        let line = self.branch.map_or(String::new(), |branch| format!("line {branch} of "));
+        text.push_str(&format!("the card of {line}run {} has {count}", self.run));
         if let Some((number, sheets)) = self.saved {
             let saved = words::sheet_list(sheets);
             text.push_str(&format!("; {} saved as issue {number}", applied(&saved)));
@@ -108,6 +116,7 @@ impl Bill {
             ("call", Json::text(&self.call)),
             ("answer", Json::text(&self.answer)),
             ("run", Json::Number(self.run)),
+            ("line_of_run", Json::Number(self.branch.unwrap_or(0))),
             ("names", names_json()),
             ("issue", Json::Number(number as usize)),
             ("saved", Json::list(super::versions::sheets(sheets), Json::Number)),

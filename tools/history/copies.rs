@@ -2,9 +2,9 @@
 
 use super::replay::call_on;
 use super::versions::{mask, sheets};
-use crate::desk::layout::{Sizes, JOBS, JOB_LIST, PAST, READ};
+use crate::desk::layout::{Sizes, JOBS, JOB_LIST, PAST};
 use crate::desk::version::{all_zero, covers, held};
-use crate::desk::Answer;
+use crate::desk::{Answer, FORKED};
 use crate::embed::words;
 use crate::text::Call;
 
@@ -41,12 +41,19 @@ pub struct Job {
     pub reads: u32,
 }
 
+/// A run's line: the sheets that its finished jobs read, and its card.
+#[derive(Clone, Default)]
+pub struct Branch {
+    pub read: u32,
+    pub card: Vec<Saves>,
+}
+
 #[derive(Clone, Default)]
 pub struct Run {
     pub jobs: Vec<Job>,
-    /// The sheets that its finished jobs read.
-    pub read: u32,
-    pub card: Vec<Saves>,
+    /// Its lines; the second is empty unless it is forked.
+    pub branches: [Branch; 2],
+    pub is_forked: bool,
 }
 
 impl Run {
@@ -83,12 +90,13 @@ impl Book {
         let sizes = Sizes::of(k, w, n, p).expect("a new that was ok");
         let none = Saves { words: vec![0; sizes.version()], writers: sizes.w };
         let empty = vec![none; sizes.k];
+        let blank = Branch { read: 0, card: empty.clone() };
         let mut book = Book {
             k: sizes.k,
             w: sizes.w,
             master: empty.clone(),
-            shelves: vec![empty.clone(); sizes.n],
-            runs: vec![Run { card: empty, ..Run::default() }; sizes.p],
+            shelves: vec![empty; sizes.n],
+            runs: vec![Run { branches: [blank.clone(), blank], ..Run::default() }; sizes.p],
             desk: vec![0; words(k, w, n, p)],
             sizes,
         };
@@ -112,8 +120,11 @@ impl Book {
             let words = &desk[s.run_at(number)..];
             let jobs = words[JOB_LIST..].chunks(3).take(words[JOBS] as usize);
             run.jobs = jobs.map(|job| Job { office: job[0] as usize, reads: job[1] }).collect();
-            run.read = words[READ];
-            take(desk, s, &mut run.card, s.card_at(number, 0));
+            run.is_forked = desk[s.mark_at(number)] == FORKED;
+            for (line, branch) in run.branches.iter_mut().enumerate() {
+                branch.read = desk[s.read_at(number, line)];
+                take(desk, s, &mut branch.card, s.line_card_at(number, line, 0));
+            }
         }
     }
 
@@ -144,11 +155,12 @@ impl Book {
         set
     }
 
-    /// What a step of the job would find; nothing is changed.
-    pub fn find_step(&self, run: usize, job: usize) -> StepFound {
+    /// What a step of the job on a line would find; nothing is changed.
+    pub fn find_step(&self, run: usize, job: usize, line: usize) -> StepFound {
         let (run, job) = (&self.runs[run], &self.runs[run].jobs[job]);
+        let card = &run.branches[line].card;
         let lacking = |copies: &[Saves], of: u32| of & mask(self.k, |k| copies[k].is_empty());
-        let off_card = lacking(&run.card, job.reads);
+        let off_card = lacking(card, job.reads);
         let mut shelf = self.shelves[job.office].clone();
         let fetched = self.least(lacking(&shelf, off_card), |t, d| {
             let need = self.master[t].row(d);
@@ -157,18 +169,15 @@ impl Book {
         for k in sheets(fetched) {
             shelf[k] = self.master[k].clone();
         }
-        let set = self.least(off_card, |c, d| self.leads(run, &shelf, c, d));
+        let set = self.least(off_card, |c, d| leads(run.plan(), card, &shelf, c, d));
         StepFound { off_card, fetched, set, shelf }
     }
+}
 
-    /// Whether sheet c of the shelf brings the plan's sheet d onto the card.
-    pub fn leads(&self, run: &Run, shelf: &[Saves], c: usize, d: usize) -> bool {
-        let need = shelf[c].row(d);
-        run.plan() >> d & 1 == 1
-            && !all_zero(need)
-            && !run.card[d].meets(d, need)
-            && !shelf[d].is_empty()
-    }
+/// Whether sheet c of the shelf brings the plan's sheet d onto the card.
+pub fn leads(plan: u32, card: &[Saves], shelf: &[Saves], c: usize, d: usize) -> bool {
+    let need = shelf[c].row(d);
+    plan >> d & 1 == 1 && !all_zero(need) && !card[d].meets(d, need) && !shelf[d].is_empty()
 }
 
 /// Takes over the versions that begin at a place, where they are others.

@@ -65,7 +65,7 @@ const MANY: usize = 40;
 
 /// The sentences of a break and its remedy.
 fn cause(row: &Row) -> String {
-    let sentence = |chain: &super::story::Chain| {
+    let sentence = |chain: &super::breaks::Chain| {
         format!("<p class=\"sentence\">{}</p>", escaped(&applied(&chain.sentence)))
     };
     let remedy = match row.broken.as_ref().map(|broken| &broken.remedy) {

@@ -14,7 +14,7 @@ impl Json {
         Json::Text(text.to_string())
     }
 
-    pub fn object<const N: usize>(members: [(&str, Json); N]) -> Json {
+    pub fn object<'a>(members: impl IntoIterator<Item = (&'a str, Json)>) -> Json {
         Json::Object(members.into_iter().map(|(key, value)| (key.to_string(), value)).collect())
     }
 

@@ -2,7 +2,7 @@
 
 use super::copies::Saves;
 use super::story::{Arrow, Kind, Lane, Row, State};
-use super::told::{Brought, Told};
+use super::told::{Brought, Stepped, Told};
 use super::versions::{held, mask, sheets};
 use super::words::{self, sheet_list, version_list};
 use crate::text::Call;
@@ -72,16 +72,16 @@ impl Told {
             }
         }
         let (jobs, plan) = (&self.book.runs[run].jobs, self.book.runs[run].plan());
-        self.brought[run].clear();
+        self.had[run][0].brought.clear();
         for (office, shelf) in self.book.shelves.iter().enumerate() {
             let sheets = held(shelf) & plan;
             if jobs.iter().any(|job| job.office == office) && sheets != 0 {
                 row.arrows.push(Arrow::read(office, run, sheets));
                 let brought = Brought::of(sheets, office, row.line, taken_at[office]);
-                self.brought[run].extend(brought);
+                self.had[run][0].brought.extend(brought);
             }
         }
-        let card = &self.book.runs[run].card;
+        let card = &self.book.runs[run].branches[0].card;
         row.versions = self.versions(card, held(card));
         row.words = match row.versions.as_slice() {
             [] => format!("Run {run} is prepared: its jobs read nothing"),
@@ -93,17 +93,18 @@ impl Told {
         row.words.push('.');
     }
 
-    pub fn step(&mut self, row: &mut Row, call: &Call, run: usize, job: usize, from: &[u32]) {
-        let found = self.book.find_step(run, job);
-        let office = self.book.runs[run].jobs[job].office;
+    pub fn step(&mut self, row: &mut Row, call: &Call, run: usize, step: Stepped, from: &[u32]) {
+        let (office, line) = (step.office, step.line);
+        let found = self.book.find_step(run, step.job, line);
         self.book.feed(call, true);
         let reads = from.iter().fold(0, |all, sheets| all | sheets);
+        let had = &mut self.had[run][line];
         for k in sheets(reads) {
-            if !self.reads[run].iter().any(|read| read.0 == k) {
-                self.reads[run].push((k, row.line));
+            if had.read_at(k).is_none() {
+                had.reads.push((k, row.line));
             }
         }
-        self.brought[run].extend(Brought::of(found.set, office, row.line, found.fetched));
+        had.brought.extend(Brought::of(found.set, office, row.line, found.fetched));
         if found.fetched != 0 {
             row.arrows.push(Arrow::fetch(office, found.fetched));
         }
@@ -114,12 +115,14 @@ impl Told {
             let (lane, sheets) = (Lane::Run(run), from[0]);
             row.arrows.push(Arrow { kind: Kind::Card, from: lane, to: lane, sheets });
         }
-        row.versions = self.versions(&self.book.runs[run].card, reads);
+        let card = &self.book.runs[run].branches[line].card;
+        row.versions = self.versions(card, reads);
+        let job = self.job(run, step);
         row.words = match reads {
-            0 => format!("Job {job} of run {run} reads nothing."),
-            _ => format!("Job {job} of run {run} reads {}.", self.sources(run, office, from)),
+            0 => format!("{job} reads nothing."),
+            _ => format!("{job} reads {}.", self.sources(card, office, from)),
         };
-        let more = self.versions(&self.book.runs[run].card, found.set & !reads);
+        let more = self.versions(card, found.set & !reads);
         if !more.is_empty() {
             let are = if more.len() == 1 { "is" } else { "are" };
             let more = words::version_series(&more);
@@ -128,7 +131,7 @@ impl Told {
     }
 
     /// Where a job's sheets came from.
-    fn sources(&self, run: usize, office: usize, from: &[u32]) -> String {
+    fn sources(&self, card: &[Saves], office: usize, from: &[u32]) -> String {
         let places = [
             String::from("from the card"),
             format!("from the shelf of office {office}"),
@@ -136,14 +139,15 @@ impl Told {
         ];
         let mut clauses = Vec::new();
         for (sheets, place) in from.iter().zip(places).filter(|(sheets, _)| **sheets != 0) {
-            let versions = version_list(&self.versions(&self.book.runs[run].card, *sheets));
+            let versions = version_list(&self.versions(card, *sheets));
             clauses.push(format!("{versions} {place}"));
         }
         clauses.join("; ")
     }
 
     pub fn issue(&mut self, row: &mut Row, call: &Call, run: usize, writer: usize, mask: u32) {
-        let reads = self.versions(&self.book.runs[run].card, self.book.runs[run].read);
+        let read = &self.book.runs[run].branches[0];
+        let reads = self.versions(&read.card, read.read);
         self.book.feed(call, true);
         self.set_run(run, State::Free);
         if mask == 0 {
@@ -164,7 +168,10 @@ impl Told {
         let (name, copies) = match place {
             0 => (String::from("The master"), &self.book.master),
             1 => (format!("The shelf of office {number}"), &self.book.shelves[number]),
-            _ => (format!("The card of run {number}"), &self.book.runs[number].card),
+            _ => {
+                let card = format!("The card of {}", self.who(number, 0));
+                (card, &self.book.runs[number].branches[0].card)
+            }
         };
         row.versions = self.versions(copies, 1 << sheet);
         let standing = match (place, numbers.last()) {

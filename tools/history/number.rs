@@ -111,7 +111,7 @@ impl Seen {
         let (place, owner, _) = self.at;
         let brings = |call: &Call| match call {
             Call::Fetch(office, _) => place == 1 && *office == owner,
-            Call::Prepare(run) | Call::Step(run, _) => place == 1 || *run == owner,
+            Call::Prepare(run) | Call::Step(run, ..) => place == 1 || *run == owner,
             _ => false,
         };
         let brought = if place == 0 { usize::MAX } else { last(&brings) };
@@ -158,7 +158,7 @@ pub fn certain<'a>(calls: impl Iterator<Item = (usize, &'a Call)>, certain: &mut
         match call {
             Call::New(_) => certain[at] = true,
             Call::Open(run, jobs) => runs[*run as usize].opens.push((at, jobs.len() / 3)),
-            Call::Step(run, job) => runs[*run as usize].steps[*job as usize].push(at),
+            Call::Step(run, job, _) => runs[*run as usize].steps[*job as usize].push(at),
             Call::Issue(run, _, mask) if *mask != 0 => {
                 certain[at] = true;
                 let since = std::mem::take(&mut runs[*run as usize]);

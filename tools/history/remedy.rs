@@ -84,7 +84,7 @@ fn tried(book: &Book, run: usize, jobs: usize, calls: &[Call]) -> Tried {
     for _ in 0..jobs {
         let mut still = Vec::new();
         for job in left {
-            let step = Call::Step(run as u32, job);
+            let step = Call::Step(run as u32, job, 0);
             match call_on(&mut desk, &step) {
                 Answer::Ok(_) => {}
                 Answer::Broken(mask) => return Tried::Broken(mask),

@@ -3,10 +3,11 @@
 //! step that had read. It goes along the channel on top of a row, and in a gutter beside the
 //! master's lane, each leg in another place.
 
+use super::breaks::Chain;
 use super::draw::{Lanes, FIRST};
 use super::names::name;
 use super::page::escaped;
-use super::story::{Chain, Lane, Row};
+use super::story::{Lane, Row};
 
 /// The most paths of a page: of more, the last ones.
 const MOST: usize = 24;
@@ -42,12 +43,14 @@ pub fn pieces(rows: &[&Row], lanes: &Lanes) -> Vec<String> {
     drawn
 }
 
-/// The break, the path's issues that are on the page, and the step that had read.
+/// The break, the path's issues that are on the page, or that of the other line's version, and the
+/// step that had read.
 fn stops(rows: &[&Row], place: usize, chain: &Chain) -> Vec<Stop> {
     let run = Lane::Run(chain.run);
     let mut stops = vec![Stop { row: place, lane: run, sheets: Vec::new() }];
     let versions = chain.links.iter().map(|link| &link.from);
-    for version in versions.chain(chain.links.last().map(|link| &link.needs)) {
+    let versions = versions.chain(chain.links.last().map(|link| &link.needs));
+    for version in versions.chain(chain.other.as_ref().map(|other| &other.version)) {
         let issue = version.issues.first().copied();
         let Some(row) = rows.iter().position(|row| row.issue.is_some() && row.issue == issue)
         else {

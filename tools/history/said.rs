@@ -1,8 +1,9 @@
 //! What is said of a row beside its drawing: paths of breaks, and what stands behind an issue.
 
+use super::breaks::Chain;
 use super::names::applied;
 use super::page::{escaped, LISTED};
-use super::story::{Chain, Part, Row};
+use super::story::{Part, Row};
 use super::versions::{Issue, Version};
 use super::words::{counted, issue_list, listed, numbers, sentence, sheet_list, version};
 
@@ -53,6 +54,10 @@ pub fn chain(chain: &Chain) -> String {
         };
         let said = escaped(&applied(&format!("{from} needs {needs}{shelf}.")));
         text.push_str(&format!("<li>{said}</li>"));
+    }
+    if let Some(other) = &chain.other {
+        let said = escaped(&applied(&version(&other.version)));
+        text.push_str(&format!("<li>The other line has {said}.</li>"));
     }
     text.push_str(&format!(
         "<li class=\"had\">Run {} had read {}, at <a href=\"#line{2}\">line {2}</a>.</li>\

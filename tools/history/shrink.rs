@@ -78,7 +78,7 @@ fn changing(entries: &[Entry]) -> (Vec<usize>, Option<Answer>) {
 }
 
 /// Which calls of a list, all of them accepted, an issue takes: the new, the issue itself, and
-/// what opened its run and stepped it.
+/// what opened its run, stepped it, forked and joined it.
 fn taken(entries: &[Entry], list: &[usize]) -> Vec<bool> {
     let mut taken = vec![false; entries.len()];
     let mut runs = vec![Vec::new(); 8];
@@ -86,7 +86,9 @@ fn taken(entries: &[Entry], list: &[usize]) -> Vec<bool> {
         match &entries[*place].call {
             Some(Call::New(_)) => taken[*place] = true,
             Some(Call::Open(run, _)) => runs[*run as usize] = vec![*place],
-            Some(Call::Step(run, _)) => runs[*run as usize].push(*place),
+            Some(Call::Step(run, ..) | Call::Fork(run) | Call::Join(run)) => {
+                runs[*run as usize].push(*place)
+            }
             Some(Call::Issue(run, _, mask)) if *mask != 0 => {
                 runs[*run as usize].push(*place);
                 runs[*run as usize].iter().for_each(|place| taken[*place] = true);

@@ -1,9 +1,9 @@
 //! What each call did: the library's answers, and the desk's copies before and after it.
 
+use super::breaks::{Broken, Chain};
 use super::log::Entry;
 use super::replay::{printed, Replay};
-use super::remedy::Remedy;
-use super::told::{Brought, Told};
+use super::told::Told;
 use super::versions::{Issues, Version};
 use super::words;
 use crate::desk::Answer;
@@ -38,7 +38,7 @@ pub struct Row {
     pub rivals: Vec<Version>,
     /// The versions that it moved or showed.
     pub versions: Vec<Version>,
-    /// For each sheet that a break would move, explain's own path first.
+    /// For each sheet that a break would move, explain's own path first; of a join without path.
     pub chains: Vec<Chain>,
     pub broken: Option<Broken>,
     pub shelves: Vec<Shelf>,
@@ -70,39 +70,6 @@ pub struct Arrow {
     pub from: Lane,
     pub to: Lane,
     pub sheets: u32,
-}
-
-/// A sheet of a path, as it is on the shelf, and the next one: as it needs that, and as the shelf
-/// has it.
-pub struct Link {
-    pub from: Version,
-    pub needs: Version,
-    pub shelf: Version,
-}
-
-/// The path behind a break.
-pub struct Chain {
-    pub links: Vec<Link>,
-    /// The last sheet as the run had read it.
-    pub read: Version,
-    /// The line of the step that had read it.
-    pub read_at: usize,
-    pub run: usize,
-    /// The office of the job that breaks the run.
-    pub office: usize,
-    pub sentence: String,
-    /// Where what the run had read came from.
-    pub brought: Vec<Brought>,
-    /// Of explain: the step isn't made.
-    pub would: bool,
-}
-
-/// A step that broke its run.
-pub struct Broken {
-    pub run: usize,
-    pub job: usize,
-    pub office: usize,
-    pub remedy: Remedy,
 }
 
 /// The sheets that a shelf holds, and those of them that are stale.
@@ -159,7 +126,8 @@ pub fn kept(mut parts: Vec<Part>, left: &[Entry]) -> Vec<Part> {
     issues.extend(moved.flat_map(|version| version.issues.clone()));
     for chain in last.iter().flat_map(|row| &row.chains) {
         let links = chain.links.iter().flat_map(|link| [&link.from, &link.needs]);
-        issues.extend(links.chain([&chain.read]).flat_map(|version| version.issues.clone()));
+        let others = chain.other.iter().map(|other| &other.version).chain([&chain.read]);
+        issues.extend(links.chain(others).flat_map(|version| version.issues.clone()));
         reads.push(chain.read_at);
     }
     let count = parts.len();
@@ -183,10 +151,10 @@ fn enter_issues(parts: &mut [Part], told: Option<&mut Told>) {
 
 /// The path that explain gives for the job that the entry steps or explains.
 fn path_of(replay: &mut Replay, entry: &Entry) -> Option<Vec<u32>> {
-    let Some(Call::Step(run, job) | Call::Explain(run, job)) = &entry.call else {
+    let Some(Call::Step(run, job, line) | Call::Explain(run, job, line)) = &entry.call else {
         return None;
     };
-    match replay.ask(&Call::Explain(*run, *job)) {
+    match replay.ask(&Call::Explain(*run, *job, *line)) {
         Answer::Path(sheets) => Some(sheets),
         _ => None,
     }

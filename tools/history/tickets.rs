@@ -1,10 +1,12 @@
 //! Every break of a log as text for a ticket, or as JSON; refusals counted by their numbers.
 
+use super::breaks::{Broken, Chain};
 use super::had::History;
 use super::json::Json;
 use super::names;
 use super::remedy::Remedy;
-use super::story::{Broken, Chain, Part, Row};
+use super::story::{Part, Row};
+use super::told::Brought;
 use super::versions::{Issues, Version};
 use super::words::{self, counted};
 
@@ -48,8 +50,10 @@ pub fn text(history: &History, parts: &[Part]) -> String {
     );
     for (row, broken, issues) in breaks(parts) {
         text.push_str(&format!(
-            "\nline {}: job {} of run {}, at office {}, breaks the run: {}\n",
-            row.line, broken.job, broken.run, broken.office, row.answer
+            "\nline {}: {} breaks the run: {}\n",
+            row.line,
+            breaker(broken),
+            row.answer
         ));
         for chain in &row.chains {
             text.push_str(&path(chain, issues));
@@ -62,6 +66,20 @@ pub fn text(history: &History, parts: &[Part]) -> String {
         text.push_str(&format!("{space}refused {number}: {calls}, first at line {line}: {why}\n"));
     }
     text
+}
+
+/// The call that broke the run.
+fn breaker(broken: &Broken) -> String {
+    let run = broken.run;
+    match &broken.step {
+        Some(step) if step.line == 0 => {
+            format!("job {} of run {run}, at office {},", step.job, step.office)
+        }
+        Some(step) => {
+            format!("job {} of run {run}, on line 1, at office {},", step.job, step.office)
+        }
+        None => format!("the join of run {run}"),
+    }
 }
 
 /// A version with its saves: issue, writer and line of each.
@@ -85,14 +103,22 @@ fn path(chain: &Chain, issues: &Issues) -> String {
     }
     let read = saved(&chain.read, issues);
     text.push_str(&format!("    read at line {}: {read}\n", chain.read_at));
-    for brought in &chain.brought {
-        let source = if brought.fetched { ", fetched from the master then" } else { "" };
-        text.push_str(&format!(
-            "    brought at line {} by the shelf of office {}{source}\n",
-            brought.line, brought.office
-        ));
+    text.push_str(&sources(&chain.brought));
+    if let Some(other) = &chain.other {
+        text.push_str(&format!("    on the other line: {}\n", saved(&other.version, issues)));
+        text.push_str(&sources(&other.brought));
     }
     text
+}
+
+/// Where a sheet came from, a line each.
+fn sources(brought: &[Brought]) -> String {
+    let line = |brought: &Brought| {
+        let source = if brought.fetched { ", fetched from the master then" } else { "" };
+        let (line, office) = (brought.line, brought.office);
+        format!("    brought at line {line} by the shelf of office {office}{source}\n")
+    };
+    brought.iter().map(line).collect()
 }
 
 /// What mends the run, in words or as calls.
@@ -149,40 +175,49 @@ pub fn names_json() -> Json {
 }
 
 fn break_json((row, broken, issues): Break) -> Json {
-    let mut members = vec![
-        ("line", Json::Number(row.line)),
-        ("run", Json::Number(broken.run)),
-        ("job", Json::Number(broken.job)),
-        ("office", Json::Number(broken.office)),
+    let mut members = vec![("line", Json::Number(row.line)), ("run", Json::Number(broken.run))];
+    if let Some(step) = &broken.step {
+        members.extend([
+            ("job", Json::Number(step.job)),
+            ("office", Json::Number(step.office)),
+            ("line_of_run", Json::Number(step.line)),
+        ]);
+    }
+    members.extend([
         ("answer", Json::text(&row.answer)),
         ("sheets", Json::list(&row.chains, |chain| chain_json(chain, issues))),
-    ];
+    ]);
     match &broken.remedy {
         Remedy::Calls(calls) => {
             members.push(("remedy", Json::list(calls, |call| Json::text(call))))
         }
         other => members.push(("no_remedy", Json::Text(without(other)))),
     }
-    Json::Object(members.into_iter().map(|(key, value)| (key.to_string(), value)).collect())
+    Json::object(members)
 }
 
 fn chain_json(chain: &Chain, issues: &Issues) -> Json {
-    let link = |link: &super::story::Link| {
+    let link = |link: &super::breaks::Link| {
         Json::object([
             ("sheet", version_json(&link.from, issues)),
             ("needs", version_json(&link.needs, issues)),
         ])
     };
-    Json::object([
+    let mut members = vec![
         ("sentence", Json::Text(names::applied(&chain.sentence))),
         ("path", Json::list(&chain.links, link)),
         ("read", version_json(&chain.read, issues)),
         ("read_at_line", Json::Number(chain.read_at)),
         ("brought", Json::list(&chain.brought, brought_json)),
-    ])
+    ];
+    if let Some(other) = &chain.other {
+        members.push(("other", version_json(&other.version, issues)));
+        members.push(("other_brought", Json::list(&other.brought, brought_json)));
+    }
+    Json::object(members)
 }
 
-pub fn brought_json(brought: &super::told::Brought) -> Json {
+pub fn brought_json(brought: &Brought) -> Json {
     let source = if brought.fetched { "master" } else { "shelf" };
     Json::object([
         ("office", Json::Number(brought.office)),

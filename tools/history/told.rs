@@ -1,9 +1,9 @@
 //! A desk's history so far, and what each call adds to it.
 
-use super::breaks;
+use super::breaks::{self, Broken};
 use super::copies::{Book, Saves};
 use super::remedy;
-use super::story::{Arrow, Broken, Kind, Lane, Row, Shelf, State};
+use super::story::{Arrow, Kind, Lane, Row, Shelf, State};
 use super::versions::{held, sheets, Issues, Version};
 use super::words;
 use crate::desk::Answer;
@@ -13,14 +13,41 @@ pub struct Told {
     pub book: Book,
     pub issues: Issues,
     pub runs: Vec<State>,
-    /// For each run the sheets that it has read, with the line of the step.
-    pub reads: Vec<Vec<(usize, usize)>>,
-    /// For each run the sheets that were put on its card.
-    pub brought: Vec<Vec<Brought>>,
+    /// For each run what its lines have.
+    pub had: Vec<[Had; 2]>,
+}
+
+/// What a line of a run has.
+#[derive(Clone, Default)]
+pub struct Had {
+    /// The sheets that it has read, with the line of the step.
+    pub reads: Vec<(usize, usize)>,
+    /// The sheets that were put on its card.
+    pub brought: Vec<Brought>,
+}
+
+impl Had {
+    /// The line of the step that had read the sheet.
+    pub fn read_at(&self, sheet: usize) -> Option<usize> {
+        self.reads.iter().find(|read| read.0 == sheet).map(|read| read.1)
+    }
+
+    pub fn brought(&self, sheet: usize) -> Vec<Brought> {
+        let brought = self.brought.iter().filter(|brought| brought.sheet == sheet);
+        brought.cloned().collect()
+    }
+}
+
+/// A job that is stepped: its office, and the line of its run.
+#[derive(Clone, Copy)]
+pub struct Stepped {
+    pub job: usize,
+    pub office: usize,
+    pub line: usize,
 }
 
 /// A sheet that was put on a card.
-#[derive(Clone)]
+#[derive(Clone, PartialEq, Eq)]
 pub struct Brought {
     pub sheet: usize,
     /// The office whose shelf had it.
@@ -38,8 +65,7 @@ impl Told {
             book: Book::new(sizes),
             issues: Issues::default(),
             runs: vec![State::Free; runs],
-            reads: vec![Vec::new(); runs],
-            brought: vec![Vec::new(); runs],
+            had: vec![Default::default(); runs],
         }
     }
 
@@ -48,22 +74,29 @@ impl Told {
     pub fn work(&mut self, row: &mut Row, call: &Call, answer: &Answer, path: Option<Vec<u32>>) {
         row.lane = self.lane_of(call);
         row.only_answers = call.only_answers();
-        if let (Call::Step(run, job) | Call::Explain(run, job), Some(path)) = (call, path) {
+        let stepped = self.stepped(call, answer);
+        if let (Some((run, step)), Some(path)) = (stepped, path) {
             let would = matches!(call, Call::Explain(..));
-            row.chains = breaks::chains(self, *run as usize, *job as usize, &path, would);
+            row.chains = breaks::chains(self, run, step, &path, would);
         }
-        match (call, answer) {
-            (_, Answer::Ok(numbers)) => self.done(row, call, numbers),
-            (Call::Step(run, job), Answer::Broken(mask)) => {
-                self.broken(row, call, *run as usize, *job as usize, *mask)
+        match (call, answer, stepped) {
+            (Call::Step(..), Answer::Ok(numbers), Some((run, step))) => {
+                self.step(row, call, run, step, numbers)
             }
-            (Call::Explain(run, job), Answer::Clear) => {
-                row.words = format!("Job {job} of run {run} would go through.");
+            (_, Answer::Ok(numbers), _) => self.done(row, call, numbers),
+            (Call::Step(..), Answer::Broken(mask), Some((run, step))) => {
+                self.broken(row, call, run, step, *mask)
             }
-            (Call::Explain(run, job), Answer::Path(_)) => {
-                row.words = format!("Job {job} of run {run} would break the run.");
+            (Call::Join(run), Answer::Broken(mask), _) => {
+                self.unjoined(row, call, *run as usize, *mask)
             }
-            (Call::Pick, Answer::Nothing) => {
+            (Call::Explain(..), Answer::Clear, Some((run, step))) => {
+                row.words = format!("{} would go through.", self.job(run, step));
+            }
+            (Call::Explain(..), Answer::Path(_), Some((run, step))) => {
+                row.words = format!("{} would break the run.", self.job(run, step));
+            }
+            (Call::Pick, Answer::Nothing, _) => {
                 row.words = String::from("No open run has a job that could be stepped.");
             }
             _ => {}
@@ -71,6 +104,36 @@ impl Told {
         let shelf = |copies: &Vec<Saves>| Shelf { held: held(copies), stale: 0 };
         row.shelves = self.book.shelves.iter().map(shelf).collect();
         row.runs = self.runs.clone();
+    }
+
+    /// The run and the job that a call steps or explains, if it isn't refused.
+    fn stepped(&self, call: &Call, answer: &Answer) -> Option<(usize, Stepped)> {
+        let (Call::Step(run, job, line) | Call::Explain(run, job, line)) = call else {
+            return None;
+        };
+        if matches!(answer, Answer::Refused(_)) {
+            return None;
+        }
+        let (run, job, line) = (*run as usize, *job as usize, *line as usize);
+        let office = self.book.runs[run].jobs[job].office;
+        Some((run, Stepped { job, office, line }))
+    }
+
+    /// A run's line in words: the run alone, unless it is forked.
+    pub fn who(&self, run: usize, line: usize) -> String {
+        match self.book.runs[run].is_forked {
+            true => format!("line {line} of run {run}"),
+            false => format!("run {run}"),
+        }
+    }
+
+    /// A job as a sentence begins with it.
+    pub fn job(&self, run: usize, step: Stepped) -> String {
+        let (job, line) = (step.job, step.line);
+        match self.book.runs[run].is_forked {
+            true => format!("Job {job} of run {run}, on line {line},"),
+            false => format!("Job {job} of run {run}"),
+        }
     }
 
     /// The lane that a call is about, if there is one.
@@ -100,9 +163,8 @@ impl Told {
                 return;
             }
             Call::Prepare(run) => return self.prepare(row, call, *run as usize),
-            Call::Step(run, job) => {
-                return self.step(row, call, *run as usize, *job as usize, numbers)
-            }
+            Call::Fork(run) => return self.fork(row, call, *run as usize),
+            Call::Join(run) => return self.join(row, call, *run as usize),
             Call::Issue(run, writer, mask) => {
                 return self.issue(row, call, *run as usize, *writer as usize, *mask)
             }
@@ -149,8 +211,7 @@ impl Told {
 
     pub fn set_run(&mut self, run: usize, state: State) {
         self.runs[run] = state;
-        self.reads[run].clear();
-        self.brought[run].clear();
+        self.had[run] = Default::default();
     }
 
     /// The versions that these copies have of the sheets.
@@ -159,20 +220,25 @@ impl Told {
         sheets(mask).map(version).collect()
     }
 
-    fn broken(&mut self, row: &mut Row, call: &Call, run: usize, job: usize, mask: u32) {
-        let office = self.book.runs[run].jobs[job].office;
-        let sheets = self.book.find_step(run, job).off_card;
+    fn broken(&mut self, row: &mut Row, call: &Call, run: usize, step: Stepped, mask: u32) {
+        let sheets = self.book.find_step(run, step.job, step.line).off_card;
         self.runs[run] = State::Broken;
         self.book.feed(call, false);
         let remedy = remedy::remedy(&self.book, run, mask);
-        row.broken = Some(Broken { run, job, office, remedy });
-        let (from, to) = (Lane::Office(office), Lane::Run(run));
+        row.broken = Some(Broken { run, step: Some(step), remedy });
+        let (from, to) = (Lane::Office(step.office), Lane::Run(run));
         row.arrows.push(Arrow { kind: Kind::Break, from, to, sheets });
         row.words = format!(
-            "Job {job} of run {run} can't read {} at office {office}: {} would change, which the \
-             run has read. Run {run} is broken.",
+            "{} can't read {} at office {}: {} would change, which {} has read. Run {run} is \
+             broken.",
+            self.job(run, step),
             words::sheet_list(sheets),
-            words::sheet_list(mask)
+            step.office,
+            words::sheet_list(mask),
+            match self.book.runs[run].is_forked {
+                true => "that line",
+                false => "the run",
+            }
         );
     }
 }

@@ -16,10 +16,11 @@ use Rattle.sizes.specs.declared.Counts.{Counts}
 use Rattle.sizes.specs.Bounds.{masterAt, siteAt, writerAt, runAt}
 use Rattle.model.specs.Algebra.{Place, everything, needsMet}
 use Rattle.model.specs.Version.{Version, versions}
-use Rattle.model.specs.Store.{Writer, Store, planned}
+use Rattle.model.specs.Store.{Writer, branchOf, Store, planned}
 use Rattle.model.specs.Calls.Admit.{masterCovers, countsWithin, admissible}
 use Rattle.model.proofs.Cuts.{needsMet-intro}
 use Rattle.model.proofs.Formed.{Formed, well-out}
+use Rattle.model.proofs.Branches.{each-out, each-in}
 use Rattle.model.proofs.Admits.{Covered, Counted, covered-out, covered-in, counted-out, counted-in, admissible-out, admissible-in}
 use Rattle.model.proofs.Sufficing.{Sufficing, ownRows, admissible-small, sufficing}
 use Rattle.layout.specs.Reading.{readWord, readPlace, readWriter, storeOf}
@@ -112,18 +113,21 @@ module _ (s : Store) where
       let caches : (o : ℕ) → o < z .sites → Taken s everything (s .site o .cache) =
       λ o l. taken-out everything (s .site o .cache)
       (all-at (z .sites) cache (and-left b (c && (d && e)) h₂) o l) in
-      let runs : (r : ℕ) → r < z .runs
-      → Taken s (planned (s .run r .jobs) (s .run r .job)) (s .run r .branch .snapshot) =
-      λ r l. taken-out (planned (s .run r .jobs) (s .run r .job)) (s .run r .branch .snapshot)
-      (all-at (z .runs) run (and-left c (d && e) h₃) r l) in
+      let runs : (r : ℕ) → r < z .runs → (n : ℕ)
+      → Taken s (planned (s .run r .jobs) (s .run r .job)) (branchOf n (s .run r) .snapshot) =
+      λ r l n.
+      let S = planned (s .run r .jobs) (s .run r .job) in
+      taken-out S (branchOf n (s .run r) .snapshot)
+      (each-out (s .run r) (λ b. placeTaken z (s .master) (s .last) S (b .snapshot))
+      (all-at (z .runs) run (and-left c (d && e) h₃) r l) n) in
       record {
         caches = λ o l. caches o l .met;
-        snapshots = λ r l. runs r l .met;
+        snapshots = λ r l n. runs r l n .met;
         covered = record {
           versions = record {
             master = master .covered;
             caches = λ o l. caches o l .covered;
-            snapshots = λ r l. runs r l .covered;
+            snapshots = λ r l n. runs r l n .covered;
           };
           writers = λ w l. past-out (s .writer w .past)
               (all-at (z .writers) past (and-left d e h₄) w l);
@@ -132,7 +136,7 @@ module _ (s : Store) where
         numbered = record {
           master = master .numbered;
           caches = λ o l. caches o l .numbered;
-          snapshots = λ r l. runs r l .numbered;
+          snapshots = λ r l n. runs r l n .numbered;
         };
       }
 
@@ -157,11 +161,13 @@ module _ (s : Store) where
       })))
       (and-intro
       (all-intro (z .runs) _ (λ r l.
-      taken-in (planned (s .run r .jobs) (s .run r .job)) (s .run r .branch .snapshot) (record {
-        covered = C .snapshots r l;
-        numbered = N .snapshots r l;
-        met = E .snapshots r l;
-      })))
+      let S = planned (s .run r .jobs) (s .run r .job) in
+      each-in (s .run r) (λ b. placeTaken z (s .master) (s .last) S (b .snapshot))
+      (λ n. taken-in S (branchOf n (s .run r) .snapshot) (record {
+        covered = C .snapshots r l n;
+        numbered = N .snapshots r l n;
+        met = E .snapshots r l n;
+      }))))
       (and-intro
       (all-intro (z .writers) _ (λ w l. past-in (s .writer w .past) (E .covered .writers w l)))
       (own-test ∙ counted-in s (ownRows s) (E .counted)))))

@@ -17,11 +17,12 @@ use Rattle.masks.specs.Mask.{testBit}
 use Rattle.clock.specs.Clock.{Clock, standing, covering, dominates, clockAt}
 use Rattle.clock.proofs.Standings.{standing-same}
 use Rattle.sizes.specs.declared.Counts.{Counts}
-use Rattle.sizes.specs.Bounds.{maxKeys, pastOffset, writerPastOffset, Ranged, pastSize, versionSize, writerSize, runSize, writerAt, runAt, keyAt, rowAt, pastRowAt}
-use Rattle.sizes.specs.Runs.{maxJobs, jobsOffset, planOffset, snapshotOffset}
+use Rattle.sizes.specs.Bounds.{maxKeys, pastOffset, writerPastOffset, Ranged, pastSize, versionSize, writerSize, writerAt, runAt, snapshotAt, keyAt, rowAt, pastRowAt}
+use Rattle.sizes.specs.Runs.{maxJobs, jobsOffset, planOffset}
 use Rattle.sizes.proofs.Offsets.{largest, ordered, writer-lies, key-lies, past-row-lies}
 use Rattle.model.specs.Algebra.{Place, everything, needsMet}
 use Rattle.model.specs.Version.{Version, versions}
+use Rattle.model.specs.Calls.Admit.{eachBranch}
 use Rattle.model.proofs.Cuts.{needsMet-at, needsMet-intro}
 use Rattle.model.proofs.Formed.{well-out}
 use Rattle.model.proofs.Sufficing.{run-jobs}
@@ -31,7 +32,7 @@ use Rattle.layout.proofs.Readings.{row-word, run-in}
 use Rattle.layout.proofs.Follow.{form-fine}
 use Rattle.version.specs.Places.{Area}
 use Rattle.version.proofs.Areas.{key-in}
-use Rattle.form.specs.Parts.{RunArea, StoreArea, FormWith, readsOf}
+use Rattle.form.specs.Parts.{StoreArea, FormWith, readsOf}
 use Rattle.form.proofs.Known.{form-counts}
 use Rattle.form.proofs.Snapshots.{test-plan}
 use Rattle.admit.specs.Parts.{PastArea, rowWithin, rowsCovered, numbersWithin, placeTaken, runTaken}
@@ -119,23 +120,20 @@ module _ (z : Counts) (l : List ℕ) where
 
 -- ---- runs
 
--- The snapshot of a run, as a place.
-pub run-snapshot : (len : ℕ) (z : Counts) (at : ℕ) → RunArea len z at
-    → Area len z (at + snapshotOffset)
-unfolding runSize
-run-snapshot len z at A =
-    record { ranged = A .ranged; low = A .low; fits = omega (arith, A .fits) }
-
 -- The mask of all that its jobs read is its plan.
-pub run-plan : (z : Counts) (l : List ℕ) (at : ℕ) (m : Place Version) (last : ℕ)
-    → readRun z l at .jobs ≤ maxJobs
-    → placeTaken z m last
-    (testBit (readsOf (readWord l (at + jobsOffset)) (readJobs l (at + planOffset)) 255))
-    (readPlace z l (at + snapshotOffset))
+pub run-plan : (z : Counts) (l : List ℕ) (r : ℕ) (m : Place Version) (last : ℕ)
+    → let at = runAt z r in
+    readRun z l at .jobs ≤ maxJobs
+    → let S = testBit
+    (readsOf (readWord l (at + jobsOffset)) (readJobs l (at + planOffset)) 255) in
+    placeTaken z m last S (readPlace z l (snapshotAt z r 0))
+    && placeTaken z m last S (readPlace z l (snapshotAt z r 1))
     ≡ runTaken z m last (readRun z l at)
-unfolding runTaken readRun
-run-plan z l at m last h =
-    ap (λ (S : Items). placeTaken z m last S (readPlace z l (at + snapshotOffset)))
+unfolding runTaken eachBranch readRun snapshotAt
+run-plan z l r m last h =
+    let at = runAt z r in
+    ap (λ (S : Items). placeTaken z m last S (readPlace z l (snapshotAt z r 0))
+    && placeTaken z m last S (readPlace z l (snapshotAt z r 1)))
     (test-plan (readWord l (at + jobsOffset)) (readJobs l (at + planOffset)) h)
 
 -- A run of a buffer in form.

@@ -13,6 +13,7 @@ use Rattle.sizes.specs.Bounds.{versionLimit, writerPastOffset, Ranged, pastSize
 use Rattle.model.specs.Algebra.{Place, everything, needsMet}
 use Rattle.model.specs.Version.{Version, versions}
 use Rattle.model.specs.Store.{Run, planned}
+use Rattle.model.specs.Calls.Admit.{eachBranch}
 use Rattle.layout.specs.Reading.{readWord, readPast, readPlace, readRun}
 
 -- The master's own rows cover those of a past,
@@ -42,10 +43,10 @@ placeTaken z master last S p =
     rowsCovered z master p
     && (numbersWithin z last p && needsMet (versions (z .writers)) (z .keys) S p)
 
--- All that is asked of a run: its card, with the keys of its plan.
+-- All that is asked of a run: of both its cards, with the keys of its plan.
 unfoldable pub runTaken : Counts → Place Version → ℕ → Run → Bool
 runTaken z master last a =
-    placeTaken z master last (planned (a .jobs) (a .job)) (a .branch .snapshot)
+    eachBranch a (λ b. placeTaken z master last (planned (a .jobs) (a .job)) (b .snapshot))
 
 -- ---- in the words l of a buffer, with the master at an index
 

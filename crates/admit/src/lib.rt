@@ -17,21 +17,20 @@ use sizes::run::RunOffset;
 use version::row_of;
 ghost use mathlib.Core.Path.{_≡_};
 ghost use mathlib.Core.Bool.{So};
-ghost use Prim.Native.Nat.{_+_, _≤_};
+ghost use Prim.Native.Nat.{_+_, _≤_, _<_};
 ghost use lib.ListN.{length};
 ghost use Rattle.words.specs.Tests.{allBelow};
 ghost use Rattle.answers.specs.Answers.{answeredWords};
 ghost use Rattle.clock.specs.Clock.{clockAt};
-ghost use Rattle.sizes.specs.Runs.{maxJobs};
 ghost use Rattle.model.specs.Outcome.{answer};
 ghost use Rattle.model.specs.Calls.Admit.{admissible};
 ghost use Rattle.model.specs.Calls.{admit, ask};
-ghost use Rattle.layout.specs.Reading.{readPlace, readRun, storeOf};
+ghost use Rattle.layout.specs.Reading.{readPlace, storeOf};
 ghost use Rattle.layout.specs.Buffer.{inForm};
 ghost use Rattle.layout.specs.Calls.{on, callOn};
 ghost use Rattle.version.specs.Places.{Area};
-ghost use Rattle.form.specs.Parts.{RunArea, StoreArea, FormWith};
-ghost use Rattle.admit.specs.Parts.{rowWithin, ownCounts, runTaken, countsAt, cacheTest, runTest, writerTest};
+ghost use Rattle.form.specs.Parts.{StoreArea, FormWith};
+ghost use Rattle.admit.specs.Parts.{rowWithin, ownCounts, countsAt, cacheTest, runTest, writerTest};
 
 // The mask of every key.
 const EVERY_KEY: u32 = 4294967295;
@@ -92,19 +91,22 @@ fn caches_taken(words: &[u32], z: Counts, master: usize, last: IssueNumber) -> b
     true
 }
 
-// Whether the snapshot of the run at an index is taken, with the keys of its plan.
-fn run_taken(words: &[u32], z: Counts, master: usize, last: IssueNumber, at: usize) -> bool
-    requires { ⌜ Area (length (now words)) z master × RunArea (length (now words)) z at ⌝ }
-    requires { ⌜ readRun z (now words) at .jobs ≤ maxJobs ⌝ }
-    ensures { λ r. ⌜ r ≡ runTaken z (readPlace z (now (words .entry)) master) (last .0)
-        (readRun z (now (words .entry)) at) ⌝ }
+// Whether both snapshots of run r are taken, with the keys of its plan.
+fn run_taken(words: &[u32], z: Counts, master: usize, last: IssueNumber, r: usize) -> bool
+    requires { ⌜ FormWith (now words) z × Area (length (now words)) z master ⌝ }
+    requires { ⌜ r < z .runs ⌝ }
+    ensures { λ b. ⌜ b ≡ runTest z (now (words .entry)) master (last .0) r ⌝ }
 {
+    let at = z.run_at(r);
     let jobs = words[at + RunOffset::JOBS];
     let plan = reads_of(words, at + RunOffset::PLAN, jobs, Sizes::EVERY_JOB);
-    place_taken(words, z, master, last, plan, at + RunOffset::SNAPSHOT)
+    let first = z.snapshot_on(r, 0);
+    let second = z.snapshot_on(r, 1);
+    place_taken(words, z, master, last, plan, first)
+        & place_taken(words, z, master, last, plan, second)
 }
 
-// Whether every snapshot is taken.
+// Whether every snapshot of every run is taken.
 fn snapshots_taken(words: &[u32], z: Counts, master: usize, last: IssueNumber) -> bool
     requires { ⌜ FormWith (now words) z × Area (length (now words)) z master ⌝ }
     ensures { λ r. ⌜ r ≡ allBelow (z .runs)
@@ -113,8 +115,7 @@ fn snapshots_taken(words: &[u32], z: Counts, master: usize, last: IssueNumber) -
     let n = z.runs;
     let mut r = 0;
     while r < n {
-        let at = z.run_at(r);
-        if !run_taken(words, z, master, last, at) {
+        if !run_taken(words, z, master, last, r) {
             return false;
         }
         r += 1;

@@ -78,15 +78,15 @@ pub fn prepare(store: &mut [u32], ready: bool, run: u32, out: &mut [u32]) -> u32
     lay(out, r)
 }
 
-pub fn step(store: &mut [u32], ready: bool, run: u32, job: u32, out: &mut [u32]) -> u32
+pub fn step(store: &mut [u32], ready: bool, run: u32, job: u32, line: u32, out: &mut [u32]) -> u32
     requires { ⌜ ready ≡ inForm (now store) ⌝ }
-    ensures { λ n. ⌜ Exported (on (step run job))
+    ensures { λ n. ⌜ Exported (on (step run job line))
         (now (store .entry)) (now (store .exit)) (now (out .entry)) (now (out .exit)) n ⌝ }
 {
     if !can_make(ready, out) {
         return turn_down(out);
     }
-    let r = step::step(store, run, job);
+    let r = step::step(store, run, job, line);
     let n = put_stepped(out, r);
     narrow(n)
 }

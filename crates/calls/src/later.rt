@@ -4,22 +4,23 @@ use crate::laying::lay;
 use crate::laying::narrow;
 use crate::laying::turn_down;
 use explain::put::put_explained;
+use fork::put_joined;
 use pick::put_picked;
 ghost use mathlib.Core.Path.{_≡_};
-ghost use Rattle.model.specs.Calls.{explain, stale, admit, allow, pick, mayhold, maysave, ask};
+ghost use Rattle.model.specs.Calls.{explain, stale, admit, allow, pick, mayhold, maysave, fork, join, ask};
 ghost use Rattle.layout.specs.Buffer.{inForm};
 ghost use Rattle.layout.specs.Calls.{on};
 ghost use Rattle.calls.specs.Performs.{Exported};
 
-pub fn explain(store: &[u32], ready: bool, run: u32, job: u32, out: &mut [u32]) -> u32
+pub fn explain(store: &[u32], ready: bool, run: u32, job: u32, line: u32, out: &mut [u32]) -> u32
     requires { ⌜ ready ≡ inForm (now store) ⌝ }
-    ensures { λ n. ⌜ Exported (on (ask (explain run job)))
+    ensures { λ n. ⌜ Exported (on (ask (explain run job line)))
         (now (store .entry)) (now (store .entry)) (now (out .entry)) (now (out .exit)) n ⌝ }
 {
     if !can_make(ready, out) {
         return turn_down(out);
     }
-    let r = explain::explain(store, run, job);
+    let r = explain::explain(store, run, job, line);
     let n = put_explained(out, r);
     narrow(n)
 }
@@ -95,4 +96,29 @@ pub fn maysave(store: &mut [u32], ready: bool, writer: u32, mask: u32, out: &mut
     }
     let r = rights::maysave(store, writer, mask);
     lay(out, r)
+}
+
+pub fn fork(store: &mut [u32], ready: bool, run: u32, out: &mut [u32]) -> u32
+    requires { ⌜ ready ≡ inForm (now store) ⌝ }
+    ensures { λ n. ⌜ Exported (on (fork run))
+        (now (store .entry)) (now (store .exit)) (now (out .entry)) (now (out .exit)) n ⌝ }
+{
+    if !can_make(ready, out) {
+        return turn_down(out);
+    }
+    let r = fork::fork(store, run);
+    lay(out, r)
+}
+
+pub fn join(store: &mut [u32], ready: bool, run: u32, out: &mut [u32]) -> u32
+    requires { ⌜ ready ≡ inForm (now store) ⌝ }
+    ensures { λ n. ⌜ Exported (on (join run))
+        (now (store .entry)) (now (store .exit)) (now (out .entry)) (now (out .exit)) n ⌝ }
+{
+    if !can_make(ready, out) {
+        return turn_down(out);
+    }
+    let r = fork::join(store, run);
+    let n = put_joined(out, r);
+    narrow(n)
 }

@@ -17,6 +17,8 @@ use first::step;
 use later::admit;
 use later::allow;
 use later::explain;
+use later::fork;
+use later::join;
 use later::mayhold;
 use later::maysave;
 use later::pick;
@@ -51,17 +53,19 @@ fn make(store: &mut [u32], ready: bool, command: Command, numbers: &[u32], out: 
         Command::Fetch(o, k) => fetch(store, ready, o, k, out),
         Command::Evict(o, k) => evict(store, ready, o, k, out),
         Command::Prepare(r) => prepare(store, ready, r, out),
-        Command::Step(r, j) => step(store, ready, r, j, out),
+        Command::Step(r, j, n) => step(store, ready, r, j, n, out),
         Command::Issue(r, w, m) => issue(store, ready, r, w, m, out),
         Command::Drop(r) => drop(store, ready, r, out),
         Command::Look(p, i, k) => look(store, ready, p, i, k, out),
-        Command::Explain(r, j) => explain(store, ready, r, j, out),
+        Command::Explain(r, j, n) => explain(store, ready, r, j, n, out),
         Command::Stale(o) => stale(store, ready, o, out),
         Command::Admit => admit(store, ready, out),
         Command::Allow(o, n) => allow(store, ready, o, n, out),
         Command::Pick => pick(store, ready, out),
         Command::Mayhold(o, m) => mayhold(store, ready, o, m, out),
         Command::Maysave(w, m) => maysave(store, ready, w, m, out),
+        Command::Fork(r) => fork(store, ready, r, out),
+        Command::Join(r) => join(store, ready, r, out),
     }
 }
 

@@ -73,12 +73,12 @@ prepares-entitled l r a t e j k lj lk p =
 
 pub reads-entitled : ReadsEntitled
 unfolding ruleOf stepRule stepSite stepReads
-reads-entitled l r j a t e k h p =
+reads-entitled l r j n a t e k h p =
     let s = storeOf l in
-    let x = cond (anyBelow (s .counts .keys) (stepMoved s r j 0)) (stepBroken s r j 0)
-    (stepDone s r j 0) in
-    step-entitled s r j 0 k
-    (accepted s r j 0 (free (step r j) l (stepCause s r j 0) x a t refl e)) h p
+    let x = cond (anyBelow (s .counts .keys) (stepMoved s r j n)) (stepBroken s r j n)
+    (stepDone s r j n) in
+    step-entitled s r j n k
+    (accepted s r j n (free (step r j n) l (stepCause s r j n) x a t refl e)) h p
 
 pub saves-entitled : SavesEntitled
 unfolding ruleOf issueRule

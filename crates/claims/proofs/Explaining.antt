@@ -69,56 +69,56 @@ ok-answered =
 
 -- ---- the two calls
 
--- On branch 0. In form: as on its store. Otherwise 1 refuses both.
-pub call-explains : (l : List ℕ) (r j : ℕ)
-    → ExplainsOutcome (storeOf l) r j 0 (callOn (on (ask (explain r j))) l)
-    (callOn (on (step r j)) l)
+-- On a line. In form: as on its store. Otherwise 1 refuses both.
+pub call-explains : (l : List ℕ) (r j n : ℕ)
+    → ExplainsOutcome (storeOf l) r j n (callOn (on (ask (explain r j n))) l)
+    (callOn (on (step r j n)) l)
 unfolding ruleOf replyOf
-call-explains l r j =
+call-explains l r j n =
     test (inForm l)
-    (λ F. rw (form-rule (ask (explain r j)) l F, form-rule (step r j) l F)
-    (explains (storeOf l) r j 0))
-    (λ e. rw (no-form (ask (explain r j)) l e, no-form (step r j) l e)
-    (explains-refused (storeOf l) r j 0 1))
+    (λ F. rw (form-rule (ask (explain r j n)) l F, form-rule (step r j n) l F)
+    (explains (storeOf l) r j n))
+    (λ e. rw (no-form (ask (explain r j n)) l e, no-form (step r j n) l e)
+    (explains-refused (storeOf l) r j n 1))
 
 both : {X Y Z : Type 0} → X ↔ Y → Y ↔ Z → X ↔ Z
 both f g = (λ x. g .0 (f .0 x), λ z. f .1 (g .1 z))
 
-module _ (l : List ℕ) (r j : ℕ) (F : So (inForm l)) where
-  pub path-broken : Answers (callOn (on (ask (explain r j))) l) pathWord
-      ↔ So (isBroken (callOn (on (step r j)) l))
+module _ (l : List ℕ) (r j n : ℕ) (F : So (inForm l)) where
+  pub path-broken : Answers (callOn (on (ask (explain r j n))) l) pathWord
+      ↔ So (isBroken (callOn (on (step r j n)) l))
   unfolding ruleOf
   path-broken =
-      both (call-explains l r j .path)
-      (rw (form-rule (step r j) l F) (broken-answered (storeOf l) r j 0))
+      both (call-explains l r j n .path)
+      (rw (form-rule (step r j n) l F) (broken-answered (storeOf l) r j n))
 
-  pub clear-ok : (answer (callOn (on (ask (explain r j))) l) ≡ clearWord ∷ [])
-      ↔ So (isOk (callOn (on (step r j)) l))
+  pub clear-ok : (answer (callOn (on (ask (explain r j n))) l) ≡ clearWord ∷ [])
+      ↔ So (isOk (callOn (on (step r j n)) l))
   unfolding ruleOf
   clear-ok =
-      both (call-explains l r j .clear)
-      (rw (form-rule (step r j) l F) (ok-answered (storeOf l) r j 0))
+      both (call-explains l r j n .clear)
+      (rw (form-rule (step r j n) l F) (ok-answered (storeOf l) r j n))
 
 -- ---- at a point of a list
 
 module _ (t : Trace) (H : HoldsAt t) where
   -- Where the step isn't refused, a path exactly if there is no choice,
-  pub path-none : (r j : ℕ) → isRefused (callOn (on (step r j)) (t .buffer)) ≡ false
-      → Answers (callOn (on (ask (explain r j))) (t .buffer)) pathWord
-      ↔ ¬ (Choice (storeOf (t .buffer)) r j 0)
-  path-none r j n =
-      let p = path-broken (t .buffer) r j (H .formed) in
-      let b = H .breaks r j .exactly n in
+  pub path-none : (r j n : ℕ) → isRefused (callOn (on (step r j n)) (t .buffer)) ≡ false
+      → Answers (callOn (on (ask (explain r j n))) (t .buffer)) pathWord
+      ↔ ¬ (Choice (storeOf (t .buffer)) r j n)
+  path-none r j n w =
+      let p = path-broken (t .buffer) r j n (H .formed) in
+      let b = H .breaks r j n .exactly w in
       (λ a. b .0 (p .0 a), λ g. p .1 (b .1 g))
 
   -- clear exactly if the step would be ok,
-  pub clear-exactly : (r j : ℕ)
-      → (answer (callOn (on (ask (explain r j))) (t .buffer)) ≡ clearWord ∷ [])
-      ↔ So (isOk (callOn (on (step r j)) (t .buffer)))
-  clear-exactly r j = clear-ok (t .buffer) r j (H .formed)
+  pub clear-exactly : (r j n : ℕ)
+      → (answer (callOn (on (ask (explain r j n))) (t .buffer)) ≡ clearWord ∷ [])
+      ↔ So (isOk (callOn (on (step r j n)) (t .buffer)))
+  clear-exactly r j n = clear-ok (t .buffer) r j n (H .formed)
 
   -- and then a choice works.
-  pub clear-works : (r j : ℕ)
-      → answer (callOn (on (ask (explain r j))) (t .buffer)) ≡ clearWord ∷ []
-      → Choice (storeOf (t .buffer)) r j 0
-  clear-works r j e = H .breaks r j .works (clear-exactly r j .0 e)
+  pub clear-works : (r j n : ℕ)
+      → answer (callOn (on (ask (explain r j n))) (t .buffer)) ≡ clearWord ∷ []
+      → Choice (storeOf (t .buffer)) r j n
+  clear-works r j n e = H .breaks r j n .works (clear-exactly r j n .0 e)

@@ -1,7 +1,11 @@
 pub mod Explaining
 pub mod Uses
 pub mod Refusing
+pub mod Breaking
 pub mod Allowing
 pub mod Entitling
 pub mod Setting
 pub mod UsesRights
+pub mod Lines
+pub mod Joins
+pub mod UsesLines

@@ -7,7 +7,7 @@ use mathlib.Core.List.{List, [], _∷_}
 use Prim.Native.Nat.{ℕ, zero}
 use lib.Dec.{eqb, ltb}
 use Rattle.words.specs.Tests.{anyBelow}
-use Rattle.words.proofs.Bools.{test, clash}
+use Rattle.words.proofs.Bools.{test, clash, or-right}
 use Rattle.model.specs.Store.{Store}
 use Rattle.model.specs.Outcome.{Outcome, refused, broken, done, told, refuse, unless, replied, runCause}
 use Rattle.model.specs.Caches.{fetchCause, fetchDone, fetchRule, evictCause, evictDone, evictRule}
@@ -17,12 +17,13 @@ use Rattle.model.specs.Step.{jobCause, stepCause, stepMoved, stepBroken, stepDo
 use Rattle.model.specs.Issue.{raiseCause, issueCause, issueDone, issueRule}
 use Rattle.model.specs.Calls.Allow.{allowCause, allowDone, allowRule}
 use Rattle.model.specs.Calls.Rights.{rightCause, mayholdDone, mayholdRule, maysaveRule}
+use Rattle.model.specs.Calls.Fork.{forkCause, forkDone, forkRule, joinMoved, joinCause, joinDone, joinBroken, joinRule}
 use Rattle.model.specs.Calls.Pick.{pickTurn, pickedRun, pickDone, pickRule}
 use Rattle.model.specs.Calls.Look.{lookCause, lookReply}
 use Rattle.model.specs.Calls.Explain.{explainReply}
 use Rattle.model.specs.Calls.Stale.{staleCause, staleReply}
 use Rattle.model.specs.Calls.Admit.{admitCause, admitReply}
-use Rattle.model.specs.Calls.{Query, look, explain, stale, admit, StoreCall, openRun, fetch, evict, prepare, step, issue, dropRun, allow, pick, mayhold, maysave, ask, replyOf, ruleOf}
+use Rattle.model.specs.Calls.{Query, look, explain, stale, admit, StoreCall, openRun, fetch, evict, prepare, step, issue, dropRun, allow, pick, mayhold, maysave, fork, join, ask, replyOf, ruleOf}
 use Rattle.layout.specs.Reading.{storeOf}
 use Rattle.layout.specs.Buffer.{inForm}
 use Rattle.layout.specs.Calls.{Call, new, on, newCause, newOn, onStore, callOn}
@@ -88,14 +89,20 @@ unfolding stepBroken stepDone
 step-taken s r j n true = taken _ refl
 step-taken s r j n false = taken _ refl
 
-step-listed : (s : Store) (r j n : ℕ) → In (0 ∷ 3 ∷ 4 ∷ 6 ∷ 13 ∷ 7 ∷ 12 ∷ []) (stepCause s r j n)
+step-listed : (s : Store) (r j n : ℕ) →
+    In (0 ∷ 3 ∷ 4 ∷ 14 ∷ 6 ∷ 13 ∷ 7 ∷ 12 ∷ []) (stepCause s r j n)
 unfolding stepCause jobCause
 step-listed s r j n =
     row _ _ _ refl (row _ _ _ refl (row _ _ _ refl (row _ _ _ refl (row _ _ _ refl
-    (row _ _ _ refl (row _ _ _ refl none))))))
+    (row _ _ _ refl (row _ _ _ refl (row _ _ _ refl none)))))))
+
+join-taken : (s : Store) (r : ℕ) (b : Bool) → Taken (cond b (joinBroken s r) (joinDone s r))
+unfolding joinBroken joinDone
+join-taken s r true = taken _ refl
+join-taken s r false = taken _ refl
 
 abbrev issuing : List ℕ
-issuing = 0 ∷ 3 ∷ 4 ∷ 6 ∷ 13 ∷ 9 ∷ 10 ∷ []
+issuing = 0 ∷ 3 ∷ 4 ∷ 14 ∷ 6 ∷ 13 ∷ 9 ∷ 10 ∷ []
 
 raise-listed : (s : Store) (w : ℕ) → In issuing (raiseCause s w)
 unfolding raiseCause
@@ -105,7 +112,8 @@ issue-listed : (s : Store) (r w S : ℕ) → In issuing (issueCause s r w S)
 unfolding issueCause runCause
 issue-listed s r w S =
     row _ _ _ refl (row _ _ _ refl (row _ _ _ refl (row _ _ _ refl (row _ _ _ refl
-    (row _ _ _ refl (choice (eqb S 0) 0 (raiseCause s w) none (raise-listed s w)))))))
+    (row _ _ _ refl (row _ _ _ refl (choice (eqb S 0) 0 (raiseCause s w) none
+    (raise-listed s w))))))))
 
 -- Pick is refused by nothing.
 pick-taken : (s : Store) → Taken (pickRule s)
@@ -118,7 +126,7 @@ unfolding replyOf askedRefusals lookReply lookCause explainReply staleReply stal
     admitCause
 asked (look p i k) s =
     row _ _ _ refl (row _ _ _ refl (row _ _ _ refl (row _ _ _ refl none)))
-asked (explain r j) s = step-listed s r j 0
+asked (explain r j n) s = step-listed s r j n
 asked (stale o) s = row _ _ _ refl none
 asked admit s = row _ _ _ refl none
 
@@ -127,7 +135,7 @@ rule-listed : (c : StoreCall) (s : Store) (n : ℕ) → ruleOf c s ≡ refused n
 unfolding ruleOf storeRefusals openRule openCause openDone runCause fetchRule fetchCause fetchDone
     evictRule evictCause evictDone prepareRule prepareCause prepareDone stepRule issueRule
     issueDone dropRule dropCause dropDone allowRule allowCause allowDone mayholdRule mayholdDone
-    maysaveRule rightCause replied
+    maysaveRule rightCause forkRule forkCause forkDone joinRule joinCause replied
 rule-listed (openRun r l) s n e =
     by-cause _ n _ _ (taken _ refl)
     (row _ _ _ refl (row _ _ _ refl (row _ _ _ refl none))) e
@@ -140,10 +148,10 @@ rule-listed (evict o k) s n e =
 rule-listed (prepare r) s n e =
     by-cause _ n _ _ (taken _ refl)
     (row _ _ _ refl (row _ _ _ refl (row _ _ _ refl (row _ _ _ refl (row _ _ _ refl
-    (row _ _ _ refl none)))))) e
-rule-listed (step r j) s n e =
-    by-cause _ n _ _ (step-taken s r j 0 (anyBelow (s .counts .keys) (stepMoved s r j 0)))
-    (step-listed s r j 0) e
+    (row _ _ _ refl (row _ _ _ refl none))))))) e
+rule-listed (step r j i) s n e =
+    by-cause _ n _ _ (step-taken s r j i (anyBelow (s .counts .keys) (stepMoved s r j i)))
+    (step-listed s r j i) e
 rule-listed (issue r w S) s n e = by-cause _ n _ _ (taken _ refl) (issue-listed s r w S) e
 rule-listed (dropRun r) s n e =
     by-cause _ n _ _ (taken _ refl) (row _ _ _ refl (row _ _ _ refl none)) e
@@ -155,13 +163,14 @@ rule-listed (mayhold o m) s n e =
     by-cause _ n _ _ (taken _ refl) (row _ _ _ refl (row _ _ _ refl none)) e
 rule-listed (maysave w m) s n e =
     by-cause _ n _ _ (taken _ refl) (row _ _ _ refl (row _ _ _ refl none)) e
+rule-listed (fork r) s n e =
+    by-cause _ n _ _ (taken _ refl) (row _ _ _ refl (row _ _ _ refl (row _ _ _ refl none))) e
+rule-listed (join r) s n e =
+    by-cause _ n _ _ (join-taken s r (anyBelow (s .counts .keys) (joinMoved s r)))
+    (row _ _ _ refl (row _ _ _ refl (row _ _ _ refl none))) e
 rule-listed (ask q) s n e = by-cause _ n _ _ (taken _ refl) (asked q s) e
 
 -- ---- on any buffer
-
-or-right : (a b : Bool) → So b → So (a || b)
-or-right true b p = refl
-or-right false b p = p
 
 pub refused-as-listed : RefusedAsListed
 unfolding callOn newOn newCause onStore refusalsOf
@@ -170,7 +179,7 @@ refused-as-listed (new k w n p) l m e =
     (row _ _ _ refl (row _ _ _ refl none)) e .is
 refused-as-listed (on c) l m e =
     test (inForm l)
-    (λ y. or-right (eqb m 1) _ (rule-listed c (storeOf l) m
+    (λ y. or-right (eqb m 1) (rule-listed c (storeOf l) m
     (sym (ap (λ (b : Bool). cond b (ruleOf c (storeOf l)) (refused 1)) y) ∙ e) .is))
     (λ y. subst (λ (i : ℕ). So (isOneOf i (1 ∷ storeRefusals c)))
     (ap number (sym (ap (λ (b : Bool). cond b (ruleOf c (storeOf l)) (refused 1)) y) ∙ e)) refl)
@@ -182,16 +191,18 @@ eleven-alone (on (openRun r j)) l e = clash (refused-as-listed (on (openRun r j)
 eleven-alone (on (fetch o k)) l e = clash (refused-as-listed (on (fetch o k)) l 11 e) refl
 eleven-alone (on (evict o k)) l e = clash (refused-as-listed (on (evict o k)) l 11 e) refl
 eleven-alone (on (prepare r)) l e = clash (refused-as-listed (on (prepare r)) l 11 e) refl
-eleven-alone (on (step r j)) l e = clash (refused-as-listed (on (step r j)) l 11 e) refl
+eleven-alone (on (step r j n)) l e = clash (refused-as-listed (on (step r j n)) l 11 e) refl
 eleven-alone (on (issue r w S)) l e = clash (refused-as-listed (on (issue r w S)) l 11 e) refl
 eleven-alone (on (dropRun r)) l e = clash (refused-as-listed (on (dropRun r)) l 11 e) refl
 eleven-alone (on (allow o n)) l e = clash (refused-as-listed (on (allow o n)) l 11 e) refl
 eleven-alone (on pick) l e = clash (refused-as-listed (on pick) l 11 e) refl
 eleven-alone (on (mayhold o m)) l e = clash (refused-as-listed (on (mayhold o m)) l 11 e) refl
 eleven-alone (on (maysave w m)) l e = clash (refused-as-listed (on (maysave w m)) l 11 e) refl
+eleven-alone (on (fork r)) l e = clash (refused-as-listed (on (fork r)) l 11 e) refl
+eleven-alone (on (join r)) l e = clash (refused-as-listed (on (join r)) l 11 e) refl
 eleven-alone (on (ask (look p i k))) l e =
     clash (refused-as-listed (on (ask (look p i k))) l 11 e) refl
-eleven-alone (on (ask (explain r j))) l e =
-    clash (refused-as-listed (on (ask (explain r j))) l 11 e) refl
+eleven-alone (on (ask (explain r j n))) l e =
+    clash (refused-as-listed (on (ask (explain r j n))) l 11 e) refl
 eleven-alone (on (ask (stale o))) l e = clash (refused-as-listed (on (ask (stale o))) l 11 e) refl
 eleven-alone (on (ask admit)) l e = refl

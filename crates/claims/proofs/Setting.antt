@@ -17,9 +17,10 @@ use Rattle.model.specs.Prepare.{prepareCause, prepareDone, prepareRule}
 use Rattle.model.specs.Step.{stepCause, stepMoved, stepBroken, stepDone, stepRule}
 use Rattle.model.specs.Issue.{issueCause, savedStore, issuedStore, issueDone, issueRule}
 use Rattle.model.specs.Calls.Allow.{allowCause, allowDone, allowRule}
+use Rattle.model.specs.Calls.Fork.{forkCause, forkDone, forkRule, joinMoved, joinCause, joinDone, joinBroken, joinRule}
 use Rattle.model.specs.Calls.Pick.{pickTurn, pickDone, pickRule}
 use Rattle.model.specs.Calls.Rights.{rightCause, mayholdDone, mayholdRule, maysaveRule}
-use Rattle.model.specs.Calls.{StoreCall, openRun, fetch, evict, prepare, step, issue, dropRun, allow, pick, mayhold, maysave, ask, replyOf, ruleOf}
+use Rattle.model.specs.Calls.{StoreCall, openRun, fetch, evict, prepare, step, issue, dropRun, allow, pick, mayhold, maysave, fork, join, ask, replyOf, ruleOf}
 use Rattle.model.proofs.Outcomes.{nextStore, unless-cases, replied-cases}
 use Rattle.layout.specs.Reading.{storeOf}
 use Rattle.layout.specs.Buffer.{inForm}
@@ -38,7 +39,7 @@ unfolding ruleOf openRule openDone fetchRule fetchDone evictRule evictDone prepa
     stepRule stepBroken stepDone issueRule issueDone issuedStore savedStore dropRule dropDone
     allowRule allowDone pickRule pickDone mayholdRule mayholdDone maysaveRule withMaster withLast
     withSites withCache withCaches withMarks withWriter withRun withTail
-    rightOf holdAfter saveAfter isOk
+    forkRule forkDone joinRule joinBroken joinDone rightOf holdAfter saveAfter isOk
 rule-rights (openRun r l) s =
     unless-cases (Sets (openRun r l) s) (openCause s r l) (openDone s r l) (λ _. (refl, refl))
     (λ _. (refl, refl))
@@ -51,10 +52,10 @@ rule-rights (evict o k) s =
 rule-rights (prepare r) s =
     unless-cases (Sets (prepare r) s) (prepareCause s r) (prepareDone s r) (λ _. (refl, refl))
     (λ _. (refl, refl))
-rule-rights (step r j) s =
-    let b = anyBelow (s .counts .keys) (stepMoved s r j 0) in
-    unless-cases (Sets (step r j) s) (stepCause s r j 0)
-    (cond b (stepBroken s r j 0) (stepDone s r j 0))
+rule-rights (step r j n) s =
+    let b = anyBelow (s .counts .keys) (stepMoved s r j n) in
+    unless-cases (Sets (step r j n) s) (stepCause s r j n)
+    (cond b (stepBroken s r j n) (stepDone s r j n))
     (λ _. test b (λ y. rw y (refl, refl)) (λ n. rw n (refl, refl))) (λ _. (refl, refl))
 rule-rights (issue r w S) s =
     unless-cases (Sets (issue r w S) s) (issueCause s r w S) (issueDone s r w S)
@@ -73,6 +74,13 @@ rule-rights (mayhold o m) s =
 rule-rights (maysave w m) s =
     unless-cases (Sets (maysave w m) s) (rightCause s (s .counts .writers) w m) _
     (λ _. (refl, refl)) (λ _. (refl, refl))
+rule-rights (fork r) s =
+    unless-cases (Sets (fork r) s) (forkCause s r) (forkDone s r) (λ _. (refl, refl))
+    (λ _. (refl, refl))
+rule-rights (join r) s =
+    let b = anyBelow (s .counts .keys) (joinMoved s r) in
+    unless-cases (Sets (join r) s) (joinCause s r) (cond b (joinBroken s r) (joinDone s r))
+    (λ _. test b (λ y. rw y (refl, refl)) (λ n. rw n (refl, refl))) (λ _. (refl, refl))
 rule-rights (ask q) s =
     replied-cases (Sets (ask q) s) (replyOf q s) (refl, refl) (refl, refl)
 

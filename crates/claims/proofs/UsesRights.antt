@@ -76,10 +76,10 @@ module _ (l : List ℕ) (k : ℕ) (hk : k < storeOf l .counts .keys) (a : List �
       → ¬ (callOn (on (prepare r)) l ≡ done a t)
   no-prepare claim r j hj p n e = clash (claim l r a t e j k hj hk p) n
 
-  pub no-step : ReadsEntitled → (r j : ℕ) → So (testBit (s .run r .job j .reads) k)
+  pub no-step : ReadsEntitled → (r j n : ℕ) → So (testBit (s .run r .job j .reads) k)
       → testBit (s .tail .mayHold (s .run r .job j .site)) k ≡ false
-      → ¬ (callOn (on (step r j)) l ≡ done a t)
-  no-step claim r j p n e = clash (claim l r j a t e k hk p) n
+      → ¬ (callOn (on (step r j n)) l ≡ done a t)
+  no-step claim r j n p w e = clash (claim l r j n a t e k hk p) w
 
   pub no-issue : SavesEntitled → (r w S : ℕ) → So (testBit S k)
       → testBit (s .tail .maySave w) k ≡ false → ¬ (callOn (on (issue r w S)) l ≡ done a t)

@@ -1,3 +1,4 @@
 pub mod Refusals
 pub mod Allowances
 pub mod Rights
+pub mod Lines

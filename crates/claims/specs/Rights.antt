@@ -15,7 +15,7 @@ use Rattle.model.specs.Version.{held, versions}
 use Rattle.model.specs.Sets.{fetchSet}
 use Rattle.model.specs.Store.{Store}
 use Rattle.model.specs.Outcome.{done}
-use Rattle.model.specs.Calls.{StoreCall, openRun, fetch, evict, prepare, step, issue, dropRun, allow, pick, mayhold, maysave, ask}
+use Rattle.model.specs.Calls.{StoreCall, openRun, fetch, evict, prepare, step, issue, dropRun, allow, pick, mayhold, maysave, fork, join, ask}
 use Rattle.layout.specs.Reading.{storeOf}
 use Rattle.layout.specs.Buffer.{inForm}
 use Rattle.layout.specs.Calls.{on, callOn, leaves, isOk}
@@ -31,13 +31,15 @@ rightOf (openRun r l) = noRight
 rightOf (fetch o k) = noRight
 rightOf (evict o k) = noRight
 rightOf (prepare r) = noRight
-rightOf (step r j) = noRight
+rightOf (step r j n) = noRight
 rightOf (issue r w S) = noRight
 rightOf (dropRun r) = noRight
 rightOf (allow o n) = noRight
 rightOf pick = noRight
 rightOf (mayhold o m) = ofSite o m
 rightOf (maysave w m) = ofWriter w m
+rightOf (fork r) = noRight
+rightOf (join r) = noRight
 rightOf (ask q) = noRight
 
 -- What sites may hold, and writers may save, after a call that sets a right, if it is ok.
@@ -91,7 +93,7 @@ PreparesEntitled =
 -- "a job may not read it at that office, even from the card"
 abbrev pub ReadsEntitled : Type 0
 ReadsEntitled =
-    (l : List ℕ) (r j : ℕ) (a : List ℕ) (t : Store) → callOn (on (step r j)) l ≡ done a t
+    (l : List ℕ) (r j n : ℕ) (a : List ℕ) (t : Store) → callOn (on (step r j n)) l ≡ done a t
     → let s = storeOf l in let x = s .run r .job j in
     (k : ℕ) → k < s .counts .keys → So (testBit (x .reads) k)
     → So (testBit (s .tail .mayHold (x .site)) k)

@@ -5,10 +5,10 @@ use mathlib.Core.List.{List}
 use mathlib.Core.Option.{Option, none, some}
 use Prim.Native.Nat.{ℕ, _+_}
 use lib.ListN.{take, drop}
-use Rattle.model.specs.Calls.{look, explain, stale, admit, openRun, fetch, evict, prepare, step, issue, dropRun, allow, pick, mayhold, maysave, ask}
+use Rattle.model.specs.Calls.{look, explain, stale, admit, openRun, fetch, evict, prepare, step, issue, dropRun, allow, pick, mayhold, maysave, fork, join, ask}
 use Rattle.layout.specs.Calls.{Call, new, on}
 use Rattle.command.specs.declared.Command.{Command}
-use Rattle.command.specs.declared.Command.the-variants.{Unread, New, Open, Fetch, Evict, Prepare, Step, Issue, Drop, Look, Explain, Stale, Admit, Allow, Pick, Mayhold, Maysave}
+use Rattle.command.specs.declared.Command.the-variants.{Unread, New, Open, Fetch, Evict, Prepare, Step, Issue, Drop, Look, Explain, Stale, Admit, Allow, Pick, Mayhold, Maysave, Fork, Join}
 
 -- Open's job words are the n from index i on.
 abbrev pub spelled : Command → List ℕ → Option Call
@@ -18,17 +18,19 @@ spelled (Open r i n) l = some (on (openRun r (take n (drop i l))))
 spelled (Fetch o k) l = some (on (fetch o k))
 spelled (Evict o k) l = some (on (evict o k))
 spelled (Prepare r) l = some (on (prepare r))
-spelled (Step r j) l = some (on (step r j))
+spelled (Step r j n) l = some (on (step r j n))
 spelled (Issue r w m) l = some (on (issue r w m))
 spelled (Drop r) l = some (on (dropRun r))
 spelled (Look p i k) l = some (on (ask (look p i k)))
-spelled (Explain r j) l = some (on (ask (explain r j)))
+spelled (Explain r j n) l = some (on (ask (explain r j n)))
 spelled (Stale o) l = some (on (ask (stale o)))
 spelled Admit l = some (on (ask admit))
 spelled (Allow o n) l = some (on (allow o n))
 spelled Pick l = some (on pick)
 spelled (Mayhold o m) l = some (on (mayhold o m))
 spelled (Maysave w m) l = some (on (maysave w m))
+spelled (Fork r) l = some (on (fork r))
+spelled (Join r) l = some (on (join r))
 
 -- Open alone uses any.
 abbrev pub numbersEnd : Command → ℕ
@@ -38,14 +40,16 @@ numbersEnd (Open r i n) = i + n
 numbersEnd (Fetch o k) = 0
 numbersEnd (Evict o k) = 0
 numbersEnd (Prepare r) = 0
-numbersEnd (Step r j) = 0
+numbersEnd (Step r j n) = 0
 numbersEnd (Issue r w m) = 0
 numbersEnd (Drop r) = 0
 numbersEnd (Look p i k) = 0
-numbersEnd (Explain r j) = 0
+numbersEnd (Explain r j n) = 0
 numbersEnd (Stale o) = 0
 numbersEnd Admit = 0
 numbersEnd (Allow o n) = 0
 numbersEnd Pick = 0
 numbersEnd (Mayhold o m) = 0
 numbersEnd (Maysave w m) = 0
+numbersEnd (Fork r) = 0
+numbersEnd (Join r) = 0

@@ -1,19 +1,27 @@
 -- Cuts on the versions of a place are cuts on the copies that a book takes them for at an
 -- admission (CR 6).
--- admitted-closed.
+-- admitted-closed. read-low: a read mask has keys of the store alone.
 -- Assumes nothing.
+use mathlib.Core.Path.{sym, ap, _∙_}
 use mathlib.Core.Bool.{So, false, false≢true}
 use mathlib.Core.Logic.{inl, inr}
 use mathlib.Core.List.{[]}
 use Prim.Native.Nat.{ℕ, _≤_, _<_}
 use native.Mathlib.Omega.{arith}
 use native.Mathlib.Decide.{ℕ-discrete}
+use lib.Dec.{eqb}
 use Rattle.words.specs.Tests.{Items, none}
-use Rattle.words.proofs.Bools.{test}
+use Rattle.words.proofs.Bools.{test, clash, _∙˙_, or-left, or-right}
+use Rattle.masks.specs.Mask.{testBit}
+use Rattle.masks.proofs.Bits.{test-or, test-low, test-none}
+use Rattle.masks.proofs.Sets.{mask-lt}
 use Rattle.clock.proofs.Order.{present-intro}
 use Rattle.sizes.specs.declared.Counts.{Counts}
 use Rattle.model.specs.Algebra.{Place}
 use Rattle.model.specs.Version.{Version, held, versions}
+use Rattle.model.specs.Store.{Run, branchOf, doneReads}
+use Rattle.model.specs.Form.{runFormed}
+use Rattle.model.proofs.Plans.{readBoth, free-out, free-or-plan}
 use Rattle.model.proofs.Needs.{dependency-iff, supersedes-iff}
 use Rattle.model.proofs.FormedPlaces.{PlaceFormed, version-zero}
 use Rattle.history.specs.Listing.{Base}
@@ -64,3 +72,20 @@ module _ (z : Counts) (B : Base) (scope : Items) (p : Place Version) (formed : P
                 let covers = supersedes-iff (z .writers) d (p d) (p k .past d) .0 met .1 in
                 (q .0, q .1, omega (arith, covers (x .0) (q .0), q .2))
           ]
+
+-- A read mask has keys of the store alone.
+pub read-low : (z : Counts) (a : Run) → So (runFormed z a) → (n k : ℕ)
+    → So (testBit (branchOf n a .read) k) → k < z .keys
+read-low z a F n k p =
+    free-or-plan z a F
+    (λ f. clash p (ap (λ m. testBit m k) (free-out z a f .vacant n .read) ∙ test-none k))
+    (λ P.
+    let low = mask-lt (z .keys) (doneReads (a .jobs) (a .job) (a .done)) (z .keys) (omega arith) in
+    test-low (readBoth a) (z .keys) k (rw (P .masks .reads) low) (in-both n p))
+  where
+    in-both : (n : ℕ) → So (testBit (branchOf n a .read) k) → So (testBit (readBoth a) k)
+    in-both n q =
+        let x = a .branch .read in
+        let y = a .second .read in
+        sym (test-or x y k) ∙˙ test (eqb n 0)
+        (λ t. or-left (testBit y k) (rw t at q)) (λ t. or-right (testBit x k) (rw t at q))

@@ -1,6 +1,7 @@
 -- The invariant with one part changed, and on a fresh store.
 -- HasRead: what a list of finished jobs has read.
--- inv-..: with a cache, all caches or a run changed; inv-anew: a run begun or freed.
+-- inv-..: with a cache, all caches or a run changed; inv-anew: a run begun or freed; inv-state:
+-- one that breaks.
 -- Assumes nothing.
 use mathlib.Core.Path.{_≡_, refl, sym, ap, _∙_}
 use mathlib.Core.Bool.{false≢true}
@@ -8,13 +9,17 @@ use mathlib.Core.Logic.{_≢_}
 use mathlib.Core.List.{List, []}
 use Prim.Native.Nat.{ℕ, _<_}
 use native.Mathlib.Omega.{arith}
+use lib.Dec.{eqb}
 use Rattle.words.specs.Numbers.{countBelow}
 use Rattle.words.specs.Lists.{putAt}
-use Rattle.words.proofs.Lists.{putAt-same, putAt-other, putAt-both}
+use Rattle.words.proofs.Bools.{test, clash, _∙˙_}
+use Rattle.masks.specs.Mask.{testBit}
+use Rattle.masks.proofs.Bits.{test-none}
+use Rattle.words.proofs.Lists.{putAt-same, putAt-other, putAt-cases, putAt-both, putAt-itself}
 use Rattle.sizes.specs.declared.Counts.{Counts}
 use Rattle.model.specs.Algebra.{Place}
 use Rattle.model.specs.Version.{Version}
-use Rattle.model.specs.Store.{Run, Site, Store, fresh, withSites, withCache, withRun}
+use Rattle.model.specs.Store.{Run, branchOf, freeRun, Site, Store, fresh, withSites, withCache, withRun, withState}
 use Rattle.layout.proofs.Fit.{fresh-cache}
 use Rattle.history.specs.History.{saved}
 use Rattle.history.specs.Listing.{noBase, BookCopy}
@@ -29,41 +34,79 @@ use Rattle.consistency.specs.Trace.{ReadSet, Among}
 use Rattle.consistency.proofs.Simulation.{Related}
 use Rattle.consistency.proofs.CopyLaws.{empty-cut}
 use Rattle.consistency.proofs.Closing.{copy-laws, ClosedAll}
-use Rattle.consistency.proofs.Counting.{masked-none}
-use Rattle.consistency.proofs.Invariant.{RunFollows, Follows, ReadAs, Inv}
+use Rattle.consistency.proofs.Counting.{StandsFor, masked-none}
+use Rattle.consistency.proofs.Invariant.{RunFollows, Follows, CopyAs, Entered, Covers, Inv}
 use Rattle.consistency.proofs.Following.{Stands, free-follows, follows-caches, follows-cache, follows-run}
 
 -- ---- what finished jobs have read
 
-abbrev pub HasRead : ℕ → Run → BookRun → List ReadSet → Type 0
-HasRead K a c xs = (x : ReadSet) → Among x xs → ReadAs K (a .branch) (c .branch) x
+abbrev pub HasRead : Store → Book → Run → BookRun → List ReadSet → Type 0
+HasRead s b a c xs =
+    (x : ReadSet) → Among x xs
+    → Entered (s .counts .writers) (s .counts .keys) (b .history) (b .base) a c x
+
+-- A copy is as it was read.
+pub copy-same : {W k : ℕ} {c : BookCopy} → CopyAs W k c c
+copy-same = record { later = λ _. refl; own = λ _ _. refl; rows = λ _ _. omega arith }
 
 pub none-among {ℓ} : {X : Type ℓ} {x : ReadSet} → Among x [] → X
 none-among a = elim a [ ]
 
 -- A run that begins anew, or is freed: none of its jobs is finished.
-pub nothing-read : (K : ℕ) (a : Run) (c : BookRun) (f : ℕ → List ReadSet) (r : ℕ)
-    → HasRead K a c (putAt f r [] r)
-nothing-read K a c f r x i = none-among (rw (putAt-same f r []) at i)
+pub nothing-read : (s : Store) (b : Book) (a : Run) (c : BookRun) (f : ℕ → List ReadSet) (r : ℕ)
+    → HasRead s b a c (putAt f r [] r)
+nothing-read s b a c f r x i = none-among (rw (putAt-same f r []) at i)
 
--- A next store and book that differ in run r alone, as far as runs go.
+-- What has read nothing is covered.
+pub nothing-covers : (K : ℕ) (a : Run) (xs : List ReadSet) → ((n : ℕ) → branchOf n a .read ≡ 0)
+    → Covers K a xs
+nothing-covers K a xs blank n k _ _ p =
+    clash (ap (λ (m : ℕ). testBit m k) (blank n) ∙˙ p) (test-none k)
+
+pub free-unread : (n : ℕ) → branchOf n freeRun .read ≡ 0
+free-unread n = test (eqb n 0) (λ y. rw y refl) (λ y. rw y refl)
+
+-- A next store and book that differ in run r alone, as far as runs go; what has been read stands
+-- for its copies by the next history too.
 pub inv-next : {s : Store} {b : Book} {f : ℕ → List ReadSet} (t : Store) (d : Book)
     (g : ℕ → List ReadSet) (r : ℕ) (a : Run) (c : BookRun) → Inv s b f → Follows t d
     → t .counts ≡ s .counts → t .run ≡ putAt (s .run) r a → d .run ≡ putAt (b .run) r c
     → r < s .counts .runs → ((q : ℕ) → q ≢ r → g q ≡ f q)
-    → HasRead (s .counts .keys) a c (g r) → Inv t d g
-inv-next {s} {b} {f} t d g r a c v F e er ed l same has = record {
+    → ((k : ℕ) (v : Version) (y : BookCopy) → Stands s b k v y
+    → StandsFor (s .counts .writers) (s .counts .keys) (d .history) (d .base) k v y)
+    → HasRead s d a c (g r) → Covers (s .counts .keys) a (g r) → Inv t d g
+inv-next {s} {b} {f} t d g r a c v F e er ed l same grow has all = record {
   follows = F;
   reads = rw (e, er, ed) reads;
+  covered = rw (e, er) covered;
   no-run = rw e (λ q h x i. v .no-run q h x (rw (same q (λ z. absurd (omega arith))) at i));
 }
   where
+    As : ReadSet → Run → BookRun → Type 0
+    As x a c =
+        Entered (s .counts .writers) (s .counts .keys) (d .history) (d .base) a c x
+
+    grown : (x : ReadSet) (a : Run) (c : BookRun)
+        → Entered (s .counts .writers) (s .counts .keys) (b .history) (b .base) a c x → As x a c
+    grown x a c E = record {
+      stands = λ k h p. grow k (x .version k) (x .copy k) (E .stands k h p);
+      lines = E .lines;
+      placed = E .placed;
+      single = E .single;
+    }
+
+    covered : (q : ℕ) → q < s .counts .runs
+        → Covers (s .counts .keys) (putAt (s .run) r a q) (g q)
+    covered q h =
+        putAt-cases (λ (a : Run). Covers (s .counts .keys) a (g q)) (s .run) r a q
+        (λ z. rw z all) (λ z. rw (same q z) (v .covered q h))
+
     reads : (q : ℕ) → q < s .counts .runs → (x : ReadSet) → Among x (g q)
-        → ReadAs (s .counts .keys) (putAt (s .run) r a q .branch) (putAt (b .run) r c q .branch) x
+        → As x (putAt (s .run) r a q) (putAt (b .run) r c q)
     reads q h x i =
-        putAt-both (λ (a : Run) (c : BookRun). ReadAs (s .counts .keys) (a .branch) (c .branch) x)
-        (s .run) (b .run) r a c q
-        (λ z. has x (rw z at i)) (λ z. v .reads q h x (rw (same q z) at i))
+        putAt-both (As x) (s .run) (b .run) r a c q
+        (λ z. has x (rw z at i))
+        (λ z. grown x (s .run q) (b .run q) (v .reads q h x (rw (same q z) at i)))
 
 module _ {s : Store} {b : Book} {f : ℕ → List ReadSet} (v : Inv s b f) where
   pub inv-caches : (p : ℕ → Site) (q : ℕ → Place BookCopy)
@@ -75,6 +118,7 @@ module _ {s : Store} {b : Book} {f : ℕ → List ReadSet} (v : Inv s b f) where
   inv-caches p q C = record {
     follows = follows-caches (v .follows) p q C;
     reads = v .reads;
+    covered = v .covered;
     no-run = v .no-run;
   }
 
@@ -86,6 +130,7 @@ module _ {s : Store} {b : Book} {f : ℕ → List ReadSet} (v : Inv s b f) where
   inv-cache o p q c d = record {
     follows = follows-cache (v .follows) o p q c d;
     reads = v .reads;
+    covered = v .covered;
     no-run = v .no-run;
   }
 
@@ -93,21 +138,60 @@ module _ {s : Store} {b : Book} {f : ℕ → List ReadSet} (v : Inv s b f) where
   pub inv-run : (g : ℕ → List ReadSet) (r : ℕ) (a : Run) (c : BookRun)
       → RunFollows (s .counts .writers) (s .counts .keys) (b .history) (b .base) a c
       → r < s .counts .runs
-      → ((q : ℕ) → q ≢ r → g q ≡ f q) → HasRead (s .counts .keys) a c (g r)
+      → ((q : ℕ) → q ≢ r → g q ≡ f q) → HasRead s b a c (g r) → Covers (s .counts .keys) a (g r)
       → Inv (withRun s r a) (withBookRun b r c) g
   unfolding withRun withBookRun
-  inv-run g r a c G l same has =
+  inv-run g r a c G l same has all =
       inv-next (withRun s r a) (withBookRun b r c) g r a c v (follows-run (v .follows) r a c G)
-      refl refl refl l same has
+      refl refl refl l same (λ k w y p. p) has all
 
   -- Run r begins anew, or is freed.
   pub inv-anew : (r : ℕ) (a : Run) (c : BookRun)
       → RunFollows (s .counts .writers) (s .counts .keys) (b .history) (b .base) a c
-      → r < s .counts .runs
+      → r < s .counts .runs → ((n : ℕ) → branchOf n a .read ≡ 0)
       → Inv (withRun s r a) (withBookRun b r c) (putAt f r [])
-  inv-anew r a c G l =
+  inv-anew r a c G l blank =
       inv-run (putAt f r []) r a c G l (putAt-other f r [])
-      (nothing-read (s .counts .keys) a c f r)
+      (nothing-read s b a c f r) (nothing-covers (s .counts .keys) a (putAt f r [] r) blank)
+
+-- ---- a run that breaks
+
+-- A book with a run put where it stands.
+same-book : (b : Book) (r : ℕ) → withBookRun b r (b .run r) ≡ b
+unfolding withBookRun
+same-book b r =
+    ap (λ (f : ℕ → BookRun). record {
+      counts = b .counts;
+      base = b .base;
+      history = b .history;
+      master = b .master;
+      cache = b .cache;
+      run = f;
+    }) (putAt-itself (b .run) r)
+
+-- Only the state of a run is changed.
+pub inv-state : {s : Store} {b : Book} {f : ℕ → List ReadSet} → Inv s b f → (r m : ℕ)
+    → r < s .counts .runs → Inv (withRun s r (withState (s .run r) m)) b f
+unfolding withState
+inv-state {s} {b} {f} v r m l =
+    let a = withState (s .run r) m in
+    rw (same-book b r) at (inv-run v f r a (b .run r) follows l (λ _ _. refl) has (v .covered r l))
+  where
+    follows : RunFollows (s .counts .writers) (s .counts .keys) (b .history) (b .base)
+        (withState (s .run r) m) (b .run r)
+    follows =
+        let G = v .follows .run r l in
+        record { jobs = G .jobs; job = G .job; line = G .line }
+
+    has : HasRead s b (withState (s .run r) m) (b .run r) (f r)
+    has x i =
+        let E = v .reads r l x i in
+        record {
+          stands = E .stands;
+          lines = E .lines;
+          placed = E .placed;
+          single = E .single;
+        }
 
 -- ---- a fresh store
 
@@ -138,5 +222,6 @@ inv-fresh z =
         run = λ r l. free-follows W K [] noBase;
       };
       reads = λ r l x p. none-among p;
+      covered = λ r l. nothing-covers K freeRun [] free-unread;
       no-run = λ r l x p. none-among p;
     }

@@ -9,13 +9,13 @@ use native.Mathlib.Omega.{arith}
 use Rattle.clock.specs.Clock.{Clock}
 use Rattle.clock.proofs.Standings.{standing-below}
 use Rattle.model.specs.Version.{Version}
-use Rattle.model.specs.Store.{Store}
+use Rattle.model.specs.Store.{branchOf, Store}
 use Rattle.model.specs.Calls.Admit.{admissible}
 use Rattle.model.proofs.Admits.{EveryPast, Covered, Counted, admissible-in}
 use Rattle.history.specs.Copies.{CountedAs, byWriter}
 use Rattle.history.specs.Listing.{BookCopy, countedCopy}
 use Rattle.history.specs.Lists.{writerList}
-use Rattle.history.specs.Book.{Book}
+use Rattle.history.specs.Book.{bookBranch, Book}
 use Rattle.history.proofs.Past.{past-laws}
 use Rattle.history.proofs.Carrying.{list-within}
 use Rattle.history.proofs.Listing.{issue-most, row-most}
@@ -38,10 +38,10 @@ module _ {s : Store} {b : Book} (F : Follows s b) where
           rw (w .counts .past) (f (b .master k) (w .good .listed .low));
       caches = λ o h k l.
           rw (F .cache o h k l .past) (f (b .cache o k) (F .closed o h .good k l .listed .low));
-      snapshots = λ r h k l.
-          let G = F .run r h .branch in
+      snapshots = λ r h n k l.
+          let G = F .run r h .line n in
           rw (G .snapshot k l .past)
-          (f (b .run r .branch .snapshot k) (G .closed .good k l .listed .low));
+          (f (bookBranch n (b .run r) .snapshot k) (G .closed .good k l .listed .low));
     };
     writers = λ w l.
         let K = s .counts .keys in
@@ -96,7 +96,7 @@ module _ {s : Store} {b : Book} (F : Follows s b) where
       admissible-in s (record {
         master = master-cut F;
         caches = cuts F;
-        snapshots = overlaps F;
+        snapshots = λ r l n. overlaps F r n l;
         covered = master-dominates;
         counted = counts-within;
         numbered = record {
@@ -106,9 +106,10 @@ module _ {s : Store} {b : Book} (F : Follows s b) where
           caches = λ o h k l.
               number-within (s .site o .cache k) (b .cache o k)
               (F .closed o h .good k l .listed .number) (F .cache o h k l);
-          snapshots = λ r h k l.
-              let G = F .run r h .branch in
-              number-within (s .run r .branch .snapshot k) (b .run r .branch .snapshot k)
+          snapshots = λ r h n k l.
+              let G = F .run r h .line n in
+              number-within (branchOf n (s .run r) .snapshot k)
+              (bookBranch n (b .run r) .snapshot k)
               (G .closed .good k l .listed .number) (G .snapshot k l);
         };
       })
@@ -118,8 +119,9 @@ module _ {s : Store} {b : Book} (F : Follows s b) where
   caches-behind o l k h =
       standing-below (s .counts .writers) _ _ .0 (master-dominates .versions .caches o l k h k h)
 
-  pub snapshots-behind : (r : ℕ) → r < s .counts .runs
-      → NotAhead (s .counts .writers) (s .counts .keys) (s .master) (s .run r .branch .snapshot)
-  snapshots-behind r l k h =
+  pub snapshots-behind : (r n : ℕ) → r < s .counts .runs
+      → NotAhead (s .counts .writers) (s .counts .keys) (s .master)
+      (branchOf n (s .run r) .snapshot)
+  snapshots-behind r n l k h =
       standing-below (s .counts .writers) _ _ .0
-      (master-dominates .versions .snapshots r l k h k h)
+      (master-dominates .versions .snapshots r l n k h k h)

@@ -7,12 +7,12 @@ use mathlib.Core.Bool.{So}
 use Prim.Native.Nat.{ℕ, _<_}
 use Rattle.model.specs.Algebra.{causalCut, overlappingCut}
 use Rattle.model.specs.Version.{versions}
-use Rattle.model.specs.Store.{Store, planned}
+use Rattle.model.specs.Store.{branchOf, Store, planned}
 use Rattle.model.specs.Step.{stepPlan, stepCache, stepRule}
 use Rattle.model.proofs.Steps.{Accepted}
 use Rattle.layout.proofs.Rules.Step.{was}
 use Rattle.layout.proofs.Follow.{Fine}
-use Rattle.history.specs.Book.{Book}
+use Rattle.history.specs.Book.{bookBranch, Book}
 use Rattle.consistency.specs.Claim.{BreakExact}
 use Rattle.consistency.proofs.Simulation.{causalCut-same, overlappingCut-same}
 use Rattle.consistency.proofs.CopyLaws.{cut-causal, cut-overlapping}
@@ -33,24 +33,24 @@ module _ {s : Store} {b : Book} (F : Follows s b) where
       causalCut-same (now-simulates F) (s .site o .cache) (b .cache o) (cache-related F o l)
       ∙ cut-causal (now-laws F) (F .closed o l)
 
-  pub overlaps : (r : ℕ) → r < s .counts .runs
+  pub overlaps : (r n : ℕ) → r < s .counts .runs
       → So (overlappingCut (versions (s .counts .writers)) (s .counts .keys)
-      (planned (s .run r .jobs) (s .run r .job)) (s .run r .branch .snapshot))
-  overlaps r l =
+      (planned (s .run r .jobs) (s .run r .job)) (branchOf n (s .run r) .snapshot))
+  overlaps r n l =
       let S = planned (s .run r .jobs) (s .run r .job) in
-      overlappingCut-same (now-simulates F) S S (s .run r .branch .snapshot)
-      (b .run r .branch .snapshot) (λ _ _. refl) (snapshot-related F r l)
-      ∙ cut-overlapping (now-laws F) (snapshot-closed F r l)
+      overlappingCut-same (now-simulates F) S S (branchOf n (s .run r) .snapshot)
+      (bookBranch n (b .run r) .snapshot) (λ _ _. refl) (snapshot-related F r n l)
+      ∙ cut-overlapping (now-laws F) (snapshot-closed F r n l)
 
   -- A step that is not refused finds what it needs.
   pub step-ready : Fine s → (r j n : ℕ) → Accepted s r j n → Ready s r j n
   unfolding stepPlan
   step-ready fine r j n a = record {
-    overlaps = overlaps r (a .run-in);
+    overlaps = overlaps r n (a .run-in);
     cut = causalCut-same (now-simulates F) (stepCache s r j n) (copyCache s b r j n)
         (stepCache-related fine F a)
         ∙ cut-causal (now-laws F) (stepCache-closed fine F a);
-    on-snapshot = was s r j n fine a .snapshot .has;
+    on-snapshot = was s r j n fine a .snapshot n .has;
   }
 
   pub breaks : Fine s → (r j n : ℕ) → BreakExact (stepRule r j n s) s r j n

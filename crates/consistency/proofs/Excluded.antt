@@ -22,12 +22,12 @@ use Rattle.model.specs.Version.{Version, zeroPast, held, dependency, supersedes
 use Rattle.model.specs.Sets.{draws, drawSet, fetchSet, fetched, unfetchable, pullSet, pulled}
 use Rattle.model.specs.Tail.{barred}
 use Rattle.model.specs.Store.{Store, fresh, planned, doneReads, siteWith, withMaster, withLast, withMarks, withSites, withCache, withCaches, withWriter, withRun, withState, withJobDone}
-use Rattle.model.specs.Form.{zeroRows, zeroVersion, leadersFormed, versionFormed, placeFormed, validJob, zeroJob, freeFormed, jobsFormed, masksFormed, snapshotFormed, runFormed, siteFormed, rightsFormed, tailFormed, wellFormed}
+use Rattle.model.specs.Form.{zeroRows, zeroVersion, leadersFormed, versionFormed, placeFormed, validJob, zeroJob, zeroBranch, freeFormed, jobsFormed, masksFormed, markFormed, snapshotFormed, branchesFormed, runFormed, siteFormed, rightsFormed, tailFormed, wellFormed}
 use Rattle.model.specs.Allowance.{heldCount, over}
 use Rattle.model.specs.Marks.{isStale, staleMask}
 use Rattle.model.specs.Outcome.{answer, refuse, unless, allowed, runCause}
 use Rattle.model.specs.Runs.{listedJob, listedCount, listedJobs, listValid, openCause, openedRun, openDone, openRule, dropCause, dropDone, dropRule}
-use Rattle.model.specs.Step.{readStart, stepBranch, stepSite, stepReads, stepStart, stepFetch, stepCache, stepPlan, stepPull, stepSnapshot, stepMoved, stepBarred, jobLimit, notReady, jobCause, stepCause, stepBroken, stepDone, stepRule}
+use Rattle.model.specs.Step.{readStart, stepBranch, stepSite, stepReads, stepStart, stepFetch, stepCache, stepPlan, stepPull, stepSnapshot, stepMoved, stepBarred, jobLimit, offBranch, notReady, jobCause, stepCause, stepBroken, stepDone, stepRule}
 use Rattle.model.specs.Issue.{raiseCause, issueCause, takenIn, rowsSet, newPast, newVersion, issuedMaster, issuedWriter, savedStore, issuedStore, issuedNumber, issueDone, issueRule}
 use Rattle.model.specs.Calls.{openRun, step, issue, dropRun, ruleOf}
 use Rattle.model.proofs.Cuts.{needsMet-at}
@@ -91,18 +91,18 @@ module _ (s : Store) (r j n : ℕ) (pick : ℕ → Pick) where
 
 -- Run 1, which has read nothing, saves the sheets of S.
 abbrev saving : ℕ → List Call
-saving S = on (openRun 1 (0 ∷ 0 ∷ 0 ∷ [])) ∷ on (step 1 0) ∷ on (issue 1 0 S) ∷ []
+saving S = on (openRun 1 (0 ∷ 0 ∷ 0 ∷ [])) ∷ on (step 1 0 0) ∷ on (issue 1 0 S) ∷ []
 
 -- Sheet 0 is saved, and job 0 of run 0 reads it; then the sheets of S are saved.
 abbrev before : ℕ → Trace
 before S =
     let jobs = on (openRun 0 (0 ∷ 1 ∷ 0 ∷ 0 ∷ 2 ∷ 0 ∷ [])) in
-    follow (saving 1 ++ (jobs ∷ on (step 0 0) ∷ saving S))
+    follow (saving 1 ++ (jobs ∷ on (step 0 0 0) ∷ saving S))
     (start (countsOf 2 1 1 2) (replicate (totalOf (countsOf 2 1 1 2)) 0))
 
 -- Job 1 of run 0 reads sheet 1.
 abbrev after-job : ℕ → Trace
-after-job S = follow (on (step 0 1) ∷ []) (before S)
+after-job S = follow (on (step 0 1 0) ∷ []) (before S)
 
 -- The store at which it is stepped, and a choice: the card's sheet 0, the shelf's sheet 1.
 abbrev store : ℕ → Store
@@ -122,7 +122,7 @@ pub record Computed : Type 0 where
   pub both : map seen (after-job 2 .finished 0)
       ≡ (2 ∷ 1 ∷ 1 ∷ 2 ∷ 2 ∷ []) ∷ (1 ∷ 1 ∷ 1 ∷ 0 ∷ 0 ∷ []) ∷ []
   -- A step that breaks its run has read nothing.
-  pub breaks : answer (callOn (on (step 0 1)) (before 3 .buffer)) ≡ 1 ∷ 1 ∷ []
+  pub breaks : answer (callOn (on (step 0 1 0)) (before 3 .buffer)) ≡ 1 ∷ 1 ∷ []
   pub one : map seen (after-job 3 .finished 0) ≡ (1 ∷ 1 ∷ 1 ∷ 0 ∷ 0 ∷ []) ∷ []
   -- A run that was freed has no finished jobs.
   pub issued : map seen (after-job 2 .finished 1) ≡ []
@@ -145,10 +145,12 @@ unfolding anyBelow allBelow only foldBelow countBelow largest when putAt upto bl
     planned doneReads withMaster withLast siteWith withMarks withCaches withSites withCache
     withWriter withRun withState isStale staleMask siteFormed withJobDone zeroRows zeroVersion
     leadersFormed versionFormed placeFormed validJob zeroJob freeFormed jobsFormed masksFormed
-    snapshotFormed runFormed wellFormed answer refuse unless allowed runCause listedJob
+    zeroBranch markFormed snapshotFormed branchesFormed runFormed wellFormed answer refuse unless
+    allowed runCause listedJob
     listedCount listedJobs listValid openCause openedRun openDone openRule dropCause dropDone
     dropRule readStart stepSite stepReads stepStart stepFetch stepCache stepPlan stepPull
-    stepSnapshot stepMoved jobLimit notReady jobCause stepCause stepBroken stepDone stepRule
+    stepSnapshot stepMoved jobLimit offBranch notReady jobCause stepCause stepBroken stepDone
+    stepRule
     raiseCause issueCause takenIn rowsSet newPast newVersion issuedMaster issuedWriter
     savedStore issuedStore issuedNumber issueDone issueRule ruleOf clockWords pastWords
     versionWords placeWords siteWords sitesWords writerWords writersWords jobWords jobsWords

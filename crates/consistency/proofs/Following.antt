@@ -6,6 +6,9 @@
 use mathlib.Core.Path.{_≡_, refl, ap, ap₂}
 use mathlib.Core.Bool.{false≢true}
 use Prim.Native.Nat.{ℕ, _≤_, _<_}
+use lib.Dec.{eqb}
+use Rattle.words.specs.Tests.{Items}
+use Rattle.words.proofs.Bools.{test}
 use native.Mathlib.Omega.{arith}
 use Rattle.words.specs.Lists.{putAt}
 use Rattle.words.proofs.Lists.{putAt-both}
@@ -14,10 +17,10 @@ use Rattle.clock.specs.Clock.{Clock}
 use Rattle.sizes.specs.declared.Counts.{Counts}
 use Rattle.model.specs.Algebra.{Place}
 use Rattle.model.specs.Version.{Version, versions}
-use Rattle.model.specs.Store.{Job, Run, Site, Store, noJobs, noBranch, freeRun, planned, withSites, siteWith, withCache, withRun}
+use Rattle.model.specs.Store.{Job, Branch, Run, branchOf, Site, Store, noJobs, noBranch, freeRun, planned, withSites, siteWith, withCache, withRun}
 use Rattle.history.specs.History.{History}
 use Rattle.history.specs.Listing.{Base, noBase, BookCopy, bookCopies}
-use Rattle.history.specs.Book.{BookRun, Book, noBookBranch, noRun, withBookCaches, withBookRun}
+use Rattle.history.specs.Book.{BookBranch, BookRun, bookBranch, Book, noBookBranch, noRun, withBookCaches, withBookRun}
 use Rattle.history.proofs.Past.{past-laws}
 use Rattle.history.proofs.Lists.{behind-is-list}
 use Rattle.history.proofs.ListingMerged.{book-none}
@@ -28,7 +31,7 @@ use Rattle.consistency.proofs.Simulation.{Simulates, Related}
 use Rattle.consistency.proofs.CopyLaws.{CopyLaws, PartIn, empty-cut}
 use Rattle.consistency.proofs.Closing.{bookWrites, copy-laws, ClosedIn, ClosedAll, every-part, every-closed}
 use Rattle.consistency.proofs.Counting.{StandsFor, masked-none, stands-named, counted-simulates, counted-related}
-use Rattle.consistency.proofs.Invariant.{RunFollows, Follows}
+use Rattle.consistency.proofs.Invariant.{BranchFollows, RunFollows, Follows}
 
 -- A version of a key and a copy, as this store and this book have them.
 abbrev pub Stands : Store → Book → ℕ → Version → BookCopy → Type 0
@@ -102,12 +105,12 @@ module _ {s : Store} {b : Book} (F : Follows s b) where
         ap (λ (p : Clock). p u) (F .master k h .all),
       )
 
-  module _ (r : ℕ) (l : r < s .counts .runs) where
+  module _ (r n : ℕ) (l : r < s .counts .runs) where
     pub snapshot-related :
-        Related (s .counts .keys) (Stands s b) (s .run r .branch .snapshot)
-        (b .run r .branch .snapshot)
+        Related (s .counts .keys) (Stands s b) (branchOf n (s .run r) .snapshot)
+        (bookBranch n (b .run r) .snapshot)
     snapshot-related =
-        let G = F .run r l .branch in
+        let G = F .run r l .line n in
         counted-related (G .snapshot) (G .led) (G .closed)
 
 -- The plan of a run is that of the book's.
@@ -117,12 +120,28 @@ pub plan-same : {W K : ℕ} {h : History} {B : Base} {a : Run} {c : BookRun}
 plan-same F = ap₂ planned (F .jobs) (F .job)
 
 -- So the book's snapshot is a cut for the plan of the store's run.
-pub snapshot-closed : {s : Store} {b : Book} → Follows s b → (r : ℕ) → r < s .counts .runs
+pub snapshot-closed : {s : Store} {b : Book} → Follows s b → (r n : ℕ) → r < s .counts .runs
     → ClosedIn (s .counts .keys) (s .counts .writers) (b .history) (b .base)
-    (planned (s .run r .jobs) (s .run r .job)) (b .run r .branch .snapshot)
-snapshot-closed F r l = rw (plan-same (F .run r l)) (F .run r l .branch .closed)
+    (planned (s .run r .jobs) (s .run r .job)) (bookBranch n (b .run r) .snapshot)
+snapshot-closed F r n l = rw (plan-same (F .run r l)) (F .run r l .line n .closed)
 
--- A run with nothing read and nothing on its snapshot.
+-- A branch of a run and of the book's run: what holds of both branches holds of branch n.
+pub on-lines {ℓ} : (P : Branch → BookBranch → Type ℓ) (a : Run) (c : BookRun)
+    → P (a .branch) (c .branch) → P (a .second) (c .second) → (n : ℕ)
+    → P (branchOf n a) (bookBranch n c)
+on-lines P a c p q n = test (eqb n 0) (λ y. rw y p) (λ y. rw y q)
+
+-- A branch with nothing read and nothing on its snapshot; a run of two such.
+pub none-follows : (W K : ℕ) (h : History) (B : Base) (plan : Items)
+    → BranchFollows W K h B plan noBranch noBookBranch
+none-follows W K h B plan = record {
+  read = λ k _. test-none k;
+  low = λ k p. absurd (false≢true p);
+  snapshot = λ k _. book-none K h B;
+  led = λ _ k _. masked-none W K h k;
+  closed = empty-cut (copy-laws K W h B) plan;
+}
+
 pub empty-follows : (W K : ℕ) (h : History) (B : Base) (state jobs done : ℕ) (job : ℕ → Job)
     → RunFollows W K h B (record {
       state = state;
@@ -130,18 +149,16 @@ pub empty-follows : (W K : ℕ) (h : History) (B : Base) (state jobs done : ℕ)
       done = done;
       job = job;
       branch = noBranch;
-    }) (record { jobs = jobs; job = job; branch = noBookBranch })
-empty-follows W K h B state jobs done job = record {
-  jobs = refl;
-  job = refl;
-  branch = record {
-    read = λ k _. test-none k;
-    low = λ k p. absurd (false≢true p);
-    snapshot = λ k _. book-none K h B;
-    led = λ _ k _. masked-none W K h k;
-    closed = empty-cut (copy-laws K W h B) (planned jobs job);
-  };
-}
+      mark = 0;
+      second = noBranch;
+    }) (record { jobs = jobs; job = job; branch = noBookBranch; second = noBookBranch })
+empty-follows W K h B state jobs done job =
+    let none = none-follows W K h B (planned jobs job) in
+    record {
+      jobs = refl;
+      job = refl;
+      line = λ n. test (eqb n 0) (λ y. rw y none) (λ y. rw y none);
+    }
 
 pub free-follows : (W K : ℕ) (h : History) (B : Base) → RunFollows W K h B freeRun noRun
 free-follows W K h B = empty-follows W K h B 0 0 0 noJobs

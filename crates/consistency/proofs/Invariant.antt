@@ -1,25 +1,26 @@
 -- What holds of store, book and reads after each call, and what a call has to show.
--- BranchFollows, RunFollows, WriterFollows, Follows: store and book. ReadAs: what a finished job
--- has read. Inv: all of it. Moves: after an outcome.
+-- BranchFollows, RunFollows, WriterFollows, Follows: store and book. ReadAs, Entered: what a
+-- finished job has read. Inv: all of it. Moves: after an outcome.
 -- Assumes nothing.
 use mathlib.Core.Path.{_≡_}
 use mathlib.Core.Bool.{So, cond}
 use mathlib.Core.List.{List}
+use mathlib.Core.Logic.{_⊎_, _≢_}
 use Prim.Native.Nat.{ℕ, _+_, _≤_, _<_}
 use lib.Dec.{eqb}
 use lib.ListN.{length}
 use Rattle.words.specs.Tests.{Items}
 use Rattle.words.specs.Numbers.{countBelow}
 use Rattle.masks.specs.Mask.{testBit}
-use Rattle.model.specs.Store.{Branch, Run, Store, planned}
+use Rattle.model.specs.Store.{Branch, Run, forkedMark, branchOf, Store, planned}
 use Rattle.model.specs.Outcome.{Outcome, refused, broken, done, told}
 use Rattle.model.specs.Calls.{StoreCall}
 use Rattle.layout.specs.Calls.{on}
 use Rattle.history.specs.History.{History, saved}
 use Rattle.history.specs.Copies.{byWriter}
-use Rattle.history.specs.Listing.{Base, countedCopy}
+use Rattle.history.specs.Listing.{Base, BookCopy, countedCopy}
 use Rattle.history.specs.Lists.{writerList}
-use Rattle.history.specs.Book.{Book, BookBranch, BookRun, bookRule, bookStep}
+use Rattle.history.specs.Book.{Book, BookBranch, BookRun, bookBranch, bookRule, bookStep}
 use Rattle.history.proofs.Notions.{Sound}
 use Rattle.history.proofs.Listed.{Based}
 use Rattle.history.proofs.Carrying.{ListsSound}
@@ -28,7 +29,7 @@ use Rattle.history.proofs.ListingIssued.{Whole}
 use Rattle.consistency.specs.Trace.{ReadSet, finish, Among}
 use Rattle.consistency.specs.Claim.{Counted}
 use Rattle.consistency.proofs.Closing.{ClosedIn, ClosedAll}
-use Rattle.consistency.proofs.Counting.{Masked}
+use Rattle.consistency.proofs.Counting.{StandsFor, Masked}
 
 -- A branch and the book's, for the keys of a plan.
 pub record BranchFollows (W K : ℕ) (h : History) (B : Base) (plan : Items) (a : Branch)
@@ -43,7 +44,8 @@ pub record BranchFollows (W K : ℕ) (h : History) (B : Base) (plan : Items) (a 
 pub record RunFollows (W K : ℕ) (h : History) (B : Base) (a : Run) (c : BookRun) : Type 0 where
   pub jobs : a .jobs ≡ c .jobs
   pub job : a .job ≡ c .job
-  pub branch : BranchFollows W K h B (planned (c .jobs) (c .job)) (a .branch) (c .branch)
+  pub line : (n : ℕ)
+      → BranchFollows W K h B (planned (c .jobs) (c .job)) (branchOf n a) (bookBranch n c)
 
 -- A writer's count, and its past: that of all its issues, with its list.
 pub record WriterFollows (K : ℕ) (h : History) (B : Base) (s : Store) (w : ℕ) : Type 0 where
@@ -78,16 +80,39 @@ pub record Follows (s : Store) (b : Book) : Type 0 where
       → RunFollows (s .counts .writers) (s .counts .keys) (b .history) (b .base) (s .run r)
       (b .run r)
 
+-- A copy of key k as it was read, and as it is on the card: what it includes is the same, and what
+-- stands behind it of the admitted saves, no more (a join may add what a later count hides).
+pub record CopyAs (W k : ℕ) (c d : BookCopy) : Type 0 where
+  pub later : (i : ℕ) → c .later i ≡ d .later i
+  pub own : (u : ℕ) → u < W → c .rows k u ≡ d .rows k u
+  pub rows : (e u : ℕ) → c .rows e u ≤ d .rows e u
+
 -- What a finished job has read is still so on the snapshot of a branch.
-pub record ReadAs (K : ℕ) (a : Branch) (c : BookBranch) (x : ReadSet) : Type 0 where
+pub record ReadAs (W K : ℕ) (a : Branch) (c : BookBranch) (x : ReadSet) : Type 0 where
   pub keys : (k : ℕ) → k < K → So (x .keys k) → So (c .read k)
   pub version : (k : ℕ) → k < K → So (x .keys k) → x .version k ≡ a .snapshot k
-  pub copy : (k : ℕ) → k < K → So (x .keys k) → x .copy k ≡ c .snapshot k
+  pub copy : (k : ℕ) → k < K → So (x .keys k) → CopyAs W k (x .copy k) (c .snapshot k)
+
+-- So it is on each line on which it stands: one of two, and in a run that isn't forked on line 0.
+pub record Entered (W K : ℕ) (h : History) (B : Base) (a : Run) (c : BookRun) (x : ReadSet)
+    : Type 0 where
+  pub stands : (k : ℕ) → k < K → So (x .keys k) → StandsFor W K h B k (x .version k) (x .copy k)
+  pub lines : (n : ℕ) → So (x .on n) → ReadAs W K (branchOf n a) (bookBranch n c) x
+  pub placed : So (x .on 0) ⊎ So (x .on 1)
+  pub single : a .mark ≢ forkedMark → So (x .on 0)
+
+-- All that branch n has read some finished job on it has read.
+abbrev pub Covers : ℕ → Run → List ReadSet → Type 0
+Covers K a xs =
+    (n k : ℕ) → n < 2 → k < K → So (testBit (branchOf n a .read) k)
+    → (x : ReadSet) × Among x xs × So (x .on n) × So (x .keys k)
 
 pub record Inv (s : Store) (b : Book) (f : ℕ → List ReadSet) : Type 0 where
   pub follows : Follows s b
   pub reads : (r : ℕ) → r < s .counts .runs → (x : ReadSet) → Among x (f r)
-      → ReadAs (s .counts .keys) (s .run r .branch) (b .run r .branch) x
+      → Entered (s .counts .writers) (s .counts .keys) (b .history) (b .base) (s .run r)
+      (b .run r) x
+  pub covered : (r : ℕ) → r < s .counts .runs → Covers (s .counts .keys) (s .run r) (f r)
   pub no-run : (r : ℕ) → s .counts .runs ≤ r → (x : ReadSet) → Among x (f r) → ⊥
 
 -- What a call has to show, by its outcome.

@@ -36,7 +36,7 @@ use Rattle.history.proofs.Plain.{plain-listed}
 use Rattle.history.proofs.Carrying.{ListsSound, list-most, carries-new}
 use Rattle.history.proofs.ListingMerged.{book-fold, book-grow}
 use Rattle.history.proofs.ListingEntered.{listedAs, enteredRows, enteredVersion, new-counted}
-use Rattle.history.proofs.ListingIssued.{Whole, whole-grow, issued-book}
+use Rattle.history.proofs.ListingIssued.{book-grown, Whole, whole-grow, issued-book}
 use Rattle.consistency.specs.Leading.{Named}
 use Rattle.consistency.proofs.Simulation.{Related}
 use Rattle.consistency.proofs.Closing.{ClosedIn, closed-grow}
@@ -47,34 +47,39 @@ use Rattle.consistency.proofs.Following.{master-closed, master-related}
 module _ (W K : ℕ) (e : Issue) (h : History) (B : Base) where
   -- ---- places that the issue leaves as they were
 
+  -- A version that stands for a copy,
+  pub stands-grow : (k : ℕ) (v : Version) (c : BookCopy) → StandsFor W K h B k v c
+      → StandsFor W K (e ∷ h) B k v c
+  stands-grow k v c r =
+      let below : (i : ℕ) → So (c .later i) → i < length h =
+      λ i y. r .good .good .writes i y .0 in
+      record {
+        counts = rw (book-grow K e h B (past-laws K h) c below) (r .counts);
+        good = book-grown K W e h B k c (r .good);
+        led = λ q. r .led q
+            ∙ ap (maskBelow W) (sym (fun-ext (leading-grow K e h k (c .later) below)));
+      }
+
   pub place-grow : {scope : Items} {p : Place Version} {c : Place BookCopy}
       → ClosedIn K W h B scope c → Related K (StandsFor W K h B) p c
       → Related K (StandsFor W K (e ∷ h) B) p c
-  place-grow {c = c} cut r k l =
-      let below : (i : ℕ) → So (c k .later i) → i < length h =
-      λ i y. cut .good k l .good .writes i y .0 in
-      record {
-        counts = rw (book-grow K e h B (past-laws K h) (c k) below) (r k l .counts);
-        good = closed-grow cut e .good k l;
-        led = λ q. r k l .led q
-            ∙ ap (maskBelow W) (sym (fun-ext (leading-grow K e h k (c k .later) below)));
-      }
+  place-grow cut r k l = stands-grow k _ _ (r k l)
 
   pub run-grow : {a : Run} {c : BookRun} → RunFollows W K h B a c → RunFollows W K (e ∷ h) B a c
-  run-grow F =
-      let G = F .branch in
-      let grown = place-grow (G .closed) (counted-related (G .snapshot) (G .led) (G .closed)) in
-      record {
-        jobs = F .jobs;
-        job = F .job;
-        branch = record {
+  run-grow F = record {
+    jobs = F .jobs;
+    job = F .job;
+    line = λ n.
+        let G = F .line n in
+        let grown = place-grow (G .closed) (counted-related (G .snapshot) (G .led) (G .closed)) in
+        record {
           read = G .read;
           low = G .low;
           snapshot = λ k l. grown k l .counts;
           led = λ q k l. grown k l .led q;
           closed = closed-grow (G .closed) e;
         };
-      }
+  }
 
 -- ---- the master
 
@@ -187,7 +192,7 @@ module _ (s : Store) (b : Book) (F : Follows s b) (r w S : ℕ) (hr : r < s .cou
       let K = s .counts .keys in
       rw (
         taken-counted (s .counts .writers) K (b .history) (b .base) (s .writer w .past) _
-            (s .run r .branch) (b .run r .branch) (F .run r hr .branch) d,
+            (s .run r .branch) (b .run r .branch) (F .run r hr .line 0) d,
         v .past,
         v .count,
         F .counts,

@@ -16,7 +16,7 @@ use Rattle.model.specs.Store.{Store}
 use Rattle.history.specs.History.{History, saved}
 use Rattle.history.specs.Copies.{Copy, leading}
 use Rattle.history.specs.Listing.{Base, noBase, BookCopy}
-use Rattle.history.specs.Book.{Book}
+use Rattle.history.specs.Book.{bookBranch, Book}
 use Rattle.history.proofs.Behind.{past-is-before}
 use Rattle.history.proofs.Leading.{Leader, leading-iff}
 use Rattle.consistency.specs.Leading.{Leads, LedAs, Led, OnPlace, OnPlace.onMaster, OnPlace.onCache, OnPlace.onSnapshot, Named}
@@ -89,7 +89,8 @@ module _ {s : Store} {b : Book} (F : Follows s b) (plain : b .base ≡ noBase) w
       → (c : BookCopy) × Stands s b k v c
   on-place k v l onMaster = (b .master k, master-related F k l)
   on-place k v l (onCache o h) = (b .cache o k, cache-related F o h k l)
-  on-place k v l (onSnapshot r h) = (b .run r .branch .snapshot k, snapshot-related F r h k l)
+  on-place k v l (onSnapshot r n h) =
+      (bookBranch n (b .run r) .snapshot k, snapshot-related F r n h k l)
 
   pub named : (k : ℕ) (v w : Version) → k < s .counts .keys → OnPlace s k v → OnPlace s k w
       → Named (s .counts .writers) k v w

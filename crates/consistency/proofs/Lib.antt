@@ -7,6 +7,7 @@ pub mod UsesAdmitted
 pub mod Excluded
 pub mod ExcludedLeads
 pub mod ExcludedListed
+pub mod ExcludedLines
 pub mod Simulation
 pub mod SimulationPrepare
 pub mod CopyLaws
@@ -23,11 +24,13 @@ pub mod Issuing
 pub mod Covering
 pub mod Marking
 pub mod Stepped
+pub mod Joined
 pub mod Cutting
 pub mod Finished
 pub mod Laws
 pub mod Calls
 pub mod AdmittedCuts
+pub mod AdmittedRuns
 pub mod Admitting
 pub mod Points
 pub mod Theorem

@@ -5,18 +5,19 @@
 -- Assumes nothing.
 use mathlib.Core.Path.{_≡_, refl}
 use mathlib.Core.Bool.{false}
-use mathlib.Core.List.{List, [], _∷_, _++_}
+use mathlib.Core.Logic.{_≢_}
+use mathlib.Core.List.{List, [], _∷_, _++_, map}
 use Prim.Native.Nat.{ℕ, _≤_, _<_}
 use Rattle.words.specs.Tests.{only}
-use Rattle.words.proofs.Bools.{eqb-ne, lt-ltb, ge-ltb}
+use Rattle.words.proofs.Bools.{eqb-ne, ne-eqb, lt-ltb, ge-ltb}
 use Rattle.words.proofs.Lists.{putAt-same, putAt-other}
 use Rattle.model.specs.Version.{Version, unheld, merge}
-use Rattle.model.specs.Store.{branchOf, Store}
-use Rattle.model.specs.Calls.{StoreCall, Query, openRun, fetch, evict, prepare, step, issue, dropRun, allow, pick, mayhold, maysave, ask}
+use Rattle.model.specs.Store.{forkedMark, branchOf, Store}
+use Rattle.model.specs.Calls.{StoreCall, Query, openRun, fetch, evict, prepare, step, issue, dropRun, allow, pick, mayhold, maysave, fork, join, ask}
 use Rattle.history.specs.Book.{bookBranch, Book}
 use Rattle.history.specs.Admission.{admittedPlace}
-use Rattle.consistency.specs.Roles.{prepares, finishes, Role, opening, working, freeing, elsewhere, roleOf, isOn}
-use Rattle.consistency.specs.Trace.{ReadSet, Trace, admittedReads, readNow, finishBy, finish, advance, Among, Among.first, Among.later}
+use Rattle.consistency.specs.Roles.{prepares, finishes, forks, joins, Role, opening, working, freeing, elsewhere, roleOf, isOn}
+use Rattle.consistency.specs.Trace.{ReadSet, onLines, bothLines, Trace, admittedReads, readNow, finishBy, finish, advance, Among, Among.first, Among.later}
 use Rattle.masks.specs.Mask.{testBit}
 use Rattle.layout.specs.Calls.{Call, on, callOn, isOk}
 use Rattle.consistency.specs.Claim.{pickOf, Pick.ofSnapshot, Pick.ofCache, Pick.merged, Pick.neither}
@@ -33,16 +34,18 @@ unfolding pickOf
 picks W k a b = (refl, refl, refl, refl)
 
 -- What each call is to a run.
-pub roles : (r j w S o k : ℕ) (l : List ℕ) (q : Query) → (roleOf (openRun r l) ≡ opening r)
-    × (roleOf (prepare r) ≡ working r prepares) × (roleOf (step r j) ≡ working r (finishes j 0))
+pub roles : (r j n w S o k : ℕ) (l : List ℕ) (q : Query) → (roleOf (openRun r l) ≡ opening r)
+    × (roleOf (prepare r) ≡ working r prepares)
+    × (roleOf (step r j n) ≡ working r (finishes j n))
+    × (roleOf (fork r) ≡ working r forks) × (roleOf (join r) ≡ working r joins)
     × (roleOf (issue r w S) ≡ freeing r) × (roleOf (dropRun r) ≡ freeing r)
     × (roleOf (fetch o k) ≡ elsewhere) × (roleOf (evict o k) ≡ elsewhere)
     × (roleOf (allow o k) ≡ elsewhere) × (roleOf pick ≡ elsewhere)
     × (roleOf (mayhold o k) ≡ elsewhere) × (roleOf (maysave w k) ≡ elsewhere)
     × (roleOf (ask q) ≡ elsewhere)
 unfolding roleOf
-roles r j w S o k l q =
-    (refl, refl, refl, refl, refl, refl, refl, refl, refl, refl, refl, refl)
+roles r j n w S o k l q =
+    (refl, refl, refl, refl, refl, refl, refl, refl, refl, refl, refl, refl, refl, refl)
 
 pub not-ok-finished : (c : Call) (t : Trace) → isOk (callOn c (t .buffer)) ≡ false
     → advance c t .finished ≡ t .finished
@@ -55,6 +58,15 @@ module _ (s : Store) (b : Book) (f : ℕ → List ReadSet) where
       → finishBy (working r (finishes j n)) s b f r ≡ readNow r j n s b ∷ f r
   unfolding finishBy
   step-finishes r j n = putAt-same f r (readNow r j n s b ∷ f r)
+
+  -- CR 10: after the fork each stands on both lines, once joined on line 0.
+  pub fork-finishes : (r : ℕ) → finishBy (working r forks) s b f r ≡ map (onLines bothLines) (f r)
+  unfolding finishBy
+  fork-finishes r = putAt-same f r (map (onLines bothLines) (f r))
+
+  pub join-finishes : (r : ℕ) → finishBy (working r joins) s b f r ≡ map (onLines (only 0)) (f r)
+  unfolding finishBy
+  join-finishes r = putAt-same f r (map (onLines (only 0)) (f r))
 
   -- "A run lasts from its open until it is freed."
   pub frees-finished : (r : ℕ) → (finishBy (opening r) s b f r ≡ [])
@@ -83,11 +95,29 @@ module _ (s : Store) (b : Book) (f : ℕ → List ReadSet) where
   others-finished r (opening x) n = putAt-other f x [] r (eqb-ne r x n)
   others-finished r (working x prepares) n = refl
   others-finished r (working x (finishes j m)) n = putAt-other f x _ r (eqb-ne r x n)
+  others-finished r (working x forks) n = putAt-other f x _ r (eqb-ne r x n)
+  others-finished r (working x joins) n = putAt-other f x _ r (eqb-ne r x n)
   others-finished r (freeing x) n = putAt-other f x [] r (eqb-ne r x n)
   others-finished r elsewhere n = refl
 
--- What an admitted run has read counts as read by one finished job; a run beyond has none.
+-- What each line of an admitted run has read counts as read by one finished job; a run that isn't
+-- forked has one line, a run beyond none.
 pub admitted-read : (s : Store) (r : ℕ) → r < s .counts .runs
+    → s .run r .mark ≡ forkedMark → admittedReads s r ≡ record {
+      keys = testBit (s .run r .branch .read);
+      version = s .run r .branch .snapshot;
+      copy = admittedPlace (s .run r .branch .snapshot);
+      on = only 0;
+    } ∷ record {
+      keys = testBit (s .run r .second .read);
+      version = s .run r .second .snapshot;
+      copy = admittedPlace (s .run r .second .snapshot);
+      on = only 1;
+    } ∷ []
+unfolding admittedReads
+admitted-read s r l e = rw (lt-ltb r (s .counts .runs) l, e) refl
+
+pub admitted-single : (s : Store) (r : ℕ) → r < s .counts .runs → s .run r .mark ≢ forkedMark
     → admittedReads s r ≡ record {
       keys = testBit (s .run r .branch .read);
       version = s .run r .branch .snapshot;
@@ -95,7 +125,7 @@ pub admitted-read : (s : Store) (r : ℕ) → r < s .counts .runs
       on = only 0;
     } ∷ []
 unfolding admittedReads
-admitted-read s r l = rw (lt-ltb r (s .counts .runs) l) refl
+admitted-single s r l w = rw (lt-ltb r (s .counts .runs) l, ne-eqb _ _ w) refl
 
 pub admitted-none : (s : Store) (r : ℕ) → s .counts .runs ≤ r → admittedReads s r ≡ []
 unfolding admittedReads

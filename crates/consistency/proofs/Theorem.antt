@@ -27,7 +27,7 @@ use Rattle.consistency.proofs.Leads.{led-place, named}
 use Rattle.consistency.proofs.Covering.{admissible-now, caches-behind, snapshots-behind}
 use Rattle.consistency.proofs.Marking.{marks-true, marks-copies, within, unbarred}
 use Rattle.consistency.proofs.Cutting.{cuts, overlaps, breaks}
-use Rattle.consistency.proofs.Finished.{read-counted, read-led, read-lists, shared}
+use Rattle.consistency.proofs.Finished.{read-counted, read-led, read-lists, read-placed, read-single, read-kept, shared}
 use Rattle.consistency.proofs.Points.{At, start-at, admitted-at, follow-at}
 
 -- What stands behind of the admitted saves.
@@ -39,7 +39,7 @@ lists-hold s b f I =
           (s .counts .writers) (G .sound);
       master = λ k l. lists-copy G (G .master k l .good);
       caches = λ o l k h. lists-copy G (G .closed o l .good k h);
-      snapshots = λ r l k h. lists-copy G (G .run r l .branch .closed .good k h);
+      snapshots = λ r n l k h. lists-copy G (G .run r l .line n .closed .good k h);
       reads = read-lists s b f I;
       every = λ k u l. ap (λ (p : Clock). p u) (G .master k l .all);
     }
@@ -55,16 +55,20 @@ inv-holds s b f F I =
       cuts = cuts G;
       master = λ k l. G .master k l .counts;
       caches = G .cache;
-      snapshots = λ r l. G .run r l .branch .snapshot;
+      snapshots = λ r n l. G .run r l .line n .snapshot;
       reads = read-counted s b f I;
       leads = λ e. record {
         led-master = led-place G e (master-related G);
         led-caches = λ o l. led-place G e (cache-related G o l);
-        led-snapshots = λ r l. led-place G e (snapshot-related G r l);
+        led-snapshots = λ r n l. led-place G e (snapshot-related G r n l);
         led-reads = read-led s b f I e;
         named = named G e;
       };
-      shared = λ r x y p q _ _ _. shared s b f I F r x y p q;
+      shared = shared s b f I F;
+      placed = read-placed s b f I;
+      single = read-single s b f I;
+      kept = read-kept s b f I;
+      covered = λ r n k l. I .covered r l n k;
       overlaps = overlaps G;
       every-save = λ k i. G .every k i;
       admissible = admissible-now G;
@@ -87,9 +91,9 @@ point-holds t A =
     record {
       formed = form;
       holds = rw back (inv-holds s (t .book) (t .finished) (A .fine) (A .inv));
-      breaks = λ r j.
-          rw (form-rule (step r j) (t .buffer) form, back)
-          (breaks (A .inv .follows) (A .fine) r j 0);
+      breaks = λ r j n.
+          rw (form-rule (step r j n) (t .buffer) form, back)
+          (breaks (A .inv .follows) (A .fine) r j n);
     }
 
 -- Lists from new and from an admission: one proof, by how they begin.

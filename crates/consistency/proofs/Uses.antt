@@ -14,7 +14,7 @@ use Rattle.clock.specs.Clock.{Clock, standingNumber}
 use Rattle.clock.proofs.Standings.{standing-below, standing-self}
 use Rattle.sizes.specs.declared.Counts.{Counts}
 use Rattle.model.specs.Version.{Version, held, dependency, supersedes, versions}
-use Rattle.model.specs.Store.{Store, planned}
+use Rattle.model.specs.Store.{branchOf, Store, planned}
 use Rattle.model.specs.Outcome.{refused, broken, done}
 use Rattle.model.specs.Calls.Look.{lookPlace, lookLimit, rowNumbers, lookStanding, lookNumbers}
 use Rattle.model.specs.Calls.{step}
@@ -25,6 +25,7 @@ use Rattle.layout.specs.Calls.{Call, on, newOn, callOn, isOk, after}
 use Rattle.history.specs.History.{History, HappensBefore, saved, inPast}
 use Rattle.history.specs.Copies.{CopyCount, CountedAs}
 use Rattle.history.specs.Listing.{Base, countedCopy}
+use Rattle.history.specs.Book.{bookBranch}
 use Rattle.consistency.specs.Trace.{ReadSet, Trace, start, follow, Among}
 use Rattle.consistency.specs.Claim.{Pick, Works, Choice, isRefused, isBroken, HoldsAt, Consistent, Demand3}
 use Rattle.consistency.proofs.Rows.{after-append, follow-append, follow-buffer}
@@ -77,15 +78,16 @@ module _ (t : Trace) (H : HoldsAt t) where
   cache-meets o l = causalCut-at (versions W) K (s .site o .cache) (H .holds .cuts o l)
 
   -- "only those sheets are held, and every need among them is met", on each card
-  pub snapshot-within : (r : ℕ) → r < s .counts .runs → (k : ℕ) → k < K
-      → So (held (s .run r .branch .snapshot k)) → So (planned (s .run r .jobs) (s .run r .job) k)
-  snapshot-within r l = overlappingCut-within (versions W) K _ _ (H .holds .overlaps r l)
+  pub snapshot-within : (r n : ℕ) → r < s .counts .runs → (k : ℕ) → k < K
+      → So (held (branchOf n (s .run r) .snapshot k))
+      → So (planned (s .run r .jobs) (s .run r .job) k)
+  snapshot-within r n l = overlappingCut-within (versions W) K _ _ (H .holds .overlaps r n l)
 
-  pub snapshot-meets : (r : ℕ) → r < s .counts .runs → (k d : ℕ) → k < K → d < K
-      → So (planned (s .run r .jobs) (s .run r .job) d) → So (held (s .run r .branch .snapshot k))
-      → So (dependency W k (s .run r .branch .snapshot k) d)
-      → So (supersedes W d (s .run r .branch .snapshot d) (s .run r .branch .snapshot k .past d))
-  snapshot-meets r l = overlappingCut-at (versions W) K _ _ (H .holds .overlaps r l)
+  pub snapshot-meets : (r n : ℕ) → r < s .counts .runs → (k d : ℕ) → k < K → d < K
+      → So (planned (s .run r .jobs) (s .run r .job) d)
+      → let p = branchOf n (s .run r) .snapshot in
+      So (held (p k)) → So (dependency W k (p k) d) → So (supersedes W d (p d) (p k .past d))
+  snapshot-meets r n l = overlappingCut-at (versions W) K _ _ (H .holds .overlaps r n l)
 
   -- "A version on the desk is its copy counted": master, shelves, cards, what jobs have read
   pub master-counted : (k : ℕ) → k < K
@@ -96,10 +98,10 @@ module _ (t : Trace) (H : HoldsAt t) where
       → Same (s .site o .cache k) (countedCopy K h B (t .book .cache o k))
   cache-counted o l k i = same (H .holds .caches o l k i)
 
-  pub snapshot-counted : (r : ℕ) → r < s .counts .runs → (k : ℕ) → k < K
-      → Same (s .run r .branch .snapshot k)
-      (countedCopy K h B (t .book .run r .branch .snapshot k))
-  snapshot-counted r l k i = same (H .holds .snapshots r l k i)
+  pub snapshot-counted : (r n : ℕ) → r < s .counts .runs → (k : ℕ) → k < K
+      → Same (branchOf n (s .run r) .snapshot k)
+      (countedCopy K h B (bookBranch n (t .book .run r) .snapshot k))
+  snapshot-counted r n l k i = same (H .holds .snapshots r n l k i)
 
   pub read-counted : (r : ℕ) (x : ReadSet) → Among x (t .finished r) → (k : ℕ) → k < K
       → So (x .keys k) → Same (x .version k) (countedCopy K h B (x .copy k))
@@ -113,9 +115,9 @@ module _ (t : Trace) (H : HoldsAt t) where
       → s .site o .cache k .past k w ≤ s .master k .past k w
   cache-not-ahead o l k h = standing-below W _ _ .1 (H .holds .behind-caches o l k h)
 
-  pub snapshot-not-ahead : (r : ℕ) → r < s .counts .runs → (k : ℕ) → k < K → (w : ℕ) → w < W
-      → s .run r .branch .snapshot k .past k w ≤ s .master k .past k w
-  snapshot-not-ahead r l k h = standing-below W _ _ .1 (H .holds .behind-snapshots r l k h)
+  pub snapshot-not-ahead : (r n : ℕ) → r < s .counts .runs → (k : ℕ) → k < K → (w : ℕ) → w < W
+      → branchOf n (s .run r) .snapshot k .past k w ≤ s .master k .past k w
+  snapshot-not-ahead r n l k h = standing-below W _ _ .1 (H .holds .behind-snapshots r n l k h)
 
   -- So a look, whatever place it asks for, tells equal or older,
   pub look-not-ahead : (p i k : ℕ) → i < lookLimit (s .counts) p → k < K
@@ -125,7 +127,7 @@ module _ (t : Trace) (H : HoldsAt t) where
       test (eqb p 0) (λ y. rw y (inl (standing-self W (s .master k .past k)))) (λ n.
       test (eqb p 1)
       (λ y. rw (n, y) (H .holds .behind-caches i (rw (n, y) at h) k l))
-      (λ m. rw (n, m) (H .holds .behind-snapshots i (rw (n, m) at h) k l)))
+      (λ m. rw (n, m) (H .holds .behind-snapshots i 0 (rw (n, m) at h) k l)))
 
   -- and its last number is 0 or 1.
   pub look-last : (p i k : ℕ) → i < lookLimit (s .counts) p → k < K → let v = lookPlace s p i k in
@@ -167,30 +169,31 @@ module _ (t : Trace) (H : HoldsAt t) where
     λ u v w. H .holds .shared r y x q p n o m .included e i d j le ld u v w b,
   )
 
-  -- The step of run r's job j as a call on the buffer: a done one has a choice that works,
-  pub done-works : (r j : ℕ) (a : List ℕ) (u : Store)
-      → callOn (on (step r j)) (t .buffer) ≡ done a u → Choice s r j 0
+  -- The step of run r's job j on line n as a call on the buffer: a done one has a choice that
+  -- works,
+  pub done-works : (r j n : ℕ) (a : List ℕ) (u : Store)
+      → callOn (on (step r j n)) (t .buffer) ≡ done a u → Choice s r j n
   unfolding isOk
-  done-works r j a u e = H .breaks r j .works (rw e refl)
+  done-works r j n a u e = H .breaks r j n .works (rw e refl)
 
-  pub done-pick : (r j : ℕ) (a : List ℕ) (u : Store)
-      → callOn (on (step r j)) (t .buffer) ≡ done a u → (pick : ℕ → Pick) × Works s r j 0 pick
+  pub done-pick : (r j n : ℕ) (a : List ℕ) (u : Store)
+      → callOn (on (step r j n)) (t .buffer) ≡ done a u → (pick : ℕ → Pick) × Works s r j n pick
   done-pick = done-works
 
   -- a broken one has none,
-  pub broken-none : (r j m : ℕ) (u : Store) → callOn (on (step r j)) (t .buffer) ≡ broken m u
-      → ¬ (Choice s r j 0)
+  pub broken-none : (r j n m : ℕ) (u : Store) → callOn (on (step r j n)) (t .buffer) ≡ broken m u
+      → ¬ (Choice s r j n)
   unfolding isRefused isBroken
-  broken-none r j m u e = H .breaks r j .exactly (rw e refl) .0 (rw e refl)
+  broken-none r j n m u e = H .breaks r j n .exactly (rw e refl) .0 (rw e refl)
 
-  pub broken-pick : (r j m : ℕ) (u : Store) → callOn (on (step r j)) (t .buffer) ≡ broken m u
-      → (pick : ℕ → Pick) → ¬ (Works s r j 0 pick)
-  broken-pick r j m u e pick w = broken-none r j m u e (pick, w)
+  pub broken-pick : (r j n m : ℕ) (u : Store) → callOn (on (step r j n)) (t .buffer) ≡ broken m u
+      → (pick : ℕ → Pick) → ¬ (Works s r j n pick)
+  broken-pick r j n m u e pick w = broken-none r j n m u e (pick, w)
 
   -- and one that is not refused is broken if there is none.
-  pub none-broken : (r j : ℕ) → isRefused (callOn (on (step r j)) (t .buffer)) ≡ false
-      → ¬ (Choice s r j 0) → So (isBroken (callOn (on (step r j)) (t .buffer)))
-  none-broken r j n g = H .breaks r j .exactly n .1 g
+  pub none-broken : (r j n : ℕ) → isRefused (callOn (on (step r j n)) (t .buffer)) ≡ false
+      → ¬ (Choice s r j n) → So (isBroken (callOn (on (step r j n)) (t .buffer)))
+  none-broken r j n x g = H .breaks r j n .exactly x .1 g
 
 -- ---- lists
 

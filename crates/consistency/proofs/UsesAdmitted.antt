@@ -15,7 +15,7 @@ use Rattle.masks.specs.Mask.{testBit}
 use Rattle.clock.specs.Clock.{Clock}
 use Rattle.sizes.specs.declared.Counts.{Counts}
 use Rattle.model.specs.Version.{Version}
-use Rattle.model.specs.Store.{Store}
+use Rattle.model.specs.Store.{branchOf, Store}
 use Rattle.model.specs.Outcome.{refuse, told}
 use Rattle.model.specs.Calls.Admit.{admissible, admitCause, admitReply}
 use Rattle.model.specs.Calls.{admit, ask, replyOf}
@@ -26,7 +26,7 @@ use Rattle.history.specs.History.{History}
 use Rattle.history.specs.Copies.{CountedAs, counted}
 use Rattle.history.specs.Listing.{Base, noBase, BookCopy, countedCopy}
 use Rattle.history.specs.Lists.{ListedBefore, ListedBehind, listOf}
-use Rattle.history.specs.Book.{freshBook}
+use Rattle.history.specs.Book.{bookBranch, freshBook}
 use Rattle.history.proofs.Plain.{Plain, lists-plain, counted-plain}
 use Rattle.history.proofs.Bases.{step-base}
 use Rattle.consistency.specs.Trace.{ReadSet, Among, Trace, start, admitted, advance, follow}
@@ -82,9 +82,9 @@ module _ (t : Trace) (H : HoldsAt t) where
   pub cache-lists : (o k : ℕ) → o < s .counts .sites → k < K → Own (t .book .cache o k)
   cache-lists o k i l = own (H .holds .lists .caches o i k l)
 
-  pub snapshot-lists : (r k : ℕ) → r < s .counts .runs → k < K
-      → Own (t .book .run r .branch .snapshot k)
-  snapshot-lists r k i l = own (H .holds .lists .snapshots r i k l)
+  pub snapshot-lists : (r n k : ℕ) → r < s .counts .runs → k < K
+      → Own (bookBranch n (t .book .run r) .snapshot k)
+  snapshot-lists r n k i l = own (H .holds .lists .snapshots r n i k l)
 
   pub read-lists : (r : ℕ) (x : ReadSet) → Among x (t .finished r) → (k : ℕ) → k < K
       → So (x .keys k) → Own (x .copy k)
@@ -162,8 +162,9 @@ module _ (claim : Demand3) (l : List ℕ) (z : Counts) (ok : So (isOk (newOn l z
       → AsBefore (desk .master k) (now .book .master k)
       × ((o : ℕ) → o < desk .counts .sites
       → AsBefore (desk .site o .cache k) (now .book .cache o k))
-      × ((r : ℕ) → r < desk .counts .runs
-      → AsBefore (desk .run r .branch .snapshot k) (now .book .run r .branch .snapshot k))
+      × ((r n : ℕ) → r < desk .counts .runs
+      → AsBefore (branchOf n (desk .run r) .snapshot k)
+      (bookBranch n (now .book .run r) .snapshot k))
       × ((r : ℕ) (x : ReadSet) → Among x (now .finished r) → So (x .keys k)
       → AsBefore (x .version k) (x .copy k))
   new-plain k i =
@@ -171,8 +172,9 @@ module _ (claim : Demand3) (l : List ℕ) (z : Counts) (ok : So (isOk (newOn l z
         as-before (desk .master k) (now .book .master k) (H .lists .master k i) (H .master k i),
         λ o m. as-before (desk .site o .cache k) (now .book .cache o k) (H .lists .caches o m k i)
             (H .caches o m k i),
-        λ r m. as-before (desk .run r .branch .snapshot k) (now .book .run r .branch .snapshot k)
-            (H .lists .snapshots r m k i) (H .snapshots r m k i),
+        λ r n m. as-before (branchOf n (desk .run r) .snapshot k)
+            (bookBranch n (now .book .run r) .snapshot k) (H .lists .snapshots r n m k i)
+            (H .snapshots r n m k i),
         λ r x p q. as-before (x .version k) (x .copy k) (H .lists .reads r x p k i q)
             (H .reads r x p k i q),
       )

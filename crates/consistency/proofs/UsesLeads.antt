@@ -11,7 +11,8 @@ use Rattle.words.proofs.Tests.{any-intro}
 use Rattle.masks.specs.Mask.{testBit, maskBelow}
 use Rattle.masks.proofs.Sets.{set-none}
 use Rattle.model.specs.Version.{Version, held, leadsOn, mergedLeaders, larger, merge}
-use Rattle.model.specs.Store.{Store}
+use Rattle.model.specs.Store.{branchOf, Store}
+use Rattle.history.specs.Book.{bookBranch}
 use Rattle.model.proofs.Merges.{version-path, merge-both}
 use Rattle.layout.specs.Reading.{storeOf}
 use Rattle.history.specs.History.{History, HappensBefore, writerOf}
@@ -77,9 +78,10 @@ module _ (t : Trace) (H : HoldsAt t) (plain : t .book .base ≡ noBase) where
       → Names k (s .site o .cache k .leaders) (t .book .cache o k .later)
   cache-led o l k i = names (H .holds .leads plain .led-caches o l k i)
 
-  pub snapshot-led : (r : ℕ) → r < s .counts .runs → (k : ℕ) → k < K
-      → Names k (s .run r .branch .snapshot k .leaders) (t .book .run r .branch .snapshot k .later)
-  snapshot-led r l k i = names (H .holds .leads plain .led-snapshots r l k i)
+  pub snapshot-led : (r n : ℕ) → r < s .counts .runs → (k : ℕ) → k < K
+      → Names k (branchOf n (s .run r) .snapshot k .leaders)
+      (bookBranch n (t .book .run r) .snapshot k .later)
+  snapshot-led r n l k i = names (H .holds .leads plain .led-snapshots r n l k i)
 
   pub read-led : (r : ℕ) (x : ReadSet) → Among x (t .finished r) → (k : ℕ) → k < K
       → So (x .keys k) → Names k (x .version k .leaders) (x .copy k .later)
@@ -106,9 +108,16 @@ module _ (t : Trace) (H : HoldsAt t) (plain : t .book .base ≡ noBase) where
       → Named W k (s .site o .cache k) (s .site q .cache k)
   caches-named o q k l j i = H .holds .leads plain .named k _ _ i (onCache o l) (onCache q j)
 
-  pub snapshot-named : (r o k : ℕ) → r < s .counts .runs → o < s .counts .sites → k < K
-      → Named W k (s .run r .branch .snapshot k) (s .site o .cache k)
-  snapshot-named r o k l j i = H .holds .leads plain .named k _ _ i (onSnapshot r l) (onCache o j)
+  pub snapshot-named : (r n o k : ℕ) → r < s .counts .runs → o < s .counts .sites → k < K
+      → Named W k (branchOf n (s .run r) .snapshot k) (s .site o .cache k)
+  snapshot-named r n o k l j i =
+      H .holds .leads plain .named k _ _ i (onSnapshot r n l) (onCache o j)
+
+  -- of the two cards that a join merges,
+  pub lines-named : (r k : ℕ) → r < s .counts .runs → k < K
+      → Named W k (s .run r .branch .snapshot k) (s .run r .second .snapshot k)
+  lines-named r k l i =
+      H .holds .leads plain .named k _ _ i (onSnapshot r 0 l) (onSnapshot r 1 l)
 
   -- so that the merged mask is whom the two masks name.
   pub merge-by-masks : (k : ℕ) (v w : Version) → k < K → OnPlace s k v → OnPlace s k w

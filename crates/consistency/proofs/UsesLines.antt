@@ -1,102 +1,105 @@
--- On which lines what was read stands (CR 10): on line 0, since no call works on another.
--- OnFirst: each entry of each run does. always-first: at each point of every list.
--- always-shared: so any two finished jobs of a run share a snapshot, whatever the line.
+-- What the claim gives of two lines of one run (CR 10), from the claim alone.
+-- unforked-shared: in a run that isn't forked, so never or joined, any two finished jobs share a
+-- snapshot. fork-both, before-shared: what was done before the fork shares one with each.
+-- step-on, same-shared: two on one line. joined-shared: once their lines are joined. still-read,
+-- some-read: what was read is on the card, and by whom.
 -- Assumes nothing.
-use mathlib.Core.Path.{refl, sym}
+use mathlib.Core.Path.{_≡_, refl, sym, _∙_}
 use mathlib.Core.Bool.{So}
-use mathlib.Core.List.{List, [], _∷_, append-nil}
-use Prim.Native.Nat.{ℕ}
-use lib.Dec.{ltb}
-use Rattle.words.specs.Tests.{only}
+use mathlib.Core.Logic.{_≢_, inl, inr}
+use mathlib.Core.List.{List, [], _∷_, map}
+use Prim.Native.Nat.{ℕ, _<_}
+use native.Mathlib.Omega.{arith}
+use Rattle.words.specs.Tests.{Items, only}
 use Rattle.words.specs.Lists.{putAt}
-use Rattle.words.proofs.Bools.{test}
-use Rattle.words.proofs.Lists.{putAt-cases}
-use Rattle.model.specs.Store.{Store}
-use Rattle.model.specs.Calls.{StoreCall, openRun, fetch, evict, prepare, step, issue, dropRun, allow, pick, mayhold, maysave, ask}
+use Rattle.words.proofs.Bools.{lt-ltb}
+use Rattle.words.proofs.Lists.{putAt-same}
+use Rattle.masks.specs.Mask.{testBit}
+use Rattle.model.specs.Store.{forkedMark, branchOf, Store}
+use Rattle.model.specs.Calls.{step, fork, join}
 use Rattle.layout.specs.Reading.{storeOf}
-use Rattle.layout.specs.Calls.{Call, new, on, callOn, isOk}
-use Rattle.history.specs.Book.{Book}
+use Rattle.layout.specs.Calls.{on, callOn, isOk}
 use Rattle.consistency.specs.Roles.{roleOf}
-use Rattle.consistency.specs.Trace.{ReadSet, Among, first, later, Trace, start, admittedReads, admitted, readNow, finishBy, finish, advance, follow}
-use Rattle.consistency.specs.Claim.{Snapshot, Began, byNew, byAdmission, BeganConsistent}
+use Rattle.consistency.specs.Trace.{ReadSet, onLines, bothLines, Among, first, later, Trace, readNow, finishBy, finish, advance}
+use Rattle.consistency.specs.Claim.{Snapshot, HoldsAt}
 
-abbrev pub AllFirst : List ReadSet → Type 0
-AllFirst xs = (x : ReadSet) → Among x xs → So (x .on 0)
+-- Two finished jobs of run r at a point.
+abbrev Shares : Trace → ReadSet → ReadSet → Type 0
+Shares t x y =
+    let s = storeOf (t .buffer) in
+    Snapshot (s .counts .keys) (s .counts .writers) (t .book .history) (t .book .base) x y
 
--- What has been read, run by run.
-abbrev pub OnFirst : (ℕ → List ReadSet) → Type 0
-OnFirst f = (r : ℕ) → AllFirst (f r)
+module _ (t : Trace) (H : HoldsAt t) (r : ℕ) (x y : ReadSet) (p : Among x (t .finished r))
+    (q : Among y (t .finished r)) where
+  -- "two finished jobs of one run, at one office or two, share one causal snapshot"
+  pub unforked-shared : storeOf (t .buffer) .run r .mark ≢ forkedMark → Shares t x y
+  unforked-shared w =
+      H .holds .shared r x y p q 0 (H .holds .single r x p w) (H .holds .single r y q w)
 
-none-first : AllFirst []
-none-first x i = elim i [ ]
+  -- "two share one if on one line"
+  pub same-shared : (n : ℕ) → So (x .on n) → So (y .on n) → Shares t x y
+  same-shared = H .holds .shared r x y p q
 
-one-more : (y : ReadSet) (xs : List ReadSet) → So (y .on 0) → AllFirst xs → AllFirst (y ∷ xs)
-one-more y xs p F x first = p
-one-more y xs p F x (later i) = F x i
+  -- "or if one was done before the fork": it stands on both.
+  pub before-shared : ((n : ℕ) → n < 2 → So (x .on n)) → Shares t x y
+  before-shared both = elim (H .holds .placed r y q) [
+    | inl o ↦ H .holds .shared r x y p q 0 (both 0 (omega arith)) o
+    | inr o ↦ H .holds .shared r x y p q 1 (both 1 (omega arith)) o
+  ]
 
-put-first : (f : ℕ → List ReadSet) (r : ℕ) (xs : List ReadSet) → OnFirst f → AllFirst xs
-    → OnFirst (putAt f r xs)
-put-first f r xs F G q = putAt-cases AllFirst f r xs q (λ _. G) (λ _. F q)
+module _ (t : Trace) (H : HoldsAt t) (r n k : ℕ) (h : k < storeOf (t .buffer) .counts .keys) where
+  -- What was read is still the version on the card: so "the version that was read" is the card's.
+  pub still-read : (x : ReadSet) → Among x (t .finished r) → So (x .on n) → So (x .keys k)
+      → (branchOf n (storeOf (t .buffer) .run r) .snapshot k ≡ x .version k)
+      × So (testBit (branchOf n (storeOf (t .buffer) .run r) .read) k)
+  still-read x p o q = H .holds .kept r x p n k o h q
 
--- ---- a call
+  -- And what a line's read mask has, some finished job on that line has read.
+  pub some-read : r < storeOf (t .buffer) .counts .runs → n < 2
+      → So (testBit (branchOf n (storeOf (t .buffer) .run r) .read) k)
+      → (x : ReadSet) × Among x (t .finished r) × So (x .on n) × So (x .keys k)
+  some-read l o p = H .holds .covered r n k l o h p
 
-module _ (s : Store) (b : Book) (f : ℕ → List ReadSet) (F : OnFirst f) where
-  call-first : (c : StoreCall) → OnFirst (finishBy (roleOf c) s b f)
-  unfolding roleOf finishBy readNow only
-  call-first (openRun r l) = put-first f r [] F none-first
-  call-first (fetch o k) = F
-  call-first (evict o k) = F
-  call-first (prepare r) = F
-  call-first (step r j) =
-      let x = readNow r j 0 s b in
-      put-first f r (x ∷ f r) F (one-more x (f r) refl (F r))
-  call-first (issue r w S) = put-first f r [] F none-first
-  call-first (dropRun r) = put-first f r [] F none-first
-  call-first (allow o n) = F
-  call-first pick = F
-  call-first (mayhold o m) = F
-  call-first (maysave w m) = F
-  call-first (ask q) = F
+-- ---- the calls
 
-  finish-first : (c : Call) → OnFirst (finish c s b f)
-  unfolding finish
-  finish-first (new k w n p) = λ r. none-first
-  finish-first (on c) = call-first c
+-- One of these stands on these lines.
+on-these : {x : ReadSet} (lines : Items) (xs : List ReadSet) → Among x (map (onLines lines) xs)
+    → x .on ≡ lines
+on-these lines (y ∷ ys) first = refl
+on-these lines (y ∷ ys) (later i) = on-these lines ys i
 
-advance-first : (c : Call) (t : Trace) → OnFirst (t .finished) → OnFirst (advance c t .finished)
-unfolding advance
-advance-first c t F =
-    test (isOk (callOn c (t .buffer))) (λ y. rw y (finish-first _ _ (t .finished) F c))
-    (λ n. rw n F)
+module _ (t : Trace) (r : ℕ) (x : ReadSet) where
+  -- After an accepted fork all that its jobs have read stands on both lines,
+  pub fork-both : So (isOk (callOn (on (fork r)) (t .buffer)))
+      → Among x (advance (on (fork r)) t .finished r) → (n : ℕ) → n < 2 → So (x .on n)
+  unfolding advance finish finishBy roleOf
+  fork-both ok i n l =
+      let f = t .finished in
+      let xs = map (onLines bothLines) (f r) in
+      let j : Among x (putAt f r xs r) = rw ok at i in
+      rw (on-these bothLines (f r) (rw (putAt-same f r xs) at j)) (lt-ltb n 2 l)
 
--- ---- lists
+  -- a job that is stepped on its own line,
+  pub step-on : (j n : ℕ) → So (isOk (callOn (on (step r j n)) (t .buffer)))
+      → let u = advance (on (step r j n)) t in
+      Among (readNow r j n (storeOf (u .buffer)) (u .book)) (u .finished r)
+      × (readNow r j n (storeOf (u .buffer)) (u .book) .on ≡ only n)
+  unfolding advance finish finishBy roleOf readNow
+  step-on j n ok = (rw (ok, putAt-same) first, refl)
 
-follow-first : (cs : List Call) (t : Trace) → OnFirst (t .finished)
-    → OnFirst (follow cs t .finished)
-unfolding follow
-follow-first [] t F = F
-follow-first (c ∷ cs) t F = follow-first cs (advance c t) (advance-first c t F)
+  -- and once they are joined, on line 0 again:
+  pub join-first : So (isOk (callOn (on (join r)) (t .buffer)))
+      → Among x (advance (on (join r)) t .finished r) → So (x .on 0)
+  unfolding advance finish finishBy roleOf only
+  join-first ok i =
+      let f = t .finished in
+      let xs = map (onLines (only 0)) (f r) in
+      let j : Among x (putAt f r xs r) = rw ok at i in
+      rw (on-these (only 0) (f r) (rw (putAt-same f r xs) at j)) refl
 
--- What the runs of an admitted store had read.
-admitted-first : (s : Store) → OnFirst (admittedReads s)
-unfolding admittedReads only
-admitted-first s r =
-    test (ltb r (s .counts .runs)) (λ y. rw y (one-more _ [] refl none-first))
-    (λ n. rw n none-first)
-
-began-first : (t : Trace) → Began t → OnFirst (t .finished)
-unfolding start admitted
-began-first t (byNew l z ok) = λ r. none-first
-began-first t (byAdmission l ok) = admitted-first (storeOf l)
-
-pub always-first : (t : Trace) → Began t → (cs : List Call) → OnFirst (follow cs t .finished)
-always-first t B cs = follow-first cs t (began-first t B)
-
--- "two finished jobs of one run, at one office or two, share one causal snapshot"
-pub always-shared : BeganConsistent → (t : Trace) → Began t → (cs : List Call)
-    → let u = follow cs t in let s = storeOf (u .buffer) in
-    (r : ℕ) (x y : ReadSet) → Among x (u .finished r) → Among y (u .finished r)
-    → Snapshot (s .counts .keys) (s .counts .writers) (u .book .history) (u .book .base) x y
-always-shared claim t B cs r x y p q =
-    claim t B cs cs [] (sym (append-nil cs)) .holds .shared r x y p q 0
-    (always-first t B cs r x p) (always-first t B cs r y q)
+-- "Two jobs on different lines share a snapshot once their lines are joined".
+pub joined-shared : (t : Trace) (r : ℕ) (x y : ReadSet)
+    → So (isOk (callOn (on (join r)) (t .buffer))) → let u = advance (on (join r)) t in
+    HoldsAt u → Among x (u .finished r) → Among y (u .finished r) → Shares u x y
+joined-shared t r x y ok H p q =
+    H .holds .shared r x y p q 0 (join-first t r x ok p) (join-first t r y ok q)

@@ -40,30 +40,31 @@ module _ (lasting : Lasting) (l : List ℕ) (r : ℕ) (F : So (inForm l)) where
   drop-frees p = lasting l (dropRun r) r F .freed (and-intro (eq-eqb r r refl) p)
 
   -- and a step leaves it in use, with its jobs.
-  pub step-goes-on : (j : ℕ) → storeOf l .run r .state ≢ freeState
-      → (next (step r j) .state ≢ freeState) × (next (step r j) .jobs ≡ storeOf l .run r .jobs)
+  pub step-goes-on : (j n : ℕ) → storeOf l .run r .state ≢ freeState
+      → (next (step r j n) .state ≢ freeState) × (next (step r j n) .jobs ≡ storeOf l .run r .jobs)
   unfolding roleOf frees
-  step-goes-on j u =
-      let G = lasting l (step r j) r F .lasts u refl in
+  step-goes-on j n u =
+      let G = lasting l (step r j n) r F .lasts u refl in
       (G .used, G .jobs)
 
-  pub works-on : (j i : ℕ) → storeOf l .run r .state ≢ freeState
-      → (next (step r j) .job i ≡ storeOf l .run r .job i) × (next (prepare r) .state ≢ freeState)
+  pub works-on : (j n i : ℕ) → storeOf l .run r .state ≢ freeState
+      → (next (step r j n) .job i ≡ storeOf l .run r .job i)
+      × (next (prepare r) .state ≢ freeState)
       × (next (prepare r) .job i ≡ storeOf l .run r .job i)
   unfolding roleOf frees
-  works-on j i u =
-      let G = lasting l (step r j) r F .lasts u refl in
+  works-on j n i u =
+      let G = lasting l (step r j n) r F .lasts u refl in
       let H = lasting l (prepare r) r F .lasts u refl in
       (G .job i, H .used, H .job i)
 
   -- Fetch, evict and the calls that only answer leave every run, and a step every other one.
-  pub others-stay : (o k x j : ℕ) (q : Query) → r ≢ x → let a = storeOf l .run r in
+  pub others-stay : (o k x j n : ℕ) (q : Query) → r ≢ x → let a = storeOf l .run r in
       (next (fetch o k) ≡ a) × (next (evict o k) ≡ a) × (next (ask q) ≡ a)
-      × (next (step x j) ≡ a)
+      × (next (step x j n) ≡ a)
   unfolding roleOf isOn
-  others-stay o k x j q n = (
+  others-stay o k x j n q w = (
     lasting l (fetch o k) r F .others refl,
     lasting l (evict o k) r F .others refl,
     lasting l (ask q) r F .others refl,
-    lasting l (step x j) r F .others (ne-eqb r x n),
+    lasting l (step x j n) r F .others (ne-eqb r x w),
   )

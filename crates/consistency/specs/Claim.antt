@@ -6,7 +6,7 @@
 -- Assumes nothing.
 use mathlib.Core.Path.{_≡_}
 use mathlib.Core.Bool.{Bool, true, false, cond, So}
-use mathlib.Core.Logic.{_↔_, _⊎_}
+use mathlib.Core.Logic.{_↔_, _⊎_, _≢_}
 use mathlib.Core.List.{List, _++_}
 use Prim.Native.Nat.{ℕ, _≤_, _<_}
 use Rattle.masks.specs.Mask.{testBit}
@@ -17,7 +17,7 @@ use Rattle.model.specs.Algebra.{Place, needsMet, causalCut, overlappingCut}
 use Rattle.model.specs.Version.{Version, held, merge, unheld, versions}
 use Rattle.model.specs.Marks.{staleMask}
 use Rattle.model.specs.Allowance.{heldCount}
-use Rattle.model.specs.Store.{Store, planned}
+use Rattle.model.specs.Store.{forkedMark, branchOf, Store, planned}
 use Rattle.model.specs.Outcome.{Outcome, refused, broken, done, told}
 use Rattle.model.specs.Calls.Admit.{admissible}
 use Rattle.model.specs.Calls.{step, admit, ask}
@@ -29,7 +29,7 @@ use Rattle.history.specs.History.{History, HappensBefore, saved, inPast}
 use Rattle.history.specs.Copies.{CountedAs}
 use Rattle.history.specs.Listing.{Base, noBase, BookCopy, countedCopy}
 use Rattle.history.specs.Lists.{IncludesAdmitted, ListedBehind}
-use Rattle.history.specs.Book.{Book}
+use Rattle.history.specs.Book.{bookBranch, Book}
 use Rattle.consistency.specs.Trace.{ReadSet, Among, Trace, start, admitted, follow}
 use Rattle.consistency.specs.Leading.{Leading}
 use Rattle.consistency.specs.Listed.{ListsHold}
@@ -153,21 +153,35 @@ pub record Holds (s : Store) (b : Book) (finished : ℕ → List ReadSet) : Type
   pub master : Counted (s .counts .keys) (b .history) (b .base) (s .master) (b .master)
   pub caches : (o : ℕ) → o < s .counts .sites
       → Counted (s .counts .keys) (b .history) (b .base) (s .site o .cache) (b .cache o)
-  pub snapshots : (r : ℕ) → r < s .counts .runs
-      → Counted (s .counts .keys) (b .history) (b .base) (s .run r .branch .snapshot)
-      (b .run r .branch .snapshot)
+  pub snapshots : (r n : ℕ) → r < s .counts .runs
+      → Counted (s .counts .keys) (b .history) (b .base) (branchOf n (s .run r) .snapshot)
+      (bookBranch n (b .run r) .snapshot)
   pub reads : (r : ℕ) (x : ReadSet) → Among x (finished r)
       → ReadCounted (s .counts .keys) (b .history) (b .base) x
   -- The masks, of a list from new: an admitted desk's are free.
   pub leads : b .base ≡ noBase → Leading s b finished
-  -- (c), of two on one line: "two share one if on one line" (CR 10)
+  -- (c), CR 10: "two share one if on one line, or if one was done before the fork", and "once
+  -- their lines are joined"
   pub shared : (r : ℕ) (x y : ReadSet) → Among x (finished r) → Among y (finished r)
       → (n : ℕ) → So (x .on n) → So (y .on n)
       → Snapshot (s .counts .keys) (s .counts .writers) (b .history) (b .base) x y
+  -- Each stands on a line, in a run that isn't forked on line 0: there any two share one.
+  pub placed : (r : ℕ) (x : ReadSet) → Among x (finished r) → So (x .on 0) ⊎ So (x .on 1)
+  pub single : (r : ℕ) (x : ReadSet) → Among x (finished r) → s .run r .mark ≢ forkedMark
+      → So (x .on 0)
+  -- What one has read is still on the card of each line on which it stands, and read there; and
+  -- all that was read on a line some finished job on it has read.
+  pub kept : (r : ℕ) (x : ReadSet) → Among x (finished r) → (n k : ℕ) → So (x .on n)
+      → k < s .counts .keys → So (x .keys k)
+      → (branchOf n (s .run r) .snapshot k ≡ x .version k)
+      × So (testBit (branchOf n (s .run r) .read) k)
+  pub covered : (r n k : ℕ) → r < s .counts .runs → n < 2 → k < s .counts .keys
+      → So (testBit (branchOf n (s .run r) .read) k)
+      → (x : ReadSet) × Among x (finished r) × So (x .on n) × So (x .keys k)
   -- Besides: each card is a keyset-overlapping cut for its plan, and the master holds every save.
-  pub overlaps : (r : ℕ) → r < s .counts .runs
+  pub overlaps : (r n : ℕ) → r < s .counts .runs
       → So (overlappingCut (versions (s .counts .writers)) (s .counts .keys)
-      (planned (s .run r .jobs) (s .run r .job)) (s .run r .branch .snapshot))
+      (planned (s .run r .jobs) (s .run r .job)) (branchOf n (s .run r) .snapshot))
   pub every-save : (k i : ℕ) → k < s .counts .keys → So (saved (b .history) k i)
       → So (b .master k .later i)
   -- CR 6: it would be admitted.
@@ -175,8 +189,9 @@ pub record Holds (s : Store) (b : Book) (finished : ℕ → List ReadSet) : Type
   -- No copy is ahead of the master's.
   pub behind-caches : (o : ℕ) → o < s .counts .sites
       → NotAhead (s .counts .writers) (s .counts .keys) (s .master) (s .site o .cache)
-  pub behind-snapshots : (r : ℕ) → r < s .counts .runs
-      → NotAhead (s .counts .writers) (s .counts .keys) (s .master) (s .run r .branch .snapshot)
+  pub behind-snapshots : (r n : ℕ) → r < s .counts .runs
+      → NotAhead (s .counts .writers) (s .counts .keys) (s .master)
+      (branchOf n (s .run r) .snapshot)
   -- A shelf's copy is a part of the master's.
   pub caches-part : (o k i : ℕ) → o < s .counts .sites → k < s .counts .keys
       → So (b .cache o k .later i) → So (b .master k .later i)
@@ -197,12 +212,12 @@ pub record Holds (s : Store) (b : Book) (finished : ℕ → List ReadSet) : Type
       → So (held (s .site o .cache k)) → So (testBit (s .tail .mayHold o) k)
 
 -- At a point: the buffer is in form too, so that a store that spoils itself and then refuses all
--- won't do. (d) is about the step as a call on that buffer, on branch 0.
+-- won't do. (d) is about the step as a call on that buffer, on each branch.
 pub record HoldsAt (t : Trace) : Type 0 where
   pub formed : So (inForm (t .buffer))
   pub holds : Holds (storeOf (t .buffer)) (t .book) (t .finished)
-  pub breaks : (r j : ℕ)
-      → BreakExact (callOn (on (step r j)) (t .buffer)) (storeOf (t .buffer)) r j 0
+  pub breaks : (r j n : ℕ)
+      → BreakExact (callOn (on (step r j n)) (t .buffer)) (storeOf (t .buffer)) r j n
 
 -- ---- the claim about the list: it holds at each of its points, the first and the last included
 

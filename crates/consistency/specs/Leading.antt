@@ -10,11 +10,11 @@ use Prim.Native.Nat.{ℕ, _≤_, _<_}
 use Rattle.masks.specs.Mask.{testBit, maskBelow}
 use Rattle.model.specs.Algebra.{Place}
 use Rattle.model.specs.Version.{Version, held, leadsOn}
-use Rattle.model.specs.Store.{Store}
+use Rattle.model.specs.Store.{branchOf, Store}
 use Rattle.history.specs.History.{History, HappensBefore, writerOf}
 use Rattle.history.specs.Copies.{Copy, leading}
 use Rattle.history.specs.Listing.{BookCopy}
-use Rattle.history.specs.Book.{Book}
+use Rattle.history.specs.Book.{bookBranch, Book}
 use Rattle.consistency.specs.Trace.{ReadSet, Among}
 
 -- Writer u is one "whose last included save stands behind no other included save", in a copy
@@ -38,7 +38,7 @@ Led W K h p c = (k : ℕ) → k < K → LedAs W K h k (p k .leaders) (c k .later
 pub data OnPlace (s : Store) (k : ℕ) : Version → Type 0 where
   onMaster : OnPlace s k (s .master k)
   onCache : (o : ℕ) → o < s .counts .sites → OnPlace s k (s .site o .cache k)
-  onSnapshot : (r : ℕ) → r < s .counts .runs → OnPlace s k (s .run r .branch .snapshot k)
+  onSnapshot : (r n : ℕ) → r < s .counts .runs → OnPlace s k (branchOf n (s .run r) .snapshot k)
 
 -- "if that names nobody" doesn't happen: in a merge of two held versions of key k somebody leads
 -- by his side's mask. At a point this is claimed of versions on places; of the merges inside
@@ -54,9 +54,9 @@ pub record Leading (s : Store) (b : Book) (finished : ℕ → List ReadSet) : Ty
   pub led-master : Led (s .counts .writers) (s .counts .keys) (b .history) (s .master) (b .master)
   pub led-caches : (o : ℕ) → o < s .counts .sites
       → Led (s .counts .writers) (s .counts .keys) (b .history) (s .site o .cache) (b .cache o)
-  pub led-snapshots : (r : ℕ) → r < s .counts .runs
-      → Led (s .counts .writers) (s .counts .keys) (b .history) (s .run r .branch .snapshot)
-      (b .run r .branch .snapshot)
+  pub led-snapshots : (r n : ℕ) → r < s .counts .runs
+      → Led (s .counts .writers) (s .counts .keys) (b .history) (branchOf n (s .run r) .snapshot)
+      (bookBranch n (b .run r) .snapshot)
   pub led-reads : (r : ℕ) (x : ReadSet) → Among x (finished r) → (k : ℕ) → k < s .counts .keys
       → So (x .keys k)
       → LedAs (s .counts .writers) (s .counts .keys) (b .history) k (x .version k .leaders)

@@ -13,7 +13,7 @@ use Rattle.model.specs.Store.{Store}
 use Rattle.history.specs.History.{History}
 use Rattle.history.specs.Listing.{Base, BookCopy}
 use Rattle.history.specs.Lists.{ListedBefore, ListedBehind, listOf}
-use Rattle.history.specs.Book.{Book}
+use Rattle.history.specs.Book.{bookBranch, Book}
 use Rattle.consistency.specs.Trace.{ReadSet, Among}
 
 -- Behind the saves of issue i stands the admitted save of key d by writer u at count n just where
@@ -37,8 +37,8 @@ pub record ListsHold (s : Store) (b : Book) (finished : ℕ → List ReadSet) : 
   pub master : ListsPlace (s .counts .keys) (b .base) (b .history) (b .master)
   pub caches : (o : ℕ) → o < s .counts .sites
       → ListsPlace (s .counts .keys) (b .base) (b .history) (b .cache o)
-  pub snapshots : (r : ℕ) → r < s .counts .runs
-      → ListsPlace (s .counts .keys) (b .base) (b .history) (b .run r .branch .snapshot)
+  pub snapshots : (r n : ℕ) → r < s .counts .runs
+      → ListsPlace (s .counts .keys) (b .base) (b .history) (bookBranch n (b .run r) .snapshot)
   pub reads : (r : ℕ) (x : ReadSet) → Among x (finished r) → (k : ℕ) → k < s .counts .keys
       → So (x .keys k) → Lists (b .base) (b .history) (x .copy k)
   -- The master has every admitted save.

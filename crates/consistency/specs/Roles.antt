@@ -4,12 +4,14 @@
 use mathlib.Core.Bool.{Bool, false}
 use Prim.Native.Nat.{ℕ}
 use lib.Dec.{eqb}
-use Rattle.model.specs.Calls.{StoreCall, openRun, fetch, evict, prepare, step, issue, dropRun, allow, pick, mayhold, maysave, ask}
+use Rattle.model.specs.Calls.{StoreCall, openRun, fetch, evict, prepare, step, issue, dropRun, allow, pick, mayhold, maysave, fork, join, ask}
 
 -- What a call that works on a run does to its jobs.
 pub data Work : Type 0 where
   prepares : Work  -- none is finished
   finishes : ℕ → ℕ → Work  -- job j of it is, on branch n
+  forks : Work  -- what its jobs have read stands on both branches
+  joins : Work  -- and on one again
 
 -- An accepted call opens a run, works on it, frees it, or is on no run.
 pub data Role : Type 0 where
@@ -23,13 +25,15 @@ roleOf (openRun r l) = opening r
 roleOf (fetch o k) = elsewhere
 roleOf (evict o k) = elsewhere
 roleOf (prepare r) = working r prepares
-roleOf (step r j) = working r (finishes j 0)
+roleOf (step r j n) = working r (finishes j n)
 roleOf (issue r w S) = freeing r
 roleOf (dropRun r) = freeing r
 roleOf (allow o n) = elsewhere
 roleOf pick = elsewhere
 roleOf (mayhold o m) = elsewhere
 roleOf (maysave w m) = elsewhere
+roleOf (fork r) = working r forks
+roleOf (join r) = working r joins
 roleOf (ask q) = elsewhere
 
 unfoldable pub isOn : ℕ → Role → Bool

@@ -1,25 +1,25 @@
 -- A list of calls followed: the buffer, the book beside it, and what the finished jobs of each
 -- run have read.
--- ReadSet; Among: one of a list of them. Trace; start, admitted: how a list begins; advance,
--- follow.
+-- ReadSet; onLines: on other lines; Among: one of a list of them. Trace; start, admitted: how a
+-- list begins; advance, follow.
 -- Assumes nothing.
 use mathlib.Core.Bool.{cond}
-use mathlib.Core.List.{List, [], _∷_}
+use mathlib.Core.List.{List, [], _∷_, map}
 use Prim.Native.Nat.{ℕ}
-use lib.Dec.{ltb}
+use lib.Dec.{eqb, ltb}
 use Rattle.words.specs.Tests.{Items, only}
 use Rattle.words.specs.Lists.{putAt}
 use Rattle.masks.specs.Mask.{testBit}
 use Rattle.sizes.specs.declared.Counts.{Counts}
 use Rattle.model.specs.Algebra.{Place}
 use Rattle.model.specs.Version.{Version}
-use Rattle.model.specs.Store.{branchOf, Store}
+use Rattle.model.specs.Store.{Branch, forkedMark, branchOf, Store}
 use Rattle.layout.specs.Reading.{storeOf}
 use Rattle.layout.specs.Calls.{Call, new, on, callOn, leaves, isOk, newOn}
 use Rattle.history.specs.Listing.{BookCopy}
 use Rattle.history.specs.Book.{bookBranch, Book, freshBook, bookStep}
 use Rattle.history.specs.Admission.{admittedPlace, admittedBook}
-use Rattle.consistency.specs.Roles.{prepares, finishes, Role, opening, working, freeing, elsewhere, roleOf}
+use Rattle.consistency.specs.Roles.{prepares, finishes, forks, joins, Role, opening, working, freeing, elsewhere, roleOf}
 
 -- "A job whose step is answered ok is finished and has read its sheets, as that step left them on
 -- the card."
@@ -27,8 +27,20 @@ pub record ReadSet : Type 0 where
   pub keys : Items
   pub version : Place Version
   pub copy : Place BookCopy
-  -- The lines on which it stands (CR 10).
+  -- CR 10: the lines on which it stands.
   pub on : Items
+
+-- The same on other lines; both lines.
+abbrev pub onLines : Items → ReadSet → ReadSet
+onLines lines x = record {
+  keys = x .keys;
+  version = x .version;
+  copy = x .copy;
+  on = lines;
+}
+
+abbrev pub bothLines : Items
+bothLines n = ltb n 2
 
 -- One of those that a run's jobs have read.
 pub data Among (x : ReadSet) : List ReadSet → Type 0 where
@@ -45,16 +57,20 @@ pub record Trace : Type 0 where
 unfoldable pub start : Counts → List ℕ → Trace
 start z l = record { buffer = leaves (newOn l z) l; book = freshBook z; finished = λ r. [] }
 
--- What run r of an admitted store has read counts as read by one finished job (CR 6).
+-- What branch n of a run of an admitted store has read counts as read by one finished job (CR 6).
+abbrev pub admittedRead : ℕ → Branch → ReadSet
+admittedRead n a = record {
+  keys = testBit (a .read);
+  version = a .snapshot;
+  copy = admittedPlace (a .snapshot);
+  on = only n;
+}
+
 unfoldable pub admittedReads : Store → ℕ → List ReadSet
 admittedReads s r =
-    let a = s .run r .branch in
-    cond (ltb r (s .counts .runs)) (record {
-      keys = testBit (a .read);
-      version = a .snapshot;
-      copy = admittedPlace (a .snapshot);
-      on = only 0;
-    } ∷ []) []
+    let a = s .run r in
+    let second = cond (eqb (a .mark) forkedMark) (admittedRead 1 (a .second) ∷ []) [] in
+    cond (ltb r (s .counts .runs)) (admittedRead 0 (a .branch) ∷ second) []
 
 -- A list that starts on a buffer that was admitted.
 unfoldable pub admitted : List ℕ → Trace
@@ -72,11 +88,14 @@ readNow r j n s b = record {
 }
 
 -- A call answered ok, on what has been read: s and b are the store and the book after it.
--- "A run lasts from its open until it is freed."
+-- "A run lasts from its open until it is freed." CR 10: what was done before the fork stands on
+-- both lines; "Two jobs on different lines share a snapshot once their lines are joined".
 unfoldable pub finishBy : Role → Store → Book → (ℕ → List ReadSet) → ℕ → List ReadSet
 finishBy (opening r) s b f = putAt f r []
 finishBy (working r prepares) s b f = f
 finishBy (working r (finishes j n)) s b f = putAt f r (readNow r j n s b ∷ f r)
+finishBy (working r forks) s b f = putAt f r (map (onLines bothLines) (f r))
+finishBy (working r joins) s b f = putAt f r (map (onLines (only 0)) (f r))
 finishBy (freeing r) s b f = putAt f r []
 finishBy elsewhere s b f = f
 

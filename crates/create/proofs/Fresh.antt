@@ -21,7 +21,7 @@ use Rattle.words.proofs.Tests.{below-or-not}
 use Rattle.sizes.specs.declared.Counts.{Counts}
 use Rattle.sizes.specs.declared.Sizes.{Sizes}
 use Rattle.sizes.specs.Bounds.{headerSize, pastOffset, siteRest, writerPastOffset, pastSize, versionSize, placeSize, siteSize, writerSize, runFront, runRest, runSize, tailSize, masterAt, sitesAt, writersAt, runsAt, tailAt, totalOf, siteAt, allowanceAt}
-use Rattle.sizes.specs.Runs.{snapshotOffset}
+use Rattle.sizes.specs.Runs.{snapshotOffset, secondOffset}
 use Rattle.model.specs.Version.{zeroPast, unheld}
 use Rattle.model.specs.Tail.{noTail, freshTail}
 use Rattle.model.specs.Store.{Site, Store, emptyPlace, noWriter, noSite, freeRun, siteAllowed, fresh, withSites, withTail}
@@ -102,7 +102,9 @@ module _ (z : Counts) where
       (runFront z) refl place-zero refl
 
   rest-zero : restWords z freeRun ≡ zeros (runRest z)
-  rest-zero = refl
+  rest-zero =
+      zero-join (zeros secondOffset) (placeWords z emptyPlace) secondOffset (placeSize z)
+      (runRest z) refl place-zero refl
 
   run-zero : runWords z freeRun ≡ zeros (runSize z)
   unfolding runWords runSize

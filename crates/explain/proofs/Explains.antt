@@ -127,7 +127,7 @@ module _ (s : Store) (r j n : ℕ) where
       path-shortest K (explainEdge s r j n) (explainGoal s r j n) (explainStart s r j n)
       (rw moved-reached at h)
 
-  -- Its last key would move though the run has read it.
+  -- Its last key would move though the branch has read it.
   path-moved : (l : List ℕ)
       → Path K (explainEdge s r j n) (explainStart s r j n) (explainGoal s r j n) l
       → So (testBit (maskBelow K (stepMoved s r j n)) (lastOf l))
@@ -165,8 +165,8 @@ module _ (s : Store) (r j n : ℕ) where
       rw (path-is beside l e .1)
       (path-long K (explainEdge s r j n) (explainGoal s r j n) (explainStart s r j n))
 
-  -- At least two, where the run is in form: what it has read is on its card, and a read of the
-  -- job that the card lacks isn't one of these.
+  -- At least two, where the run is in form: what the branch has read is on its card, and a read of
+  -- the job that the card lacks isn't one of these.
   two-keys : 1 ≤ s .run r .state → So (runFormed (s .counts) (s .run r))
       → (l : List ℕ) → Shown l → 2 ≤ length l
   unfolding explainStart explainGoal lacking Path Onward
@@ -174,7 +174,7 @@ module _ (s : Store) (r j n : ℕ) where
   two-keys u f (t ∷ []) p =
       let a = stepReads s r j n t in
       let b = held (stepBranch s r j n .snapshot t) in
-      let has = plan-out (s .counts) (s .run r) u f .snapshot .has in
+      let has = plan-out (s .counts) (s .run r) u f .snapshot n .has in
       clash (has t (p .path .0) (p .path .2)) (not-elim (and-right a (not b) (p .path .1)))
   two-keys u f (t ∷ d ∷ l) p = omega arith
 

@@ -13,7 +13,7 @@ use lib.Dec.{eqb}
 use Rattle.words.specs.Tests.{Items}
 use Rattle.words.proofs.Bools.{test, eqb-eq, eqb-ne}
 use Rattle.masks.specs.Mask.{testBit, maskBelow}
-use Rattle.masks.proofs.Sets.{mask-lt, mask-same, item-of}
+use Rattle.masks.proofs.Sets.{mask-same, item-of}
 use Rattle.reach.specs.Closure.{closure}
 use Rattle.paths.specs.Path.{shortestPath}
 use Rattle.reach.proofs.Closures.{closure-same}
@@ -32,13 +32,14 @@ use Rattle.layout.specs.Reading.{storeOf}
 use Rattle.layout.specs.Buffer.{inForm}
 use Rattle.layout.specs.Calls.{on, callOn}
 use Rattle.layout.proofs.Forms.{ask-refused, ask-told}
+use Rattle.form.proofs.Masks.{read-low}
 use Rattle.sets.specs.Draws.{viewed}
 use Rattle.sets.specs.Leads.{led, leadsTo}
 use Rattle.trial.specs.declared.Visit.{Visit}
 use Rattle.trial.specs.declared.Trial.{Trial}
 use Rattle.trial.specs.Trials.{Finds}
 use Rattle.trial.proofs.Known.{jobs-known}
-use Rattle.trial.proofs.Trials.{visit-known, old-reads, old-plan, branch-own}
+use Rattle.trial.proofs.Trials.{visit-known, old-reads, old-plan, branch-at}
 use Rattle.trial.proofs.Finds.{found-counts, found-run, found-taken, found-pulled, found-read, found-master, found-cache, found-snapshot, found-snapshot-at, moved-some, moved-none}
 use Rattle.explain.specs.Drawing.{sourceOf, drawnEdge, drawnStart, drawnPath, Draws, drawnWords}
 use lib.ListN.{length}
@@ -112,7 +113,7 @@ module _ (l : List ℕ) (z : Counts) (r j n : ℕ) (v : Visit) (t : Trial)
   draws-found =
       let U = found-run l z r j n v t F in
       let seen = visit-known l z r j n (snapshotAt z r n) (U .0) (U .1) v (F .visit) in
-      let L = branch-own l z r n (F .form) (U .0 .run) in
+      let L = branch-at l z r n (F .form) (U .0 .run) (snapshotAt z r n) refl in
       record {
         area = record {
           target-in = rw (found-snapshot-at l z r j n v t F) (L .area);
@@ -120,8 +121,8 @@ module _ (l : List ℕ) (z : Counts) (r j n : ℕ) (v : Visit) (t : Trial)
           second-in = seen .cache;
         };
         reads = seen .reads;
-        read = rw (found-read l z r j n v t F, jobs-known l z r (U .0) .plan .masks .reads)
-            (mask-lt K _ K (omega arith));
+        read = rw (found-read l z r j n v t F)
+            (read-low z (s .run r) (jobs-known l z r (U .0) .plan .masks) n);
         pulled = pulled;
       }
 
@@ -152,30 +153,23 @@ module _ (l : List ℕ) (z : Counts) (r j n : ℕ) (v : Visit) (t : Trial)
       (λ y. rw y (moved-none x (t .pulled) (v .read) (stepPull s r j n) p (eqb-eq both 0 y)))
       (λ y. rw y (moved-some x (t .pulled) (v .read) (stepPull s r j n) p (eqb-ne both 0 y))))
 
--- The call explains on branch 0.
-module _ (l : List ℕ) (z : Counts) (r j : ℕ) (v : Visit) (t : Trial)
-    (F : Finds l z r j 0 v t) where
-  pub words-found : drawnWords z l v t ≡ answer (callOn (on (ask (explain r j))) l)
+  pub words-found : drawnWords z l v t ≡ answer (callOn (on (ask (explain r j n))) l)
   unfolding drawnWords answer replyOf explainReply
   words-found =
-      rw (
-        ask-told (explain r j) l (F .form .form) (F .free),
-        breaks-found l z r j 0 v t F,
-        path-found l z r j 0 v t F,
-      )
+      rw (ask-told (explain r j n) l (F .form .form) (F .free), breaks-found, path-found)
       (cases (eqb (bitAnd (t .pulled) (v .read)) 0))
     where
-      cases : (b : Bool) → cond b (clearWord ∷ []) (pathWord ∷ explainPath (storeOf l) r j 0)
-          ≡ cond (not b) pathWord clearWord ∷ cond (not b) (explainPath (storeOf l) r j 0) []
+      cases : (b : Bool) → cond b (clearWord ∷ []) (pathWord ∷ explainPath (storeOf l) r j n)
+          ≡ cond (not b) pathWord clearWord ∷ cond (not b) (explainPath (storeOf l) r j n) []
       cases true = refl
       cases false = refl
 
-pub words-refused : (l : List ℕ) (r j n : ℕ) → So (inForm l) → n ≡ stepCause (storeOf l) r j 0
-    → n ≢ 0 → 2 ∷ n ∷ [] ≡ answer (callOn (on (ask (explain r j))) l)
+pub words-refused : (l : List ℕ) (r j n m : ℕ) → So (inForm l) → m ≡ stepCause (storeOf l) r j n
+    → m ≢ 0 → 2 ∷ m ∷ [] ≡ answer (callOn (on (ask (explain r j n))) l)
 unfolding answer replyOf explainReply
-words-refused l r j n F e h =
-    let no : callOn (on (ask (explain r j))) l ≡ refused n =
-    rw e (ask-refused (explain r j) l F (rw e at h)) in
+words-refused l r j n m F e h =
+    let no : callOn (on (ask (explain r j n))) l ≡ refused m =
+    rw e (ask-refused (explain r j n) l F (rw e at h)) in
     rw no refl
 
 -- How many words the answer has.

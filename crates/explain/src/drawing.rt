@@ -33,7 +33,7 @@ fn led_rows(words: &[u32], z: Counts, rule: Rule, scope: u32, mask: u32) -> [u32
     rows
 }
 
-// The shortest path from a read that the snapshot lacks to a key that the run has read, through
+// The shortest path from a read that the snapshot lacks to a key that the branch has read, through
 // the cache as the fetch would leave it.
 pub fn path_of(words: &[u32], z: Counts, visit: Visit, trial: Trial) -> ItemPath
     requires { ⌜ Draws (now words) z visit trial ⌝ }

@@ -1,6 +1,6 @@
 // Explain: why a step would break its run, found without a store. A path of keys: the first a read
 // of the job that the snapshot lacks, each next one drawn in by the one before, the last a key
-// that the run has read.
+// that the branch has read.
 mod drawing;
 pub mod put;
 
@@ -34,15 +34,16 @@ pub struct Explained {
     pub keys: [u32; 32],
 }
 
-// What a step of a job of a run would come to, in a buffer that is in form.
-pub fn explain(words: &[u32], run: u32, job: u32) -> Explained
+// What a step of a job of a run would come to, on a branch (CR 10: a line), in a buffer that is in
+// form.
+pub fn explain(words: &[u32], run: u32, job: u32, line: u32) -> Explained
     requires { ⌜ So (inForm (now words)) ⌝ }
     ensures answers { λ r. ⌜ explainedWords r
-        ≡ answer (callOn (on (ask (explain run job))) (now (words .entry))) ⌝ }
+        ≡ answer (callOn (on (ask (explain run job line))) (now (words .entry))) ⌝ }
     ensures listed { λ r. ⌜ Listed r ⌝ }
 {
     let z = counts(words);
-    let tried = try_job(words, z, run as usize, job as usize);
+    let tried = try_job(words, z, run as usize, job as usize, line as usize);
     match tried {
         Tried::Refused(no) => alone(Finding::Refused(no)),
         Tried::Found(visit, trial) => judge(words, z, visit, trial),
@@ -57,7 +58,7 @@ fn alone(finding: Finding) -> Explained
     Explained { finding, keys }
 }
 
-// Clear where C has no key that the run has read, otherwise the path.
+// Clear where C has no key that the branch has read, otherwise the path.
 fn judge(words: &[u32], z: Counts, visit: Visit, trial: Trial) -> Explained
     requires { ⌜ Draws (now words) z visit trial ⌝ }
     ensures answers { λ r. ⌜ explainedWords r ≡ drawnWords z (now (words .entry)) visit trial ⌝ }

@@ -11,7 +11,6 @@ use lib.Dec.{ltb}
 use Rattle.words.specs.Numbers.{when}
 use Rattle.masks.specs.Mask.{testBit, unionBelow}
 use Rattle.sizes.specs.Bounds.{placeLimit, Ranged, runSize, totalOf, masterAt, siteAt, mayHoldAt, runAt}
-use Rattle.sizes.specs.Runs.{snapshotOffset}
 use Rattle.sizes.specs.declared.Counts.{Counts}
 use Rattle.model.specs.Store.{Job}
 use Rattle.model.specs.Form.{validJob, zeroJob, siteFormed, runFormed}
@@ -43,7 +42,7 @@ runTest z l r = runFormed z (readRun z l (runAt z r))
 -- The run at an index.
 pub record RunArea (len : ℕ) (z : Counts) (at : ℕ) : Type 0 where
   pub ranged : Ranged z
-  pub low : at + snapshotOffset < placeLimit
+  pub low : at + runSize z < placeLimit
   pub fits : at + runSize z ≤ len
 
 -- The whole store.

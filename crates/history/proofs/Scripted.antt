@@ -22,19 +22,21 @@ use Rattle.model.specs.Algebra.{Place, implies, lacking, needsMet, causalCut, o
 use Rattle.model.specs.Version.{Version, held, dependency, supersedes, leadsOn, mergedLeaders, larger, merge}
 use Rattle.model.specs.Sets.{draws, drawSet, fetchSet, fetched, unfetchable, evictSet, evicted, pullSet, pulled}
 use Rattle.model.specs.Tail.{barred}
-use Rattle.model.specs.Store.{Store, fresh, planned, withMaster, withLast, withSites, withCache, siteWith, withMarks, withCaches, withWriter, withRun, withState, withSnapshot, withJobDone}
+use Rattle.model.specs.Store.{branchOf, Store, fresh, planned, withMaster, withLast, withSites, withCache, siteWith, withMarks, withCaches, withWriter, withRun, withState, withSnapshot, withJobDone}
 use Rattle.model.specs.Form.{validJob}
 use Rattle.model.specs.Allowance.{heldCount, over}
 use Rattle.model.specs.Outcome.{refuse, unless, replied, allowed, runCause}
 use Rattle.model.specs.Caches.{fetchCause, fetchDone, fetchRule, evictCause, evictDone, evictRule}
 use Rattle.model.specs.Runs.{listedJob, listedCount, listedJobs, listValid, openCause, openedRun, openDone, openRule, dropCause, dropDone, dropRule}
 use Rattle.model.specs.Prepare.{jobStart, fetchReads, preparedCaches, unentitled, unpreparable, usesSite, sitesMerged, siteCaches, anyOver, prepareCause, prepareCaches, prepareSnapshot, prepareDone, prepareRule}
-use Rattle.model.specs.Step.{readStart, stepSite, stepReads, stepStart, stepFetch, stepCache, stepPlan, stepPull, stepSnapshot, stepMoved, stepBarred, jobLimit, notReady, jobCause, stepCause, stepBroken, stepDone, stepRule}
+use Rattle.model.specs.Step.{readStart, stepSite, stepReads, stepStart, stepFetch, stepCache, stepPlan, stepPull, stepSnapshot, stepMoved, stepBarred, jobLimit, offBranch, notReady, jobCause, stepCause, stepBroken, stepDone, stepRule}
 use Rattle.model.specs.Issue.{raiseCause, issueCause, takenIn, rowsSet, newPast, newVersion, issuedMaster, issuedWriter, savedStore, issuedStore, issuedNumber, issueDone, issueRule}
 use Rattle.model.specs.Calls.Look.{lookPlace, lookLimit, lookCause, rowNumbers, lookStanding, lookNumbers, lookReply}
 use Rattle.model.specs.Calls.Explain.{breaks, explainReply}
-use Rattle.model.specs.Calls.Admit.{everyPlace, everyVersion, everyPast, causalCuts, overlappingCuts, masterCovers, countsWithin, numberWithin, admissible, admitCause, admitReply}
-use Rattle.model.specs.Calls.{StoreCall, fetch, step, issue, replyOf, ruleOf}
+use Rattle.model.specs.Stays.{sameVersion, stays, staysOther, movedKeys, movedSet}
+use Rattle.model.specs.Calls.Fork.{forkedRun, forkCause, forkDone, forkRule, joinedPlace, joinedBranch, joinedRun, joinMoved, joinCause, joinDone, joinBroken, joinRule}
+use Rattle.model.specs.Calls.Admit.{eachBranch, everyPlace, everyVersion, everyPast, causalCuts, overlappingCuts, masterCovers, countsWithin, numberWithin, admissible, admitCause, admitReply}
+use Rattle.model.specs.Calls.{StoreCall, openRun, fetch, step, issue, fork, join as joining, replyOf, ruleOf}
 use Rattle.model.proofs.Outcomes.{nextStore}
 use Rattle.model.proofs.Scripts.{saving, case-a-script, longer-script, reading-script}
 use Rattle.model.proofs.Computed.Admit.{listed, listed-calls, broken-calls, written, past-calls}
@@ -47,7 +49,7 @@ use Rattle.history.specs.Copies.{Copy, reaches, heldCopy, needsCopy, mee
 use Rattle.history.specs.Listing.{BookCopy, plainCopy, heldBook, mergeBook, needsBook, meetsBook, readCopy, shift, countedCopy}
 use Rattle.history.specs.Lists.{writerList, listOf}
 use Rattle.history.specs.Admission.{baseOf, admittedRun, admittedBook}
-use Rattle.history.specs.Book.{BookRun, Book, noCopies, noRun, freshBook, withBookCaches, withBookRun, bookOpen, bookFetch, bookEvict, bookPrepare, bookStepJob, entry, bookIssue, bookIssued, bookRule, bookOk, bookStep}
+use Rattle.history.specs.Book.{BookBranch, BookRun, bookBranch, Book, noCopies, noRun, freshBook, withBookCaches, withBookRun, bookOpen, bookFetch, bookEvict, bookPrepare, bookStepJob, bookFork, bookJoin, entry, bookIssue, bookIssued, bookRule, bookOk, bookStep}
 
 -- ---- a book written down: copies are functions, built on those before each call, and would be
 -- ---- computed again at each look; in lists they are computed once
@@ -87,14 +89,18 @@ keptIssue K n e = record {
   rows = e .rows;
 }
 
+abbrev pub keptBranch : ℕ → ℕ → BookBranch → BookBranch
+keptBranch K n a = record {
+  read = tabled K false (a .read);
+  snapshot = keptPlace K n (a .snapshot);
+}
+
 abbrev pub keptRun : ℕ → ℕ → BookRun → BookRun
 keptRun K n a = record {
   jobs = a .jobs;
   job = a .job;
-  branch = record {
-    read = tabled K false (a .branch .read);
-    snapshot = keptPlace K n (a .branch .snapshot);
-  };
+  branch = keptBranch K n (a .branch);
+  second = keptBranch K n (a .second);
 }
 
 abbrev pub keptBook : Book → Book
@@ -133,8 +139,8 @@ abbrev pub follows : Bool → Store → Book → Bool
 follows masks s b =
     areCopies masks b (s .master) (b .master)
     && (allBelow (b .counts .sites) (λ o. areCopies masks b (s .site o .cache) (b .cache o))
-    && allBelow (b .counts .runs) (λ r.
-    areCopies masks b (s .run r .branch .snapshot) (b .run r .branch .snapshot)))
+    && allBelow (b .counts .runs) (λ r. allBelow 2 (λ n.
+    areCopies masks b (branchOf n (s .run r) .snapshot) (bookBranch n (b .run r) .snapshot))))
 
 -- After each call. The store is written down as its words (crate layout, `store-back`: the same).
 abbrev pub followed : Bool → List StoreCall → Store → Book → Bool
@@ -161,6 +167,14 @@ from-admitted s cs =
 abbrev pub later-script : List StoreCall
 later-script = saving 0 ++ saving 1 ++ fetch 0 0 ∷ (saving 1 ++ saving 2 ++ fetch 0 1 ∷ [])
 
+-- CR 10, after `new 2 2 2 1`: 0 is read before the fork, 1 behind it on line 1, which line 0 lacks
+-- until they are joined.
+abbrev pub forked-script : List StoreCall
+forked-script =
+    saving 1 ++ saving 2
+    ++ (fetch 0 0 ∷ fetch 1 1 ∷ openRun 0 (0 ∷ 1 ∷ 0 ∷ 1 ∷ 2 ∷ 0 ∷ []) ∷ step 0 0 0 ∷ fork 0
+    ∷ step 0 1 1 ∷ joining 0 ∷ issue 0 1 1 ∷ [])
+
 pub record Scripted : Type 0 where
   pub later : from-new (countsOf 2 1 1 1) later-script ≡ true
   pub reading : from-new (countsOf 2 2 2 1) reading-script ≡ true
@@ -172,11 +186,12 @@ pub record Scripted : Type 0 where
   pub seen-first : from-new (countsOf 1 2 2 1) (second-script 1) ≡ true
   pub unseen-first : from-new (countsOf 1 2 2 1) (second-script 0) ≡ true
   pub chained : from-new (countsOf 2 3 1 1) chained-script ≡ true
+  pub forked : from-new (countsOf 2 2 2 1) forked-script ≡ true
   -- CR 6: lists aren't chained through another copy's, in a step or an issue (sheet 2 lists 1, and
   -- 1 lists 0 at 2), but its own has all; the writer's past stands behind its next issue, its own
   -- earlier saves don't.
   pub not-chained : from-admitted (listed 0) listed-calls ≡ true
-  pub not-followed : from-admitted (listed 0) (step 0 1 ∷ issue 0 0 4 ∷ []) ≡ true
+  pub not-followed : from-admitted (listed 0) (step 0 1 0 ∷ issue 0 0 4 ∷ []) ≡ true
   pub in-its-list : from-admitted (listed 2) broken-calls ≡ true
   pub past-listed : from-admitted written (past-calls 1) ≡ true
   pub past-empty : from-admitted written (past-calls 0) ≡ true
@@ -196,8 +211,9 @@ unfolding anyBelow allBelow only foldBelow countBelow largest when putAt upto bl
     anyOver
     prepareCause prepareCaches prepareSnapshot prepareDone prepareRule readStart stepSite
     stepReads stepStart stepFetch stepCache stepPlan stepPull stepSnapshot stepMoved jobLimit
-    notReady jobCause stepCause stepBroken stepDone stepRule raiseCause issueCause takenIn
-    rowsSet newPast newVersion issuedMaster issuedWriter savedStore issuedStore issuedNumber
+    offBranch notReady jobCause stepCause stepBroken stepDone stepRule raiseCause issueCause
+    takenIn rowsSet newPast newVersion issuedMaster issuedWriter savedStore issuedStore
+    issuedNumber
     issueDone issueRule lookPlace lookLimit lookCause rowNumbers lookStanding lookNumbers
     lookReply replied replyOf ruleOf clockWords pastWords versionWords placeWords siteWords
     sitesWords writerWords writersWords jobWords jobsWords runWords runsWords tailWords
@@ -206,7 +222,11 @@ unfolding anyBelow allBelow only foldBelow countBelow largest when putAt upto bl
     needsCopy meetsCopy union heldBook mergeBook needsBook meetsBook readCopy shift countedCopy
     writerList listOf lastIn byWriter counted lastBy behindOther leading freshBook
     withBookCaches withBookRun bookOpen bookFetch bookEvict bookPrepare bookStepJob entry
-    bookIssue bookIssued bookRule bookOk bookStep needsMet causalCut overlappingCut everyPlace
+    bookIssue bookIssued bookRule bookOk bookStep needsMet causalCut overlappingCut eachBranch
+    everyPlace
+    sameVersion stays staysOther movedKeys movedSet forkedRun forkCause forkDone forkRule
+    joinedPlace joinedBranch joinedRun joinMoved joinCause joinDone joinBroken joinRule
+    bookFork bookJoin
     everyVersion everyPast causalCuts overlappingCuts masterCovers countsWithin numberWithin
     admissible admitCause admitReply breaks explainReply baseOf admittedRun admittedBook
 scripted = record {
@@ -218,6 +238,7 @@ scripted = record {
   seen-first = refl;
   unseen-first = refl;
   chained = refl;
+  forked = refl;
   not-chained = refl;
   not-followed = refl;
   in-its-list = refl;

@@ -8,9 +8,9 @@ use Rattle.words.specs.Tests.{none}
 use Rattle.masks.specs.Mask.{testBit}
 use Rattle.model.specs.Algebra.{Place}
 use Rattle.model.specs.Version.{Version}
-use Rattle.model.specs.Store.{Run, Store}
+use Rattle.model.specs.Store.{Branch, Run, Store}
 use Rattle.history.specs.Listing.{Base, BookCopy}
-use Rattle.history.specs.Book.{BookRun, Book}
+use Rattle.history.specs.Book.{BookBranch, BookRun, Book}
 
 unfoldable pub baseOf : Store → Base
 baseOf s = record {
@@ -28,14 +28,15 @@ admittedCopy v = record { later = none; rows = v .past; number = v .issue }
 abbrev pub admittedPlace : Place Version → Place BookCopy
 admittedPlace p k = admittedCopy (p k)
 
+abbrev pub admittedBranch : Branch → BookBranch
+admittedBranch x = record { read = testBit (x .read); snapshot = admittedPlace (x .snapshot) }
+
 unfoldable pub admittedRun : Run → BookRun
 admittedRun a = record {
   jobs = a .jobs;
   job = a .job;
-  branch = record {
-    read = testBit (a .branch .read);
-    snapshot = admittedPlace (a .branch .snapshot);
-  };
+  branch = admittedBranch (a .branch);
+  second = admittedBranch (a .second);
 }
 
 unfoldable pub admittedBook : Store → Book

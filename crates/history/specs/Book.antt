@@ -19,7 +19,8 @@ use Rattle.model.specs.Runs.{listedCount, listedJobs}
 use Rattle.model.specs.Prepare.{preparedCaches, sitesMerged, usesSite}
 use Rattle.model.specs.Step.{readStart}
 use Rattle.model.specs.Calls.Rights.{takenAway}
-use Rattle.model.specs.Calls.{StoreCall, openRun, fetch, evict, prepare, step, issue, dropRun, allow, pick, mayhold, maysave, ask}
+use Rattle.model.specs.Calls.Fork.{joinedPlace}
+use Rattle.model.specs.Calls.{StoreCall, openRun, fetch, evict, prepare, step, issue, dropRun, allow, pick, mayhold, maysave, fork, join, ask}
 use Rattle.layout.specs.Calls.{Call, new, on}
 use Rattle.history.specs.History.{Issue, History, inPast}
 use Rattle.history.specs.Listing.{Base, noBase, BookCopy, plainCopy, mergeBook, bookCopies, readCopy}
@@ -30,15 +31,19 @@ pub record BookBranch : Type 0 where
   pub read : Items
   pub snapshot : Place BookCopy
 
--- "each run's jobs and read sheets", and its card.
+-- "each run's jobs and read sheets", and its card; of both its branches ("lines", CR 10).
 pub record BookRun : Type 0 where
   pub jobs : ℕ
   pub job : ℕ → Job
   pub branch : BookBranch
+  pub second : BookBranch
 
--- Branch ("line") n of a run: it has one.
 abbrev pub bookBranch : ℕ → BookRun → BookBranch
-bookBranch n a = a .branch
+bookBranch n a = cond (eqb n 0) (a .branch) (a .second)
+
+-- A run with the same jobs.
+abbrev pub bookRunWith : BookRun → BookBranch → BookBranch → BookRun
+bookRunWith a x y = record { jobs = a .jobs; job = a .job; branch = x; second = y }
 
 -- base: what was admitted, if the book began so (CR 6).
 pub record Book : Type 0 where
@@ -56,7 +61,7 @@ abbrev pub noBookBranch : BookBranch
 noBookBranch = record { read = none; snapshot = noCopies }
 
 abbrev pub noRun : BookRun
-noRun = record { jobs = 0; job = noJobs; branch = noBookBranch }
+noRun = record { jobs = 0; job = noJobs; branch = noBookBranch; second = noBookBranch }
 
 -- "New: all empty."
 unfoldable pub freshBook : Counts → Book
@@ -98,6 +103,7 @@ bookOpen r l b =
       jobs = listedCount l;
       job = listedJobs l;
       branch = noBookBranch;
+      second = noBookBranch;
     })
 
 unfoldable pub bookFetch : ℕ → ℕ → Book → Book
@@ -128,14 +134,10 @@ bookPrepare r b =
     let a = b .run r in
     let caches = preparedCaches alg K (b .master) (a .job) (a .jobs) (b .cache) in
     let plan = planned (a .jobs) (a .job) in
-    withBookRun (withBookCaches b caches) r (record {
-      jobs = a .jobs;
-      job = a .job;
-      branch = record {
-        read = a .branch .read;
-        snapshot = sitesMerged alg (b .counts .sites) (usesSite (a .jobs) (a .job)) plan caches;
-      };
-    })
+    withBookRun (withBookCaches b caches) r (bookRunWith a (record {
+      read = a .branch .read;
+      snapshot = sitesMerged alg (b .counts .sites) (usesSite (a .jobs) (a .job)) plan caches;
+    }) (a .second))
 
 unfoldable pub bookStepJob : ℕ → ℕ → ℕ → Book → Book
 bookStepJob r j n b =
@@ -147,18 +149,33 @@ bookStepJob r j n b =
     let reads = testBit (a .job j .reads) in
     let missing = readStart alg K (v .snapshot) (b .cache o) reads in
     let cache = fetched alg K (b .master) (b .cache o) missing in
-    withBookRun (withBookCaches b (putAt (b .cache) o cache)) r (record {
-      jobs = a .jobs;
-      job = a .job;
-      branch = record {
-        read = λ k. v .read k || reads k;
-        snapshot = pulled alg K (planned (a .jobs) (a .job)) (v .snapshot) cache reads;
-      };
-    })
+    let next : BookBranch = record {
+      read = λ k. v .read k || reads k;
+      snapshot = pulled alg K (planned (a .jobs) (a .job)) (v .snapshot) cache reads;
+    } in
+    withBookRun (withBookCaches b (putAt (b .cache) o cache)) r
+    (bookRunWith a (cond (eqb n 0) next (a .branch)) (cond (eqb n 0) (a .second) next))
+
+-- CR 10: "the card and read mask are copied".
+unfoldable pub bookFork : ℕ → Book → Book
+bookFork r b =
+    let a = b .run r in
+    withBookRun b r (bookRunWith a (a .branch) (a .branch))
+
+-- "merges the cards sheet by sheet and unites the read masks"
+unfoldable pub bookJoin : ℕ → Book → Book
+bookJoin r b =
+    let a = b .run r in
+    let alg = bookCopies (b .counts .keys) (b .counts .writers) (b .history) in
+    withBookRun b r (bookRunWith a (record {
+      read = λ k. a .branch .read k || a .second .read k;
+      snapshot = joinedPlace alg (a .branch .snapshot) (a .second .snapshot);
+    }) noBookBranch)
 
 -- ---- issue
 
--- "writer, mask, the copies its run had read"; CR 6: lists "pass on by .. reading".
+-- "writer, mask, the copies its run had read", on line 0: it isn't forked; CR 6: lists "pass on by
+-- .. reading".
 unfoldable pub entry : ℕ → ℕ → ℕ → Book → Issue
 entry r w S b =
     let a = b .run r .branch in
@@ -198,13 +215,15 @@ bookRule (openRun r l) b = bookOpen r l b
 bookRule (fetch o k) b = bookFetch o k b
 bookRule (evict o k) b = bookEvict o k b
 bookRule (prepare r) b = bookPrepare r b
-bookRule (step r j) b = bookStepJob r j 0 b
+bookRule (step r j n) b = bookStepJob r j n b
 bookRule (issue r w S) b = bookIssued r w S b
 bookRule (dropRun r) b = withBookRun b r noRun
 bookRule (allow o n) b = b
 bookRule pick b = b
 bookRule (mayhold o m) b = bookMayhold o m b
 bookRule (maysave w m) b = b
+bookRule (fork r) b = bookFork r b
+bookRule (join r) b = bookJoin r b
 bookRule (ask q) b = b
 
 unfoldable pub bookOk : Call → Book → Book

@@ -16,7 +16,7 @@ use Rattle.masks.specs.Mask.{testBit}
 use Rattle.clock.specs.Count.{maxWord}
 use Rattle.sizes.specs.declared.Counts.{Counts}
 use Rattle.model.specs.Tail.{barred}
-use Rattle.model.specs.Store.{Store}
+use Rattle.model.specs.Store.{forkedMark, Store}
 use Rattle.model.specs.Outcome.{refuse, allowed, issueRow, runCause}
 use Rattle.model.specs.Issue.{raiseCause, issueCause}
 use Rattle.model.proofs.Outcomes.{no-cause, no-lack}
@@ -44,9 +44,10 @@ beyond z r w S = leb (z .runs) r || (leb (z .writers) w || leb (2 ^ z .keys) S)
 -- The rows below the state's.
 abbrev pub jobsCause : Counts → Store → ℕ → ℕ → ℕ → ℕ
 jobsCause z s r w S =
-    refuse (not (allBelow (s .run r .jobs) (testBit (s .run r .done)))) 6
+    refuse (eqb (s .run r .mark) forkedMark) 14
+    (refuse (not (allBelow (s .run r .jobs) (testBit (s .run r .done)))) 6
     (refuse (barred (z .keys) (s .tail .maySave w) (testBit S)) 13
-    (cond (eqb S 0) 0 (raiseCause s w)))
+    (cond (eqb S 0) 0 (raiseCause s w))))
 
 three : (a b c : Bool) (n rest : ℕ)
     → refuse b n (refuse c n (refuse a n rest)) ≡ refuse (a || (b || c)) n rest
@@ -103,7 +104,8 @@ module _ (l : List ℕ) (z : Counts) (H : FormWith l z) (r w S : ℕ) where
   issue-ready e =
       let a = no-cause (beyond z r w S) 3 _ (omega arith) (sym issue-cause ∙ e) in
       let b = no-cause _ 4 _ (omega arith) (a .1) in
-      let c = no-cause _ 6 _ (omega arith) (b .1) in
+      let f = no-cause _ 14 _ (omega arith) (b .1) in
+      let c = no-cause _ 6 _ (omega arith) (f .1) in
       let d = no-cause _ 13 _ (omega arith) (c .1) in
       let range = in-range (a .0) in
       let same = form-counts l z H in

@@ -1,5 +1,5 @@
 -- What is known of a run and a writer of a buffer in form: single words of them.
--- count-word, jobs-word, done-word, read-word: where a number stands.
+-- count-word, jobs-word, done-word, read-word, mark-word: where a number stands.
 -- jobs-high: a run has 8 jobs at most. run-words, writer-words: they lie in the buffer.
 -- barred-word: a mask against the one of what a writer may save.
 -- Assumes nothing.
@@ -14,14 +14,14 @@ use Rattle.words.proofs.Bools.{test, eqb-eq, eqb-ne}
 use Rattle.masks.specs.Mask.{testBit, without}
 use Rattle.masks.proofs.Sets.{without-some}
 use Rattle.sizes.specs.declared.Counts.{Counts}
-use Rattle.sizes.specs.Bounds.{writerSize, runSize, writerAt, maySaveAt, runAt}
+use Rattle.sizes.specs.Bounds.{maxTotal, writerSize, runSize, writerAt, maySaveAt, runAt, markAt}
 use Rattle.sizes.specs.Runs.{maxJobs}
-use Rattle.sizes.proofs.Offsets.{ordered, writer-lies}
+use Rattle.sizes.proofs.Offsets.{ordered, writer-lies, run-lies, branch-mark-lies}
 use Rattle.model.specs.Tail.{barred}
 use Rattle.model.proofs.Plans.{plan-out}
 use Rattle.layout.specs.Reading.{readWord, readRun, readWriter, storeOf}
 use Rattle.layout.proofs.Runs.{run-laws}
-use Rattle.layout.proofs.Readings.{writer-in, maySave-word}
+use Rattle.layout.proofs.Readings.{writer-in, mark-in, maySave-word}
 use Rattle.form.specs.Parts.{FormWith}
 use Rattle.form.proofs.Known.{form-area}
 use Rattle.status.proofs.Freed.{free-is}
@@ -62,6 +62,18 @@ module _ (l : List ℕ) (z : Counts) (H : FormWith l z) where
     pub read-word : storeOf l .run r .branch .read ≡ readWord l (runAt z r + 3)
     unfolding readRun
     read-word = rw (run-known l z r H h .run) (ap (readWord l) (omega arith))
+
+    -- The mark, and where it stands.
+    pub mark-word : storeOf l .run r .mark ≡ readWord l (markAt z r)
+    mark-word = mark-in l z (H .counts) r h
+
+    pub mark-index : (markAt z r < maxTotal) × (markAt z r < length l)
+    mark-index =
+        let A = form-area l z H in
+        let o = ordered z (A .ranged) in
+        let x = run-lies z r h in
+        let y = branch-mark-lies z r in
+        (omega arith, omega (arith, A .fits))
 
     pub run-words : runAt z r + 28 ≤ length l
     unfolding runSize

@@ -18,19 +18,21 @@ use past::merge_saved;
 use past::save_writer;
 use sizes::Counts;
 use sizes::run::RunOffset;
+use states::FORKED_MARK;
 use states::ISSUE_ROW;
 use status::clear_run;
 use status::run_cause;
 ghost use mathlib.Core.Path.{_≡_};
 ghost use mathlib.Core.Bool.{So, _||_};
 ghost use Prim.Native.Nat.{_+_, _≤_, _<_, _^_};
-ghost use lib.Dec.{leb};
+ghost use lib.Dec.{eqb, leb};
 ghost use Rattle.words.specs.Tests.{allBelow};
 ghost use Rattle.masks.specs.Mask.{testBit};
 ghost use Rattle.answers.specs.Answers.{answeredWords};
 ghost use Rattle.sizes.specs.Bounds.{Ranged};
 ghost use Rattle.sizes.specs.Runs.{maxJobs};
 ghost use Rattle.model.specs.Tail.{barred};
+ghost use Rattle.model.specs.Store.{forkedMark};
 ghost use Rattle.model.specs.Outcome.{answer};
 ghost use Rattle.model.specs.Issue.{raiseCause, issueCause, issuedNumber, issuedStore};
 ghost use Rattle.model.specs.Calls.{issue};
@@ -76,8 +78,12 @@ fn issue_cause(words: &[u32], z: Counts, r: usize, w: usize, mask: u32) -> u32
     if no != 0 {
         return no;
     }
+    let forked = is_forked(words, z, r);
     let done = jobs_done(words, z, r);
     let barred = is_barred(words, z, w, mask);
+    if forked {
+        return 14;
+    }
     if !done {
         return 6;
     }
@@ -97,6 +103,16 @@ fn out_of_range(z: Counts, r: usize, w: usize, mask: u32) -> bool
         ≡ leb (z .runs) r || (leb (z .writers) w || leb (2 ^ z .keys) mask) ⌝ }
 {
     (z.runs <= r) | ((z.writers <= w) | !is_below(mask, z.keys))
+}
+
+// Whether run r is forked: an issue works on branch 0, once there is no other.
+fn is_forked(words: &[u32], z: Counts, r: usize) -> bool
+    requires { ⌜ FormWith (now words) z ⌝ }
+    requires { ⌜ r < z .runs ⌝ }
+    ensures { λ b. ⌜ b ≡ eqb (storeOf (now (words .entry)) .run r .mark) forkedMark ⌝ }
+{
+    let at = z.mark_at(r);
+    words[at] == FORKED_MARK
 }
 
 // Whether all jobs of run r are done.

@@ -17,7 +17,7 @@ use Rattle.sizes.specs.Bounds.{countsOf, between, ranged, pastSize, versionSize
 use Rattle.model.specs.Version.{held}
 use Rattle.model.specs.Tail.{barred}
 use Rattle.model.specs.Store.{fresh, siteMarked, withSites, withSite}
-use Rattle.model.specs.Form.{zeroRows, zeroVersion, leadersFormed, versionFormed, placeFormed, zeroJob, freeFormed, runFormed, siteFormed, rightsFormed, tailFormed, wellFormed}
+use Rattle.model.specs.Form.{zeroRows, zeroVersion, leadersFormed, versionFormed, placeFormed, zeroJob, zeroBranch, freeFormed, runFormed, siteFormed, rightsFormed, tailFormed, wellFormed}
 use Rattle.model.specs.Allowance.{heldCount, over}
 use Rattle.model.specs.Marks.{isStale, staleMask}
 use Rattle.masks.specs.Mask.{testBit, withIf, maskBelow}
@@ -120,8 +120,8 @@ pub buffers : Buffers
 unfolding putAt withSites anyBelow allBelow upto blocks present between ranged pastSize
     versionSize placeSize siteAt
     siteSize writerSize runSize masterAt sitesAt writersAt runsAt tailSize tailAt totalOf held
-    fresh zeroRows zeroVersion leadersFormed versionFormed placeFormed zeroJob freeFormed
-    runFormed siteFormed rightsFormed tailFormed
+    fresh zeroRows zeroVersion leadersFormed versionFormed placeFormed zeroJob zeroBranch
+    freeFormed runFormed siteFormed rightsFormed tailFormed
     barred testBit wellFormed when countBelow heldCount over
     isStale staleMask maskBelow withIf exceeds standing masksWords readMasks clockWords
     pastWords versionWords placeWords siteWords sitesWords writerWords writersWords jobWords

@@ -40,6 +40,7 @@ pub fit-free : (z : Counts) → FitRun z freeRun
 fit-free z = record {
   job = record { each = λ j h. record {}; rest = λ j h. refl };
   snapshot = fit-empty z;
+  second = fit-empty z;
 }
 
 pub fresh-fits : (z : Counts) → FitStore (fresh z)

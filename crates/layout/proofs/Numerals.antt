@@ -11,7 +11,7 @@ use Rattle.layout.specs.Words.{clockWords, pastWords, versionWords, plac
 
 -- K = 1, W = 2, N = 3, P = 4, the last issue number 9.
 pub header : headerWords (countsOf 1 2 3 4) 9
-    ≡ 1 ∷ 2 ∷ 3 ∷ 4 ∷ 9 ∷ 10 ∷ 14 ∷ 32 ∷ 38 ∷ 172 ∷ []
+    ≡ 1 ∷ 2 ∷ 3 ∷ 4 ∷ 9 ∷ 10 ∷ 14 ∷ 32 ∷ 38 ∷ 196 ∷ []
 unfolding headerWords pastSize versionSize placeSize siteSize writerSize runSize masterAt sitesAt
     writersAt runsAt tailSize tailAt totalOf
 header = refl
@@ -26,14 +26,20 @@ counted = record {
     read = 9;
     snapshot = λ k. record { issue = 34; leaders = 35; past = λ d u. 36 };
   };
+  mark = 37;
+  second = record {
+    read = 38;
+    snapshot = λ k. record { issue = 39; leaders = 40; past = λ d u. 41 };
+  };
 }
 
--- State, jobs, done mask, read mask, 8 jobs, the card.
+-- State, jobs, done mask, read mask, 8 jobs, the card; the mark, the second read mask and card.
 pub run : runWords (countsOf 1 1 1 1) counted
     ≡ 6 ∷ 7 ∷ 8 ∷ 9
     ∷ 10 ∷ 11 ∷ 12 ∷ 13 ∷ 14 ∷ 15 ∷ 16 ∷ 17 ∷ 18 ∷ 19 ∷ 20 ∷ 21
     ∷ 22 ∷ 23 ∷ 24 ∷ 25 ∷ 26 ∷ 27 ∷ 28 ∷ 29 ∷ 30 ∷ 31 ∷ 32 ∷ 33
-    ∷ 34 ∷ 35 ∷ 36 ∷ []
+    ∷ 34 ∷ 35 ∷ 36
+    ∷ 37 ∷ 38 ∷ 39 ∷ 40 ∷ 41 ∷ []
 unfolding runWords jobsWords jobWords placeWords versionWords pastWords clockWords blocks
 run = refl
 

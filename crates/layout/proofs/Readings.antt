@@ -5,12 +5,13 @@ use mathlib.Core.Path.{_≡_, refl, ap, _∙_}
 use mathlib.Core.List.{List}
 use Prim.Native.Nat.{ℕ, _+_, _*_, _<_}
 use native.Mathlib.Omega.{arith}
-use lib.Dec.{leb}
+use lib.Dec.{eqb, leb}
+use Rattle.words.proofs.Bools.{test}
 use Rattle.words.proofs.Lists.{upto-in}
 use Rattle.clock.specs.Clock.{Clock, present, clockAt}
 use Rattle.clock.proofs.Order.{present-same}
 use Rattle.sizes.specs.declared.Counts.{Counts}
-use Rattle.sizes.specs.Bounds.{pastOffset, siteSize, writerSize, runSize, masterAt, sitesAt, writersAt, runsAt, tailAt, mayHoldAt, maySaveAt, siteAt, writerAt, runAt, snapshotAt, keyAt, rowAt}
+use Rattle.sizes.specs.Bounds.{pastOffset, siteSize, writerSize, runSize, masterAt, sitesAt, writersAt, runsAt, tailAt, mayHoldAt, maySaveAt, siteAt, writerAt, runAt, markAt, readAt, snapshotAt, keyAt, rowAt}
 use Rattle.sizes.specs.Runs.{maxJobs, jobSize}
 use Rattle.model.specs.Version.{held}
 use Rattle.model.specs.Store.{branchOf, noSite, noWriter, noJob, freeRun}
@@ -61,8 +62,16 @@ module _ (l : List ℕ) (z : Counts) (e : z ≡ countsIn l) where
   pub snapshot-in : (r n : ℕ) → r < z .runs
       → branchOf n (storeOf l .run r) .snapshot ≡ readPlace z l (snapshotAt z r n)
   unfolding readRun snapshotAt
-  snapshot-in r n h =
-      rw (run-in r h)
+  snapshot-in r n h = rw (run-in r h) (test (eqb n 0) (λ p. rw p) (λ p. rw p))
+
+  pub read-in : (r n : ℕ) → r < z .runs
+      → branchOf n (storeOf l .run r) .read ≡ readWord l (readAt z r n)
+  unfolding readRun readAt
+  read-in r n h = rw (run-in r h) (test (eqb n 0) (λ p. rw p) (λ p. rw p))
+
+  pub mark-in : (r : ℕ) → r < z .runs → storeOf l .run r .mark ≡ readWord l (markAt z r)
+  unfolding readRun markAt
+  mark-in r h = rw (run-in r h)
 
   -- What site o may hold, and writer w may save.
   pub mayHold-word : (o : ℕ) → o < z .sites

@@ -11,7 +11,7 @@ use Rattle.sizes.specs.declared.Counts.{Counts}
 use Rattle.sizes.proofs.Offsets.{ranged-out}
 use Rattle.model.specs.Store.{Store, fresh}
 use Rattle.model.specs.Outcome.{refused, done}
-use Rattle.model.specs.Calls.{StoreCall, openRun, fetch, evict, prepare, step, issue, dropRun, allow, pick, mayhold, maysave, ask, replyOf, ruleOf}
+use Rattle.model.specs.Calls.{StoreCall, openRun, fetch, evict, prepare, step, issue, dropRun, allow, pick, mayhold, maysave, fork, join, ask, replyOf, ruleOf}
 use Rattle.model.proofs.Outcomes.{no-lack, unless-done, unless-refused}
 use Rattle.layout.specs.Calls.{newCause, newOn}
 use Rattle.layout.proofs.Follow.{Fine}
@@ -23,6 +23,7 @@ use Rattle.layout.proofs.Rules.Issue.{issue-kept}
 use Rattle.layout.proofs.Rules.Allow.{allow-kept}
 use Rattle.layout.proofs.Rules.Pick.{pick-kept}
 use Rattle.layout.proofs.Rules.Rights.{mayhold-kept, maysave-kept}
+use Rattle.layout.proofs.Rules.Fork.{fork-kept, join-kept}
 pub mod Open
 pub mod Prepare
 pub mod Step
@@ -30,6 +31,7 @@ pub mod Issue
 pub mod Allow
 pub mod Pick
 pub mod Rights
+pub mod Fork
 
 pub rule-kept : (c : StoreCall) (s : Store) → Fine s → Kept s (ruleOf c s)
 unfolding ruleOf
@@ -37,13 +39,15 @@ rule-kept (openRun r l) = open-kept r l
 rule-kept (fetch o k) = fetch-kept o k
 rule-kept (evict o k) = evict-kept o k
 rule-kept (prepare r) = prepare-kept r
-rule-kept (step r j) = step-kept r j 0
+rule-kept (step r j n) = step-kept r j n
 rule-kept (issue r w S) = issue-kept r w S
 rule-kept (dropRun r) = drop-kept r
 rule-kept (allow o n) = allow-kept o n
 rule-kept pick = pick-kept
 rule-kept (mayhold o m) = mayhold-kept o m
 rule-kept (maysave w m) = maysave-kept w m
+rule-kept (fork r) = fork-kept r
+rule-kept (join r) = join-kept r
 rule-kept (ask q) = λ s F. kept-replied s (replyOf q s) F
 
 -- An accepted new leaves a fine store in any buffer.

@@ -1,6 +1,6 @@
 -- The laws of the runs.
--- FitRun, FitRuns: nothing of a run stands outside of the counts. front-laws, rest-laws: the two
--- segments of a run. run-laws, runs-laws: its words are read back.
+-- FitRun, FitRuns: nothing of a run stands outside of the counts; fit-branch: a card of it.
+-- front-laws, rest-laws: the two segments of a run. run-laws, runs-laws: its words are read back.
 -- Assumes nothing.
 use mathlib.Core.Path.{_≡_, refl, sym, ap, ap₂, _∙_}
 use mathlib.Core.List.{List, _∷_, _++_}
@@ -12,8 +12,9 @@ use Rattle.words.specs.Lists.{window, upto}
 use Rattle.words.proofs.Lists.{append-same, window-add}
 use Rattle.sizes.specs.declared.Counts.{Counts}
 use Rattle.sizes.specs.Bounds.{placeSize, runFront, runRest, runSize}
-use Rattle.sizes.specs.Runs.{jobsOffset, doneOffset, readOffset, planOffset, planSize, snapshotOffset}
-use Rattle.model.specs.Store.{Run, freeRun}
+use Rattle.sizes.specs.Runs.{jobsOffset, doneOffset, readOffset, planOffset, planSize, snapshotOffset, secondReadOffset, secondOffset}
+use Rattle.model.specs.Store.{Run, branchOf, freeRun}
+use Rattle.model.proofs.Branches.{on-both}
 use Rattle.layout.specs.Words.{frontWords, restWords, runWords, runsWords}
 use Rattle.layout.specs.Reading.{readWord, readRun}
 use Rattle.layout.proofs.Codec.{Laws, FitMany, many, Segment, two-laws}
@@ -25,6 +26,12 @@ use Rattle.layout.proofs.Parts.{FitPlace, place-laws}
 pub record FitRun (z : Counts) (r : Run) : Type 0 where
   pub job : FitJobs (r .job)
   pub snapshot : FitPlace z (r .branch .snapshot)
+  pub second : FitPlace z (r .second .snapshot)
+
+-- The card of either branch.
+pub fit-branch : {z : Counts} {a : Run} → FitRun z a → (n : ℕ)
+    → FitPlace z (branchOf n a .snapshot)
+fit-branch {z} {a} F = on-both (λ b. FitPlace z (b .snapshot)) a (F .snapshot) (F .second)
 
 -- Four words, and a window behind them.
 abbrev fourWords : List ℕ → ℕ → List ℕ → List ℕ
@@ -97,16 +104,37 @@ front-laws z =
 
 -- ---- the rest
 
--- What is known of two runs of the same rest: it has no words.
+rest-round : (z : Counts) (l : List ℕ) (at : ℕ)
+    → restWords z (readRun z l at) ≡ window l (at + runFront z) (runRest z)
+unfolding readRun window
+rest-round z l at =
+    let b = at + runFront z in
+    let e : runRest z ≡ suc (suc (placeSize z)) = omega arith in
+    let r : at + (runFront z + secondReadOffset) ≡ b + 1 = omega arith in
+    let c : at + (runFront z + secondOffset) ≡ b + 1 + 1 = omega arith in
+    rw (e, r, c, place-laws z .round l (b + 1 + 1))
+
+-- What is known of two runs of the same rest.
 pub record SameRest (a b : Run) : Type 0 where
+  pub mark : a .mark ≡ b .mark
+  pub second : a .second ≡ b .second
+
+rest-same : (z : Counts) (a b : Run) → FitRun z a → FitRun z b
+    → restWords z a ≡ restWords z b → SameRest a b
+rest-same z a b F G e =
+    let c₁ = cons-same _ _ _ _ e in
+    let c₂ = cons-same _ _ _ _ (c₁ .1) in
+    let s = c₂ .0 in
+    let u = place-laws z .same (a .second .snapshot) (b .second .snapshot) (F .second) (G .second)
+    (c₂ .1) in
+    record { mark = c₁ .0; second = λ i. record { read = s i; snapshot = u i } }
 
 pub rest-laws : (z : Counts)
     → Segment (runFront z) (runRest z) (restWords z) (readRun z) (FitRun z) SameRest
-unfolding window
 rest-laws z = record {
-  long = λ r. refl;
-  round = λ l at. refl;
-  same = λ a b F G e. record {};
+  long = λ r. rw (place-laws z .long (r .second .snapshot)) (omega arith);
+  round = rest-round z;
+  same = rest-same z;
 }
 
 -- ---- both
@@ -116,13 +144,27 @@ run-one a b F G =
     let p = F .state in let q = F .jobs in let r = F .done in
     let t = F .job in
     let u = F .branch in
-    λ i. record { state = p i; jobs = q i; done = r i; job = t i; branch = u i }
+    let m = G .mark in
+    let v = G .second in
+    λ i. record {
+      state = p i;
+      jobs = q i;
+      done = r i;
+      job = t i;
+      branch = u i;
+      mark = m i;
+      second = v i;
+    }
 
 pub run-laws : (z : Counts) → Laws (runSize z) (runWords z) (readRun z) (FitRun z)
 unfolding runSize runWords readRun
 run-laws z =
     two-laws (front-laws z) (rest-laws z)
-    (λ l at. record { job = jobs-laws .fits l _; snapshot = place-laws z .fits l _ }) run-one
+    (λ l at. record {
+      job = jobs-laws .fits l _;
+      snapshot = place-laws z .fits l _;
+      second = place-laws z .fits l _;
+    }) run-one
 
 abbrev pub FitRuns : Counts → (ℕ → Run) → Type 0
 FitRuns z = FitMany (z .runs) freeRun (FitRun z)

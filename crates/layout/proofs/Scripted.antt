@@ -17,14 +17,14 @@ use Rattle.model.specs.Version.{held, dependency, supersedes, leadsOn, mergedLe
 use Rattle.model.specs.Sets.{draws, drawSet, fetchSet, fetched, unfetchable, evictSet, evicted, pullSet, pulled}
 use Rattle.model.specs.Tail.{barred}
 use Rattle.model.specs.Store.{fresh, siteWith, withMarks, planned, doneReads, withMaster, withLast, withSites, withCache, withCaches, withWriter, withRun, withState, withSnapshot, withJobDone}
-use Rattle.model.specs.Form.{zeroRows, zeroVersion, leadersFormed, versionFormed, placeFormed, validJob, zeroJob, freeFormed, jobsFormed, masksFormed, snapshotFormed, runFormed, siteFormed, rightsFormed, tailFormed, wellFormed}
+use Rattle.model.specs.Form.{zeroRows, zeroVersion, leadersFormed, versionFormed, placeFormed, validJob, zeroJob, zeroBranch, freeFormed, jobsFormed, masksFormed, markFormed, snapshotFormed, branchesFormed, runFormed, siteFormed, rightsFormed, tailFormed, wellFormed}
 use Rattle.model.specs.Allowance.{heldCount, over}
 use Rattle.model.specs.Marks.{isStale, staleMask}
 use Rattle.model.specs.Outcome.{answer, refuse, unless, replied, allowed, runCause}
 use Rattle.model.specs.Caches.{fetchCause, fetchDone, fetchRule, evictCause, evictDone, evictRule}
 use Rattle.model.specs.Runs.{listedJob, listedCount, listedJobs, listValid, openCause, openedRun, openDone, openRule, dropCause, dropDone, dropRule}
 use Rattle.model.specs.Prepare.{jobStart, fetchReads, preparedCaches, unentitled, unpreparable, usesSite, sitesMerged, siteCaches, anyOver, prepareCause, prepareCaches, prepareSnapshot, prepareDone, prepareRule}
-use Rattle.model.specs.Step.{readStart, stepSite, stepReads, stepStart, stepFetch, stepCache, stepPlan, stepPull, stepSnapshot, stepMoved, stepBarred, jobLimit, notReady, jobCause, stepCause, stepBroken, stepDone, stepRule}
+use Rattle.model.specs.Step.{readStart, stepSite, stepReads, stepStart, stepFetch, stepCache, stepPlan, stepPull, stepSnapshot, stepMoved, stepBarred, jobLimit, offBranch, notReady, jobCause, stepCause, stepBroken, stepDone, stepRule}
 use Rattle.model.specs.Issue.{raiseCause, issueCause, takenIn, rowsSet, newPast, newVersion, issuedMaster, issuedWriter, savedStore, issuedStore, issuedNumber, issueDone, issueRule}
 use Rattle.model.specs.Calls.Look.{lookPlace, lookLimit, lookCause, rowNumbers, lookStanding, lookNumbers, lookReply}
 use Rattle.model.specs.Calls.{replyOf, ruleOf}
@@ -78,7 +78,7 @@ abbrev pub calls-a : List Call
 calls-a = new 2 2 2 1 ∷ map on case-a-script
 
 abbrev pub words-longer : List ℕ
-words-longer = replicate 220 5
+words-longer = replicate 270 5
 
 abbrev pub calls-longer : List Call
 calls-longer = new 3 2 2 2 ∷ map on longer-script
@@ -101,8 +101,8 @@ unfolding anyBelow allBelow only foldBelow putAt upto blocks testBit withBit wit
     withLast withSites withCache withCaches withWriter withRun withState withSnapshot
     withJobDone zeroRows zeroVersion leadersFormed versionFormed placeFormed validJob zeroJob
     freeFormed jobsFormed rightsFormed tailFormed masksWords readMasks
-    masksFormed snapshotFormed runFormed siteFormed wellFormed when countBelow
-    heldCount over isStale staleMask siteWith
+    zeroBranch masksFormed markFormed snapshotFormed branchesFormed runFormed siteFormed
+    wellFormed when countBelow heldCount over isStale staleMask siteWith
     withMarks answer refuse unless allowed runCause
     barred unentitled stepBarred fetchCause fetchDone fetchRule evictCause evictDone evictRule
     listedJob listedCount
@@ -110,8 +110,8 @@ unfolding anyBelow allBelow only foldBelow putAt upto blocks testBit withBit wit
     jobStart fetchReads preparedCaches unpreparable usesSite sitesMerged siteCaches anyOver
     prepareCause
     prepareCaches prepareSnapshot prepareDone prepareRule readStart stepSite stepReads stepStart
-    stepFetch stepCache stepPlan stepPull stepSnapshot stepMoved jobLimit notReady jobCause
-    stepCause stepBroken stepDone stepRule raiseCause issueCause takenIn rowsSet newPast
+    stepFetch stepCache stepPlan stepPull stepSnapshot stepMoved jobLimit offBranch notReady
+    jobCause stepCause stepBroken stepDone stepRule raiseCause issueCause takenIn rowsSet newPast
     newVersion issuedMaster issuedWriter savedStore issuedStore issuedNumber issueDone issueRule
     lookPlace lookLimit lookCause rowNumbers lookStanding lookNumbers lookReply replied replyOf
     ruleOf clockWords pastWords versionWords placeWords siteWords sitesWords writerWords

@@ -6,8 +6,8 @@ use Prim.Native.Nat.{ℕ, _+_, _*_}
 use lib.ListN.{getD}
 use Rattle.words.specs.Lists.{upto}
 use Rattle.clock.specs.Clock.{Clock}
-use Rattle.sizes.specs.Bounds.{leadersOffset, pastOffset, writerPastOffset, keysOffset, writersOffset, sitesOffset, runsOffset, lastOffset, versionSize, siteSize, writerSize, runSize, masterAt, sitesAt, writersAt, runsAt, tailAt, staleAt, allowanceAt}
-use Rattle.sizes.specs.Runs.{maxJobs, jobSize, readsOffset, upstreamOffset, jobsOffset, doneOffset, readOffset, planOffset, snapshotOffset}
+use Rattle.sizes.specs.Bounds.{leadersOffset, pastOffset, writerPastOffset, keysOffset, writersOffset, sitesOffset, runsOffset, lastOffset, versionSize, siteSize, writerSize, runFront, runSize, masterAt, sitesAt, writersAt, runsAt, tailAt, staleAt, allowanceAt}
+use Rattle.sizes.specs.Runs.{maxJobs, jobSize, readsOffset, upstreamOffset, jobsOffset, doneOffset, readOffset, planOffset, snapshotOffset, secondReadOffset, secondOffset}
 use Rattle.sizes.specs.declared.Counts.{Counts}
 use Rattle.model.specs.Algebra.{Place}
 use Rattle.model.specs.Version.{Version, unheld}
@@ -63,6 +63,11 @@ readRun z l at = record {
   branch = record {
     read = readWord l (at + readOffset);
     snapshot = readPlace z l (at + snapshotOffset);
+  };
+  mark = readWord l (at + runFront z);
+  second = record {
+    read = readWord l (at + (runFront z + secondReadOffset));
+    snapshot = readPlace z l (at + (runFront z + secondOffset));
   };
 }
 

@@ -55,9 +55,9 @@ frontWords z r =
     r .state ∷ r .jobs ∷ r .done ∷ r .branch .read
     ∷ (jobsWords (r .job) ++ placeWords z (r .branch .snapshot))
 
--- Behind the card: nothing.
+-- CR 10: "at their end a mark .., a second read mask and a second card"
 abbrev pub restWords : Counts → Run → List ℕ
-restWords z r = []
+restWords z r = r .mark ∷ r .second .read ∷ placeWords z (r .second .snapshot)
 
 unfoldable pub runWords : Counts → Run → List ℕ
 runWords z r = frontWords z r ++ restWords z r

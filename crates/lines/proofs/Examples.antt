@@ -1,6 +1,7 @@
 -- Lines and the calls that they ask for, computed.
 -- case-lines: case A's lines, and the calls that it lacks. read-lines: others that are read.
--- unread-lines, unread-calls, bare-words: what isn't. long-lines: 400 bytes and 401.
+-- unread-lines, unread-calls, bare-words: what isn't. branch-lines: steps and explains with and
+-- without a line, fork, join. long-lines: 400 bytes and 401.
 -- Assumes nothing.
 use mathlib.Core.Path.{_≡_, refl}
 use mathlib.Core.List.{[], _∷_, _++_}
@@ -8,7 +9,7 @@ use mathlib.Core.Option.{none, some}
 use lib.ListN.{replicate}
 use Rattle.text.specs.Bytes.{bytesOf, sameBytes}
 use Rattle.text.specs.Fields.{inFirst, fieldsOf, digitsOnly, valueFrom, isEmpty, numberOf, numberBefore, numbersOf}
-use Rattle.model.specs.Calls.{openRun, fetch, evict, prepare, step, issue, dropRun, pick, mayhold, maysave, ask, look, admit}
+use Rattle.model.specs.Calls.{openRun, fetch, evict, prepare, step, issue, dropRun, pick, mayhold, maysave, fork, join, ask, look, explain, admit}
 use Rattle.layout.specs.Calls.{new, on}
 use Rattle.lines.specs.Grammar.{formOf, takes, calling, asked, fieldsCall, lineCall}
 
@@ -16,14 +17,14 @@ use Rattle.lines.specs.Grammar.{formOf, takes, calling, asked, fieldsCal
 pub case-lines :
     (lineCall (bytesOf "new 2 2 2 1") ≡ some (new 2 2 2 1))
     × (lineCall (bytesOf "open 0 0 0 0") ≡ some (on (openRun 0 (0 ∷ 0 ∷ 0 ∷ []))))
-    × (lineCall (bytesOf "step 0 0") ≡ some (on (step 0 0)))
+    × (lineCall (bytesOf "step 0 0") ≡ some (on (step 0 0 0)))
     × (lineCall (bytesOf "issue 0 0 3") ≡ some (on (issue 0 0 3)))
     × (lineCall (bytesOf "fetch 0 0") ≡ some (on (fetch 0 0)))
     × (lineCall (bytesOf "open 0 0 1 0") ≡ some (on (openRun 0 (0 ∷ 1 ∷ 0 ∷ []))))
     × (lineCall (bytesOf "issue 0 1 2") ≡ some (on (issue 0 1 2)))
     × (lineCall (bytesOf "open 0 0 1 0 1 2 1")
     ≡ some (on (openRun 0 (0 ∷ 1 ∷ 0 ∷ 1 ∷ 2 ∷ 1 ∷ []))))
-    × (lineCall (bytesOf "step 0 1") ≡ some (on (step 0 1)))
+    × (lineCall (bytesOf "step 0 1") ≡ some (on (step 0 1 0)))
     × (lineCall (bytesOf "look 2 0 1") ≡ some (on (ask (look 2 0 1))))
     × (lineCall (bytesOf "fetch 1 1") ≡ some (on (fetch 1 1)))
     × (lineCall (bytesOf "evict 0 1") ≡ some (on (evict 0 1)))
@@ -112,6 +113,39 @@ pub bare-words :
 unfolding lineCall fieldsCall fieldsOf inFirst asked formOf sameBytes takes calling numbersOf
     numberBefore numberOf isEmpty digitsOnly valueFrom
 bare-words = (refl, refl, refl, refl, refl, refl, refl, refl, refl, refl, refl)
+
+-- "a line, 0 or 1, 0 if left out"; any number is read, and none more.
+pub branch-lines :
+    (lineCall (bytesOf "step 0 1 1") ≡ some (on (step 0 1 1)))
+    × (lineCall (bytesOf "step 0 1 0") ≡ some (on (step 0 1 0)))
+    × (lineCall (bytesOf "step 0 1 7") ≡ some (on (step 0 1 7)))
+    × (lineCall (bytesOf "explain 0 1 1") ≡ some (on (ask (explain 0 1 1))))
+    × (lineCall (bytesOf "explain 0 1") ≡ some (on (ask (explain 0 1 0))))
+    × (lineCall (bytesOf "fork 0") ≡ some (on (fork 0)))
+    × (lineCall (bytesOf "join 2") ≡ some (on (join 2)))
+    × (lineCall (bytesOf "step 0") ≡ none)
+    × (lineCall (bytesOf "step 0 0 0 0") ≡ none)
+    × (lineCall (bytesOf "explain 0 0 0 0") ≡ none)
+    × (lineCall (bytesOf "fork") ≡ none)
+    × (lineCall (bytesOf "fork 0 1") ≡ none)
+    × (lineCall (bytesOf "join 0 1") ≡ none)
+unfolding lineCall fieldsCall fieldsOf inFirst asked formOf sameBytes takes calling numbersOf
+    numberBefore numberOf isEmpty digitsOnly valueFrom
+branch-lines = (
+  refl,
+  refl,
+  refl,
+  refl,
+  refl,
+  refl,
+  refl,
+  refl,
+  refl,
+  refl,
+  refl,
+  refl,
+  refl,
+)
 
 -- `drop ` and zeros: 400 bytes are read, 401 are not.
 pub long-lines :

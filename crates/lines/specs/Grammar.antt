@@ -11,7 +11,7 @@ use lib.Dec.{leb}
 use lib.ListN.{length, getD, drop}
 use Rattle.text.specs.Bytes.{bytesOf, sameBytes}
 use Rattle.text.specs.Fields.{fieldsOf, numbersOf}
-use Rattle.model.specs.Calls.{openRun, fetch, evict, prepare, step, issue, dropRun, allow, pick, mayhold, maysave, ask, look, explain, stale, admit}
+use Rattle.model.specs.Calls.{openRun, fetch, evict, prepare, step, issue, dropRun, allow, pick, mayhold, maysave, fork, join, ask, look, explain, stale, admit}
 use Rattle.layout.specs.Calls.{Call, new, on}
 
 -- "one over 400 bytes" is unread.
@@ -39,7 +39,9 @@ at ns i = getD ns i 0
 -- included": no line has room for as many as it may have bytes. Then document 02's calls:
 -- 2 "a new call explains a job of an open run", `explain r j`; 4 "a new call answers it",
 -- `stale o`; 6 "a new call admits a desk", `admit`; 7 "A call sets it", `allow o n`;
--- 8 "A dispatcher picks", `pick`; 9 "a call sets each", `mayhold o m`, `maysave w m`.
+-- 8 "A dispatcher picks", `pick`; 9 "a call sets each", `mayhold o m`, `maysave w m`;
+-- 10 "step and explaining gain a line, 0 or 1, 0 if left out", `step r j l`, `explain r j l`, "An
+-- open run may fork once", `fork r`, "Joining, for an open run", `join r`.
 abbrev pub forms : List Form
 forms =
     form "new" 4 4 (λ ns. new (at ns 0) (at ns 1) (at ns 2) (at ns 3)) ∷
@@ -47,17 +49,19 @@ forms =
     form "fetch" 2 2 (λ ns. on (fetch (at ns 0) (at ns 1))) ∷
     form "evict" 2 2 (λ ns. on (evict (at ns 0) (at ns 1))) ∷
     form "prepare" 1 1 (λ ns. on (prepare (at ns 0))) ∷
-    form "step" 2 2 (λ ns. on (step (at ns 0) (at ns 1))) ∷
+    form "step" 2 3 (λ ns. on (step (at ns 0) (at ns 1) (at ns 2))) ∷
     form "issue" 3 3 (λ ns. on (issue (at ns 0) (at ns 1) (at ns 2))) ∷
     form "drop" 1 1 (λ ns. on (dropRun (at ns 0))) ∷
     form "look" 3 3 (λ ns. on (ask (look (at ns 0) (at ns 1) (at ns 2)))) ∷
-    form "explain" 2 2 (λ ns. on (ask (explain (at ns 0) (at ns 1)))) ∷
+    form "explain" 2 3 (λ ns. on (ask (explain (at ns 0) (at ns 1) (at ns 2)))) ∷
     form "stale" 1 1 (λ ns. on (ask (stale (at ns 0)))) ∷
     form "admit" 0 0 (λ ns. on (ask admit)) ∷
     form "allow" 2 2 (λ ns. on (allow (at ns 0) (at ns 1))) ∷
     form "pick" 0 0 (λ ns. on pick) ∷
     form "mayhold" 2 2 (λ ns. on (mayhold (at ns 0) (at ns 1))) ∷
-    form "maysave" 2 2 (λ ns. on (maysave (at ns 0) (at ns 1))) ∷ []
+    form "maysave" 2 2 (λ ns. on (maysave (at ns 0) (at ns 1))) ∷
+    form "fork" 1 1 (λ ns. on (fork (at ns 0))) ∷
+    form "join" 1 1 (λ ns. on (join (at ns 0))) ∷ []
 
 -- The form of a word.
 unfoldable pub formOf : List Form → List ℕ → Option Form

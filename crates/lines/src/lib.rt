@@ -45,14 +45,17 @@ fn later_command(number: usize, numbers: &[u32], n: usize) -> Command
 {
     let a = number_at(numbers, n, 0);
     let b = number_at(numbers, n, 1);
+    let c = number_at(numbers, n, 2);
     match number {
-        9 => Command::Explain(a, b),
+        9 => Command::Explain(a, b, c),
         10 => Command::Stale(a),
         11 => Command::Admit,
         12 => Command::Allow(a, b),
         13 => Command::Pick,
         14 => Command::Mayhold(a, b),
         15 => Command::Maysave(a, b),
+        16 => Command::Fork(a),
+        17 => Command::Join(a),
         _ => Command::Unread,
     }
 }
@@ -75,7 +78,7 @@ fn command_of(number: usize, numbers: &[u32], n: usize) -> Command
         2 => Command::Fetch(a, b),
         3 => Command::Evict(a, b),
         4 => Command::Prepare(a),
-        5 => Command::Step(a, b),
+        5 => Command::Step(a, b, c),
         6 => Command::Issue(a, b, c),
         7 => Command::Drop(a),
         8 => Command::Look(a, b, c),

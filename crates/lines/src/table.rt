@@ -15,7 +15,7 @@ struct Row {
 }
 
 // How many commands there are.
-const COMMANDS: usize = 16;
+const COMMANDS: usize = 18;
 
 // The commands: a command's number is its row's. Document 01's nine, then the later ones.
 const ROWS: [Row; COMMANDS] = [
@@ -47,7 +47,7 @@ const ROWS: [Row; COMMANDS] = [
     Row {
         word: *b"step    ",
         least: 2,
-        most: 2,
+        most: 3,
     },
     Row {
         word: *b"issue   ",
@@ -67,7 +67,7 @@ const ROWS: [Row; COMMANDS] = [
     Row {
         word: *b"explain ",
         least: 2,
-        most: 2,
+        most: 3,
     },
     Row {
         word: *b"stale   ",
@@ -98,6 +98,16 @@ const ROWS: [Row; COMMANDS] = [
         word: *b"maysave ",
         least: 2,
         most: 2,
+    },
+    Row {
+        word: *b"fork    ",
+        least: 1,
+        most: 1,
+    },
+    Row {
+        word: *b"join    ",
+        least: 1,
+        most: 1,
     },
 ];
 

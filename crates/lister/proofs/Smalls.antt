@@ -45,7 +45,7 @@ module _ (i : ℕ) where
   unfolding callAt
   at-open g h = rw (ge-ltb i 4 (omega arith), ge-ltb i 8 g, lt-ltb i 16 h)
 
-  pub at-step : i ≡ 16 → callAt i ≡ step 0 0
+  pub at-step : i ≡ 16 → callAt i ≡ step 0 0 0
   unfolding callAt
   at-step e = rw e
 
@@ -109,7 +109,7 @@ module _ (l r : List ℕ) where
   }
 
   pub tells-step : l ≡ 3 ∷ 0 ∷ 0 ∷ 0 ∷ 0 ∷ r
-      → Tells (step 0 0) (record { count = 3; command = Step 0 0 }) l
+      → Tells (step 0 0 0) (record { count = 3; command = Step 0 0 0 }) l
   unfolding kindOf argumentsOf
   tells-step e = record {
     some-words = omega arith;

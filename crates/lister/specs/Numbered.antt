@@ -26,7 +26,7 @@ callAt i =
     cond (ltb i 4) (fetch (i / 2) (i % 2))
     (cond (ltb i 8) (evict ((i - 4) / 2) ((i - 4) % 2))
     (cond (ltb i 16) (openRun 0 (oneJob ((i - 8) / 4) ((i - 8) % 4)))
-    (cond (eqb i 16) (step 0 0)
+    (cond (eqb i 16) (step 0 0 0)
     (cond (ltb i 25) (issue 0 ((i - 17) / 4) ((i - 17) % 4))
     (dropRun 0)))))
 

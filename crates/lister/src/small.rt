@@ -88,7 +88,7 @@ pub fn small_at(i: u32, words: &mut [u32]) -> Small
         lay(words, 3, 0, 0, 0, 0);
         return Small {
             count: 3,
-            command: Command::Step(0, 0),
+            command: Command::Step(0, 0, 0),
         };
     }
     if i < 25 {

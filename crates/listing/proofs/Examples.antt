@@ -23,12 +23,12 @@ use Rattle.model.specs.Sets.{draws, drawSet, fetchSet, fetched, unfetchable, ev
 use Rattle.model.specs.Tail.{barred}
 use Rattle.model.specs.Store.{fresh, siteWith, withMarks, planned, doneReads, withMaster, withLast, withSites, withCache, withCaches, withWriter, withRun, withState, withSnapshot, withJobDone}
 use Rattle.model.specs.Allowance.{heldCount, over}
-use Rattle.model.specs.Form.{zeroRows, zeroVersion, leadersFormed, versionFormed, placeFormed, validJob, zeroJob, freeFormed, jobsFormed, masksFormed, snapshotFormed, runFormed, siteFormed, rightsFormed, tailFormed, wellFormed}
+use Rattle.model.specs.Form.{zeroRows, zeroVersion, leadersFormed, versionFormed, placeFormed, validJob, zeroJob, zeroBranch, freeFormed, jobsFormed, masksFormed, markFormed, snapshotFormed, branchesFormed, runFormed, siteFormed, rightsFormed, tailFormed, wellFormed}
 use Rattle.model.specs.Marks.{isStale, staleMask}
 use Rattle.model.specs.Outcome.{answer, refuse, unless, allowed, runCause}
 use Rattle.model.specs.Caches.{fetchCause, fetchDone, fetchRule, evictCause, evictDone, evictRule}
 use Rattle.model.specs.Runs.{listedJob, listedCount, listedJobs, listValid, openCause, openedRun, openDone, openRule, dropCause, dropDone, dropRule}
-use Rattle.model.specs.Step.{readStart, stepSite, stepReads, stepStart, stepFetch, stepCache, stepPlan, stepPull, stepSnapshot, stepMoved, stepBarred, jobLimit, notReady, jobCause, stepCause, stepBroken, stepDone, stepRule}
+use Rattle.model.specs.Step.{readStart, stepSite, stepReads, stepStart, stepFetch, stepCache, stepPlan, stepPull, stepSnapshot, stepMoved, stepBarred, jobLimit, offBranch, notReady, jobCause, stepCause, stepBroken, stepDone, stepRule}
 use Rattle.model.specs.Issue.{raiseCause, issueCause, takenIn, rowsSet, newPast, newVersion, issuedMaster, issuedWriter, savedStore, issuedStore, issuedNumber, issueDone, issueRule}
 use Rattle.model.specs.Calls.{StoreCall, openRun, fetch, step, issue, dropRun, ruleOf}
 use Rattle.layout.specs.Words.{clockWords, pastWords, versionWords, placeWords, siteWords, sitesWords, writerWords, writersWords, jobWords, jobsWords, runWords, runsWords, masksWords, tailWords, headerWords, storeWords}
@@ -71,9 +71,9 @@ pub lines :
     ≡ bytesOf "fetch 0 0; fetch 0 0: refused 7; refused 7")
     × (historyLine (fetch 0 0 ∷ openRun 0 (oneJob 1 3) ∷ [])
     ≡ bytesOf "fetch 0 0; open 0 1 3 0: refused 7; ok 1")
-    × (historyLine (openRun 0 (oneJob 1 3) ∷ step 0 0 ∷ [])
+    × (historyLine (openRun 0 (oneJob 1 3) ∷ step 0 0 0 ∷ [])
     ≡ bytesOf "open 0 1 3 0; step 0 0: ok 1; refused 7")
-    × (historyLine (openRun 0 (oneJob 0 0) ∷ step 0 0 ∷ issue 0 0 3 ∷ [])
+    × (historyLine (openRun 0 (oneJob 0 0) ∷ step 0 0 0 ∷ issue 0 0 3 ∷ [])
     ≡ bytesOf "open 0 0 0 0; step 0 0; issue 0 0 3: ok 1; ok 0 0 0; ok 1")
     × (historyLine (dropRun 0 ∷ dropRun 0 ∷ dropRun 0 ∷ [])
     ≡ bytesOf "drop 0; drop 0; drop 0: refused 4; refused 4; refused 4")
@@ -85,7 +85,8 @@ unfolding anyBelow allBelow only when countBelow heldCount over foldBelow putAt 
     evicted pullSet pulled fresh planned doneReads withMaster withLast withSites withCache
     withCaches withWriter withRun withState withSnapshot withJobDone zeroRows zeroVersion
     leadersFormed versionFormed placeFormed validJob zeroJob freeFormed jobsFormed
-    masksFormed snapshotFormed runFormed siteFormed rightsFormed tailFormed wellFormed
+    masksFormed zeroBranch markFormed snapshotFormed branchesFormed runFormed siteFormed
+    rightsFormed tailFormed wellFormed offBranch
     isStale staleMask siteWith barred stepBarred masksWords readMasks
     withMarks answer refuse unless allowed runCause fetchCause fetchDone fetchRule
     evictCause evictDone evictRule listedJob listedCount listedJobs listValid openCause

@@ -153,14 +153,14 @@ calls-only K W N =
     let evicts = rows N (λ o. firsts K (λ k. evict o k)) in
     let opens = rows N (λ o. firsts (2 ^ K) (λ m. openRun 0 (oneJob o m))) in
     let issues = rows W (λ w. firsts (2 ^ K) (λ S. issue 0 w S)) in
-    let later = step 0 0 ∷ (issues ++ (dropRun 0 ∷ [])) in
+    let later = step 0 0 0 ∷ (issues ++ (dropRun 0 ∷ [])) in
     all-append P fetches (evicts ++ (opens ++ later))
     (all-rows P N _ (λ o h. all-firsts P K _ (λ k l. (h, l))))
     (all-append P evicts (opens ++ later)
     (all-rows P N _ (λ o h. all-firsts P K _ (λ k l. (h, l))))
     (all-append P opens later
     (all-rows P N _ (λ o h. all-firsts P (2 ^ K) _ (λ m l. (refl, (o, m, h, l, refl))))) (
-      (refl, refl),
+      (refl, refl, refl),
       all-append P issues (dropRun 0 ∷ [])
           (all-rows P W _ (λ w h. all-firsts P (2 ^ K) _ (λ S l. (refl, h, l)))) (refl, tt),
     )))
@@ -184,11 +184,11 @@ calls-have K W N (openRun r l) p =
     (rows N (λ o. firsts (2 ^ K) (λ m. openRun 0 (oneJob o m)))) _
     (in-rows (openRun 0 (oneJob o m)) N _ o (p .1 .2)
     (in-firsts (2 ^ K) (λ m. openRun 0 (oneJob o m)) m (p .1 .3))))))
-calls-have K W N (step r j) p =
-    rw (p .0, p .1)
-    (in-append-right (step 0 0) (rows N (λ o. firsts K (λ k. fetch o k))) _
-    (in-append-right (step 0 0) (rows N (λ o. firsts K (λ k. evict o k))) _
-    (in-append-right (step 0 0) (rows N (λ o. firsts (2 ^ K) (λ m. openRun 0 (oneJob o m)))) _
+calls-have K W N (step r j n) p =
+    rw (p .0, p .1, p .2)
+    (in-append-right (step 0 0 0) (rows N (λ o. firsts K (λ k. fetch o k))) _
+    (in-append-right (step 0 0 0) (rows N (λ o. firsts K (λ k. evict o k))) _
+    (in-append-right (step 0 0 0) (rows N (λ o. firsts (2 ^ K) (λ m. openRun 0 (oneJob o m)))) _
     (inl refl))))
 calls-have K W N (issue r w S) p =
     rw (p .0)

@@ -112,9 +112,9 @@ pub numbered :
     × (getD listing 25 [] ≡ dropRun 0 ∷ [])
     × (getD listing 26 [] ≡ fetch 0 0 ∷ fetch 0 0 ∷ [])
     × (getD listing 41 [] ≡ fetch 0 0 ∷ openRun 0 (oneJob 1 3) ∷ [])
-    × (getD listing 432 [] ≡ openRun 0 (oneJob 1 3) ∷ step 0 0 ∷ [])
+    × (getD listing 432 [] ≡ openRun 0 (oneJob 1 3) ∷ step 0 0 0 ∷ [])
     × (getD listing 702 [] ≡ fetch 0 0 ∷ fetch 0 0 ∷ fetch 0 0 ∷ [])
-    × (getD listing 6546 [] ≡ openRun 0 (oneJob 0 0) ∷ step 0 0 ∷ issue 0 0 3 ∷ [])
+    × (getD listing 6546 [] ≡ openRun 0 (oneJob 0 0) ∷ step 0 0 0 ∷ issue 0 0 3 ∷ [])
     × (getD listing 18277 [] ≡ dropRun 0 ∷ dropRun 0 ∷ dropRun 0 ∷ [])
 unfolding scriptAt calls rows firsts
 numbered = (

@@ -48,7 +48,7 @@ known l =
     cond (eqb (getD l 0 0) 0) (fetch (getD l 1 0) (getD l 2 0))
     (cond (eqb (getD l 0 0) 1) (evict (getD l 1 0) (getD l 2 0))
     (cond (eqb (getD l 0 0) 2) (openRun (getD l 1 0) (drop 2 l))
-    (cond (eqb (getD l 0 0) 3) (step (getD l 1 0) (getD l 2 0))
+    (cond (eqb (getD l 0 0) 3) (step (getD l 1 0) (getD l 2 0) 0)
     (cond (eqb (getD l 0 0) 4) (issue (getD l 1 0) (getD l 2 0) (getD l 3 0))
     (dropRun (getD l 1 0))))))
 
@@ -58,7 +58,7 @@ known-again K W N (openRun r l) p = refl
 known-again K W N (fetch o k) p = refl
 known-again K W N (evict o k) p = refl
 known-again K W N (prepare r) p = absurd p
-known-again K W N (step r j) p = refl
+known-again K W N (step r j n) p = rw (p .2)
 known-again K W N (issue r w S) p = refl
 known-again K W N (dropRun r) p = refl
 known-again K W N (ask q) p = absurd p

@@ -63,7 +63,7 @@ fn limit(z: Counts, place: u32) -> usize
     z.runs
 }
 
-// Where place i of the kind begins.
+// Where place i of the kind begins: of a run, the snapshot of branch 0.
 fn place_at(z: Counts, place: u32, i: usize) -> usize
     requires { ⌜ Ranged z ⌝ }
     requires { ⌜ i < lookLimit z place ⌝ }
@@ -75,7 +75,7 @@ fn place_at(z: Counts, place: u32, i: usize) -> usize
     if place == 1 {
         return z.site_at(i);
     }
-    z.snapshot_at(i)
+    z.snapshot_on(i, 0)
 }
 
 // The cause for which a look is refused, or 0.

@@ -12,16 +12,17 @@ use Rattle.clock.specs.Clock.{Clock, Dominates}
 use Rattle.clock.proofs.Order.{covers-standing}
 use Rattle.model.specs.Algebra.{Place, causalCut, overlappingCut}
 use Rattle.model.specs.Version.{Version, versions}
-use Rattle.model.specs.Store.{Store, planned}
-use Rattle.model.specs.Calls.Admit.{everyPlace, everyVersion, everyPast, causalCuts, overlappingCuts, masterCovers, countsWithin, numberWithin, admissible}
+use Rattle.model.specs.Store.{branchOf, Store, planned}
+use Rattle.model.specs.Calls.Admit.{eachBranch, everyPlace, everyVersion, everyPast, causalCuts, overlappingCuts, masterCovers, countsWithin, numberWithin, admissible}
+use Rattle.model.proofs.Branches.{each-out, each-in}
 
 -- Every version on master, caches and snapshots.
 pub record EveryVersion (s : Store) (P : Version → Type 0) : Type 0 where
   pub master : (k : ℕ) → k < s .counts .keys → P (s .master k)
   pub caches : (o : ℕ) → o < s .counts .sites → (k : ℕ) → k < s .counts .keys
       → P (s .site o .cache k)
-  pub snapshots : (r : ℕ) → r < s .counts .runs → (k : ℕ) → k < s .counts .keys
-      → P (s .run r .branch .snapshot k)
+  pub snapshots : (r : ℕ) → r < s .counts .runs → (n k : ℕ) → k < s .counts .keys
+      → P (branchOf n (s .run r) .snapshot k)
 
 -- Every past: of these versions, and of the writers.
 pub record EveryPast (s : Store) (P : (ℕ → Clock) → Type 0) : Type 0 where
@@ -43,9 +44,9 @@ pub record Admissible (s : Store) : Type 0 where
   pub master : So (causalCut (versions (s .counts .writers)) (s .counts .keys) (s .master))
   pub caches : (o : ℕ) → o < s .counts .sites
       → So (causalCut (versions (s .counts .writers)) (s .counts .keys) (s .site o .cache))
-  pub snapshots : (r : ℕ) → r < s .counts .runs
+  pub snapshots : (r : ℕ) → r < s .counts .runs → (n : ℕ)
       → So (overlappingCut (versions (s .counts .writers)) (s .counts .keys)
-      (planned (s .run r .jobs) (s .run r .job)) (s .run r .branch .snapshot))
+      (planned (s .run r .jobs) (s .run r .job)) (branchOf n (s .run r) .snapshot))
   pub covered : EveryPast s (Covered s)
   pub counted : EveryPast s (Counted s)
   pub numbered : EveryVersion s (λ v. v .issue ≤ s .last)
@@ -60,7 +61,8 @@ module _ (s : Store) where
       let z = s .counts in
       let all : Place Version → Bool = λ a. allBelow (z .keys) (λ k. p (a k)) in
       let c = allBelow (z .sites) (λ o. all (s .site o .cache)) in
-      let r = allBelow (z .runs) (λ i. all (s .run i .branch .snapshot)) in
+      let both : ℕ → Bool = λ i. eachBranch (s .run i) (λ b. all (b .snapshot)) in
+      let r = allBelow (z .runs) both in
       let at : (a : Place Version) → So (all a) → (k : ℕ) → k < z .keys → P (a k) =
       λ a x k l. f (a k) (all-at (z .keys) (λ k. p (a k)) x k l) in
       let rest = and-right (all (s .master)) (c && r) h in
@@ -68,8 +70,9 @@ module _ (s : Store) where
         master = at (s .master) (and-left (all (s .master)) (c && r) h);
         caches = λ o l. at (s .site o .cache)
             (all-at (z .sites) (λ o. all (s .site o .cache)) (and-left c r rest) o l);
-        snapshots = λ i l. at (s .run i .branch .snapshot)
-            (all-at (z .runs) (λ i. all (s .run i .branch .snapshot)) (and-right c r rest) i l);
+        snapshots = λ i l n. at (branchOf n (s .run i) .snapshot)
+            (each-out (s .run i) (λ b. all (b .snapshot))
+            (all-at (z .runs) both (and-right c r rest) i l) n);
       }
 
   pub version-in : (p : Version → Bool) (P : Version → Type 0) → ((v : Version) → P v → So (p v))
@@ -84,8 +87,9 @@ module _ (s : Store) where
       (and-intro
       (all-intro (z .sites) (λ o. all (s .site o .cache))
       (λ o l. every (s .site o .cache) (E .caches o l)))
-      (all-intro (z .runs) (λ i. all (s .run i .branch .snapshot))
-      (λ i l. every (s .run i .branch .snapshot) (E .snapshots i l))))
+      (all-intro (z .runs) (λ i. eachBranch (s .run i) (λ b. all (b .snapshot)))
+      (λ i l. each-in (s .run i) (λ b. all (b .snapshot))
+      (λ n. every (branchOf n (s .run i) .snapshot) (E .snapshots i l n)))))
 
   pub past-out : (p : (ℕ → Clock) → Bool) (P : (ℕ → Clock) → Type 0)
       → ((q : ℕ → Clock) → So (p q) → P q) → So (everyPast s p) → EveryPast s P
@@ -157,8 +161,8 @@ module _ (s : Store) where
         master = and-left (cut (s .master)) caches cuts;
         caches = all-at (z .sites) (λ o. cut (s .site o .cache))
             (and-right (cut (s .master)) caches cuts);
-        snapshots = all-at (z .runs) _
-            (and-left (overlappingCuts s) (rows && (counts && numbers)) h₂);
+        snapshots = λ r l. each-out (s .run r) _ (all-at (z .runs) _
+            (and-left (overlappingCuts s) (rows && (counts && numbers)) h₂) r l);
         covered = past-out (masterCovers s) (Covered s) covered-out
             (and-left rows (counts && numbers) h₃);
         counted = past-out (countsWithin s) (Counted s) counted-out (and-left counts numbers h₄);
@@ -172,7 +176,7 @@ module _ (s : Store) where
       let z = s .counts in
       and-intro
       (and-intro (A .master) (all-intro (z .sites) _ (A .caches)))
-      (and-intro (all-intro (z .runs) _ (A .snapshots))
+      (and-intro (all-intro (z .runs) _ (λ r l. each-in (s .run r) _ (A .snapshots r l)))
       (and-intro (past-in (masterCovers s) (Covered s) covered-in (A .covered))
       (and-intro (past-in (countsWithin s) (Counted s) counted-in (A .counted))
       (version-in (numberWithin s) (λ v. v .issue ≤ s .last) (λ v. le-leb _ _) (A .numbered)))))

@@ -1,8 +1,8 @@
 -- Form by examples: for each clause of document 01's "in form" stores that lack just it, each
 -- beside a well formed one that differs in nothing else.
 -- formed: is a store with this run well formed? tells: the first of two is, the second isn't.
--- placed: the same for a version, on the master, two shelves and a card.
--- Clauses, clauses: each clause tells.
+-- placed: the same for a version, on the master, two shelves and both cards of a run.
+-- Clauses, clauses: each clause tells; those of two lines (CR 10): Clauses/Lines.
 -- Assumes nothing.
 use mathlib.Core.Path.{_≡_, refl}
 use mathlib.Core.Bool.{Bool, true, false, not, _&&_}
@@ -18,39 +18,40 @@ use Rattle.sizes.specs.Bounds.{countsOf, between}
 use Rattle.model.specs.Algebra.{Place}
 use Rattle.model.specs.Version.{Version, unheld, held}
 use Rattle.model.specs.Tail.{barred}
-use Rattle.model.specs.Store.{Job, Run, noJob, noJobs, emptyPlace, freeRun, fresh, planned, doneReads, siteWith, withMaster, withSites, withCache, withRun, withTail, withRound}
+use Rattle.model.specs.Store.{Job, Run, noJob, noJobs, emptyPlace, freeRun, fresh, planned, doneReads, siteWith, withMaster, withSites, withCache, withRun, withTail, withRound, runWith}
 use Rattle.model.specs.Allowance.{heldCount, over}
-use Rattle.model.specs.Form.{zeroRows, zeroVersion, leadersFormed, versionFormed, placeFormed, validJob, zeroJob, freeFormed, jobsFormed, masksFormed, snapshotFormed, runFormed, siteFormed, rightsFormed, tailFormed, wellFormed}
+use Rattle.model.specs.Form.{zeroRows, zeroVersion, leadersFormed, versionFormed, placeFormed, validJob, zeroJob, zeroBranch, freeFormed, jobsFormed, masksFormed, markFormed, snapshotFormed, branchesFormed, runFormed, siteFormed, rightsFormed, tailFormed, wellFormed}
 use Rattle.model.specs.Marks.{isStale, staleMask}
-use Rattle.model.proofs.Readings.{led, version, place}
+use Rattle.model.proofs.Readings.{led, version, place, unforked}
+pub mod Lines
 
 -- ---- a store with 2 sheets, 2 writers, 2 offices and 2 runs, the last of them given
 
-abbrev formed : Run → Bool
+abbrev pub formed : Run → Bool
 formed a = wellFormed (withRun (fresh (countsOf 2 2 2 2)) 1 a)
 
-abbrev tells : Run → Run → Bool
+abbrev pub tells : Run → Run → Bool
 tells a b = formed a && not (formed b)
 
-abbrev job : ℕ → ℕ → ℕ → Job
+abbrev pub job : ℕ → ℕ → ℕ → Job
 job o m u = record { site = o; reads = m; upstream = u }
 
 -- State, number of jobs, done mask, read mask, jobs, card.
-abbrev run : ℕ → ℕ → ℕ → ℕ → (ℕ → Job) → Place Version → Run
-run state n finished read jobs card = record {
-  state = state;
-  jobs = n;
-  done = finished;
-  job = jobs;
-  branch = record { read = read; snapshot = card };
-}
+abbrev pub run : ℕ → ℕ → ℕ → ℕ → (ℕ → Job) → Place Version → Run
+run state n finished read jobs card =
+    unforked state n finished jobs (record { read = read; snapshot = card })
+
+-- The same run with a mark, a second read mask and a second card.
+abbrev pub lined : Run → ℕ → ℕ → Place Version → Run
+lined a mark read card =
+    runWith a (a .state) (a .done) (a .branch) mark (record { read = read; snapshot = card })
 
 -- An open run of n jobs, nothing done, all its words zero but for one job's.
-abbrev jobbed : ℕ → ℕ → Job → Run
+abbrev pub jobbed : ℕ → ℕ → Job → Run
 jobbed n i x = run 1 n 0 0 (putAt noJobs i x) emptyPlace
 
 -- Job 0 reads sheet 0, job 1 sheet 1.
-abbrev two : ℕ → Job
+abbrev pub two : ℕ → Job
 two i = getD (job 0 1 0 ∷ job 1 2 0 ∷ []) i noJob
 
 -- Sheet 0 alone, sheet 1 alone, both.
@@ -60,44 +61,45 @@ zeroth = version 1 ((1 ∷ 0 ∷ []) ∷ [])
 abbrev other : Version
 other = version 1 ([] ∷ (1 ∷ 0 ∷ []) ∷ [])
 
-abbrev card-0 : Place Version
+abbrev pub card-0 : Place Version
 card-0 = place (zeroth ∷ [])
 
-abbrev card-1 : Place Version
+abbrev pub card-1 : Place Version
 card-1 = place (unheld ∷ other ∷ [])
 
-abbrev card-both : Place Version
+abbrev pub card-both : Place Version
 card-both = place (zeroth ∷ other ∷ [])
 
 -- ---- "an unheld version has only zero words and a held one a non-zero own row"
 
--- Version v of sheet 1 on the master, on the first and the last shelf, and on the card of a run
+-- Version v of sheet 1 on the master, on the first and the last shelf, and on each card of a run
 -- with a job that reads sheet 1.
 abbrev placed : Version → List Bool
 placed v =
     let s = fresh (countsOf 2 2 2 2) in
     let p = place (unheld ∷ v ∷ []) in
+    let jobs = putAt noJobs 0 (job 0 2 0) in
     wellFormed (withMaster s p) ∷ wellFormed (withCache s 0 p) ∷ wellFormed (withCache s 1 p)
-    ∷ formed (run 1 1 0 0 (putAt noJobs 0 (job 0 2 0)) p) ∷ []
+    ∷ formed (run 1 1 0 0 jobs p) ∷ formed (lined (run 1 1 0 0 jobs emptyPlace) 1 0 p) ∷ []
 
 -- Held, of writer 0 alone, with a mask.
 abbrev ruled : ℕ → Version
 ruled m = led m 1 ([] ∷ (1 ∷ 0 ∷ []) ∷ [])
 
 pub record Versions : Type 0 where
-  pub nothing : placed unheld ≡ replicate 4 true
-  pub alone : placed (version 1 ([] ∷ (0 ∷ 1 ∷ []) ∷ [])) ≡ replicate 4 true
-  pub needing : placed (version 1 ((0 ∷ 1 ∷ []) ∷ (0 ∷ 1 ∷ []) ∷ [])) ≡ replicate 4 true
+  pub nothing : placed unheld ≡ replicate 5 true
+  pub alone : placed (version 1 ([] ∷ (0 ∷ 1 ∷ []) ∷ [])) ≡ replicate 5 true
+  pub needing : placed (version 1 ((0 ∷ 1 ∷ []) ∷ (0 ∷ 1 ∷ []) ∷ [])) ≡ replicate 5 true
   -- Unheld with a count in its own row, in another row; held with no own row.
-  pub own-word : placed (led 0 0 ([] ∷ (0 ∷ 1 ∷ []) ∷ [])) ≡ replicate 4 false
-  pub need-word : placed (led 0 0 ((0 ∷ 1 ∷ []) ∷ [])) ≡ replicate 4 false
+  pub own-word : placed (led 0 0 ([] ∷ (0 ∷ 1 ∷ []) ∷ [])) ≡ replicate 5 false
+  pub need-word : placed (led 0 0 ((0 ∷ 1 ∷ []) ∷ [])) ≡ replicate 5 false
   -- CR 3: of two writers any mask but 0, and none with a bit at 2 or above; none if unheld. A
   -- leader may have no count.
-  pub masks : placed (ruled 2) ++ placed (ruled 3) ≡ replicate 8 true
-  pub no-mask : placed (ruled 0) ≡ replicate 4 false
-  pub high-mask : placed (ruled 4) ++ placed (ruled 7) ≡ replicate 8 false
-  pub mask-word : placed (led 1 0 []) ≡ replicate 4 false
-  pub no-row : placed (version 1 ((0 ∷ 1 ∷ []) ∷ [])) ≡ replicate 4 false
+  pub masks : placed (ruled 2) ++ placed (ruled 3) ≡ replicate 10 true
+  pub no-mask : placed (ruled 0) ≡ replicate 5 false
+  pub high-mask : placed (ruled 4) ++ placed (ruled 7) ≡ replicate 10 false
+  pub mask-word : placed (led 1 0 []) ≡ replicate 5 false
+  pub no-row : placed (version 1 ((0 ∷ 1 ∷ []) ∷ [])) ≡ replicate 5 false
 
 -- ---- "a free run is all zero": each word but the state, which is 0
 
@@ -115,6 +117,15 @@ free-card =
     tells freeRun (run 0 0 0 0 noJobs card-1)
     ∷ tells freeRun (run 0 0 0 0 noJobs (place (led 0 0 ([] ∷ (0 ∷ 1 ∷ []) ∷ []) ∷ [])))
     ∷ tells freeRun (run 0 0 0 0 noJobs (place (unheld ∷ led 1 0 [] ∷ []))) ∷ []
+
+-- Its mark, and its second read mask and card.
+abbrev free-second : List Bool
+free-second =
+    map (λ a. tells freeRun a)
+    (lined freeRun 1 0 emptyPlace ∷ lined freeRun 2 0 emptyPlace ∷ lined freeRun 0 1 emptyPlace
+    ∷ lined freeRun 0 0 card-1
+    ∷ lined freeRun 0 0 (place (led 0 0 ([] ∷ (0 ∷ 1 ∷ []) ∷ []) ∷ []))
+    ∷ lined freeRun 0 0 (place (unheld ∷ led 1 0 [] ∷ [])) ∷ [])
 
 -- ---- "any other run is in state 1 or 2 and has 1..8 jobs, zero words beyond them, valid jobs"
 
@@ -182,6 +193,7 @@ pub record Clauses : Type 0 where
   pub of-version : Versions
   pub of-free : free-jobs ≡ replicate 6 true
   pub of-free-card : free-card ≡ replicate 3 true
+  pub of-free-second : free-second ≡ replicate 6 true
   pub of-state : state ≡ replicate 2 true
   pub of-number : number ≡ replicate 2 true
   pub of-beyond : beyond ≡ replicate 4 true
@@ -195,9 +207,10 @@ pub record Clauses : Type 0 where
 pub clauses : Clauses
 unfolding anyBelow allBelow putAt testBit withBit withIf maskBelow present between held fresh
     planned doneReads withMaster withSites withCache withRun withTail zeroRows zeroVersion
-    leadersFormed versionFormed placeFormed validJob zeroJob freeFormed jobsFormed masksFormed
-    snapshotFormed runFormed siteFormed rightsFormed tailFormed barred wellFormed isStale
-    staleMask siteWith exceeds standing when countBelow heldCount over
+    leadersFormed versionFormed placeFormed validJob zeroJob zeroBranch freeFormed jobsFormed
+    masksFormed markFormed snapshotFormed branchesFormed runFormed siteFormed rightsFormed
+    tailFormed barred wellFormed isStale staleMask siteWith exceeds standing when countBelow
+    heldCount over
 clauses = record {
   of-version = record {
     nothing = refl;
@@ -213,6 +226,7 @@ clauses = record {
   };
   of-free = refl;
   of-free-card = refl;
+  of-free-second = refl;
   of-state = refl;
   of-number = refl;
   of-beyond = refl;

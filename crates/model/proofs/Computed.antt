@@ -1,5 +1,5 @@
 -- The readings and the scripts computed by the definitions; those of later calls: Computed/. Those
--- of change requests 6 to 9 are computed in Computed/Later.
+-- of change requests 6 to 10 are computed in Computed/Later.
 -- Assumes nothing.
 use mathlib.Core.Path.{_≡_, refl}
 use mathlib.Core.Bool.{true}
@@ -17,7 +17,7 @@ use Rattle.model.specs.Algebra.{lacking, needsMet, causalCut, overlappin
 use Rattle.model.specs.Version.{held, dependency, supersedes, leadsOn, mergedLeaders, larger, merge}
 use Rattle.model.specs.Sets.{draws, drawSet, fetchSet, fetched, unfetchable, evictSet, evicted, pullSet, pulled}
 use Rattle.model.specs.Store.{fresh, planned, doneReads, siteWith, withMarks, withMaster, withLast, withSites, withCache, withCaches, withWriter, withRun, withState, withSnapshot, withJobDone, withTail}
-use Rattle.model.specs.Form.{zeroRows, zeroVersion, leadersFormed, versionFormed, placeFormed, validJob, zeroJob, freeFormed, jobsFormed, masksFormed, snapshotFormed, runFormed, siteFormed, rightsFormed, tailFormed, wellFormed}
+use Rattle.model.specs.Form.{zeroRows, zeroVersion, leadersFormed, versionFormed, placeFormed, validJob, zeroJob, zeroBranch, freeFormed, jobsFormed, masksFormed, markFormed, snapshotFormed, branchesFormed, runFormed, siteFormed, rightsFormed, tailFormed, wellFormed}
 use Rattle.model.specs.Marks.{isStale, staleMask}
 use Rattle.model.specs.Allowance.{heldCount, over}
 use Rattle.model.specs.Calls.Stale.{staleCause, staleReply}
@@ -25,7 +25,7 @@ use Rattle.model.specs.Outcome.{answer, refuse, unless, replied, allowed
 use Rattle.model.specs.Caches.{fetchCause, fetchDone, fetchRule, evictCause, evictDone, evictRule}
 use Rattle.model.specs.Runs.{listedJob, listedCount, listedJobs, listValid, openCause, openedRun, openDone, openRule, dropCause, dropDone, dropRule}
 use Rattle.model.specs.Prepare.{jobStart, fetchReads, preparedCaches, unentitled, unpreparable, usesSite, sitesMerged, siteCaches, anyOver, prepareCause, prepareCaches, prepareSnapshot, prepareDone, prepareRule}
-use Rattle.model.specs.Step.{readStart, stepSite, stepReads, stepStart, stepFetch, stepCache, stepPlan, stepPull, stepSnapshot, stepMoved, stepBarred, jobLimit, notReady, jobCause, stepCause, stepBroken, stepDone, stepRule}
+use Rattle.model.specs.Step.{readStart, stepSite, stepReads, stepStart, stepFetch, stepCache, stepPlan, stepPull, stepSnapshot, stepMoved, stepBarred, jobLimit, notReady, offBranch, jobCause, stepCause, stepBroken, stepDone, stepRule}
 use Rattle.model.specs.Issue.{raiseCause, issueCause, takenIn, rowsSet, newPast, newVersion, issuedMaster, issuedWriter, savedStore, issuedStore, issuedNumber, issueDone, issueRule}
 use Rattle.model.specs.Calls.Look.{lookPlace, lookLimit, lookCause, rowNumbers, lookStanding, lookNumbers, lookReply}
 use Rattle.model.specs.Calls.Explain.{explainStart, explainEdge, explainGoal, explainPath, breaks, explainReply}
@@ -46,6 +46,7 @@ pub mod Admit
 pub mod Allow
 pub mod Pick
 pub mod Rights
+pub mod Fork
 pub mod Later
 
 -- The ten marked readings pass, and each script is answered as it should be, answer by answer.
@@ -125,25 +126,25 @@ pub record Computed : Type 0 where
 
 pub computed : Computed
 unfolding needsMet causalCut overlappingCut concurrent doneReads zeroRows zeroVersion
-    leadersFormed versionFormed placeFormed zeroJob freeFormed jobsFormed masksFormed
-    snapshotFormed runFormed siteFormed rightsFormed tailFormed wellFormed isStale staleMask
-    siteWith withMarks staleCause staleReply when countBelow heldCount over anyOver anyBelow
-    allBelow only foldBelow putAt upto blocks testBit withBit withIf maskBelow closure rounds
-    round exceeds standing dominates present join between lacking held dependency supersedes
-    leadsOn mergedLeaders larger merge draws drawSet fetchSet fetched unfetchable evictSet
-    evicted pullSet pulled fresh planned withMaster withLast withSites withCache withCaches
-    withWriter withRun withState withSnapshot withJobDone withTail validJob answer refuse unless
-    allowed runCause fetchCause fetchDone fetchRule evictCause evictDone evictRule listedJob
-    listedCount listedJobs listValid openCause openedRun openDone openRule dropCause dropDone
-    dropRule jobStart fetchReads preparedCaches unpreparable usesSite sitesMerged siteCaches
-    unentitled prepareCause prepareCaches prepareSnapshot prepareDone prepareRule readStart
-    stepSite stepReads stepStart stepFetch stepCache stepPlan stepPull stepSnapshot stepMoved
-    stepBarred barred jobLimit notReady jobCause stepCause stepBroken stepDone stepRule
-    raiseCause issueCause takenIn rowsSet newPast newVersion issuedMaster issuedWriter
-    savedStore issuedStore issuedNumber issueDone issueRule lookPlace lookLimit lookCause
-    rowNumbers lookStanding lookNumbers lookReply explainStart explainEdge explainGoal
-    explainPath breaks explainReply lowest near distance nearest pathBy shortestPath replied
-    replyOf ruleOf
+    leadersFormed versionFormed placeFormed zeroJob zeroBranch freeFormed jobsFormed masksFormed
+    markFormed snapshotFormed branchesFormed runFormed siteFormed rightsFormed tailFormed
+    wellFormed isStale staleMask siteWith withMarks staleCause staleReply when countBelow
+    heldCount over anyOver anyBelow allBelow only foldBelow putAt upto blocks testBit withBit
+    withIf maskBelow closure rounds round exceeds standing dominates present join between
+    lacking held dependency supersedes leadsOn mergedLeaders larger merge draws drawSet fetchSet
+    fetched unfetchable evictSet evicted pullSet pulled fresh planned withMaster withLast
+    withSites withCache withCaches withWriter withRun withState withSnapshot withJobDone
+    withTail validJob answer refuse unless allowed runCause fetchCause fetchDone fetchRule
+    evictCause evictDone evictRule listedJob listedCount listedJobs listValid openCause
+    openedRun openDone openRule dropCause dropDone dropRule jobStart fetchReads preparedCaches
+    unpreparable usesSite sitesMerged siteCaches unentitled prepareCause prepareCaches
+    prepareSnapshot prepareDone prepareRule readStart stepSite stepReads stepStart stepFetch
+    stepCache stepPlan stepPull stepSnapshot stepMoved stepBarred barred jobLimit notReady
+    offBranch jobCause stepCause stepBroken stepDone stepRule raiseCause issueCause takenIn
+    rowsSet newPast newVersion issuedMaster issuedWriter savedStore issuedStore issuedNumber
+    issueDone issueRule lookPlace lookLimit lookCause rowNumbers lookStanding lookNumbers
+    lookReply explainStart explainEdge explainGoal explainPath breaks explainReply lowest near
+    distance nearest pathBy shortestPath replied replyOf ruleOf
 computed = record {
   ten = refl;
   texts = refl;

@@ -51,7 +51,8 @@ issue-entitled s r w S k e l p =
     let b = no-cause _ 3 _ (omega arith) (a .1) in
     let c = no-cause _ 3 _ (omega arith) (b .1) in
     let d = no-cause _ 4 _ (omega arith) (c .1) in
-    let f = no-cause _ 6 _ (omega arith) (d .1) in
+    let m = no-cause _ 14 _ (omega arith) (d .1) in
+    let f = no-cause _ 6 _ (omega arith) (m .1) in
     let g = no-cause _ 13 _ (omega arith) (f .1) in
     unbarred-at (s .counts .keys) (s .tail .maySave w) (testBit S) (g .0) k l p
 
@@ -66,7 +67,8 @@ unfolding prepareCause runCause allowed
 prepared s r e =
     let a = no-cause (leb (s .counts .runs) r) 3 _ (omega arith) e in
     let b = no-lack (allowed prepareRow (s .run r .state)) 4 _ (omega arith) (a .1) in
-    let c = no-cause _ 6 _ (omega arith) (b .1) in (
+    let m = no-cause _ 14 _ (omega arith) (b .1) in
+    let c = no-cause _ 6 _ (omega arith) (m .1) in (
       leb-gt (s .counts .runs) r (a .0),
       allowed-used prepareRow (s .run r .state) refl (b .0),
       no-cause _ 13 _ (omega arith) (c .1) .0,

@@ -14,7 +14,7 @@ use Rattle.model.specs.Version.{Version, mergedLeaders, merge}
 use Rattle.model.specs.Store.{Job, Store, noBranch, noJob, fresh, withMaster, withCache, withRun}
 use Rattle.model.specs.Calls.{StoreCall, openRun, fetch, prepare, step, issue, ask, look}
 use Rattle.model.proofs.Scripts.{answers, ok₁, ok₃, seen, saving}
-use Rattle.model.proofs.Readings.{clock, led, place, alike, zero-zero, one-one, two-zero}
+use Rattle.model.proofs.Readings.{clock, led, place, unforked, alike, zero-zero, one-one, two-zero}
 
 -- ---- merges, of key 0 but for the last
 
@@ -56,7 +56,7 @@ masks =
 
 -- Writer w, with the sheets of m read at office o, saves those of S.
 abbrev editing : ℕ → ℕ → ℕ → ℕ → List StoreCall
-editing o m w S = openRun 0 (o ∷ m ∷ 0 ∷ []) ∷ step 0 0 ∷ issue 0 w S ∷ []
+editing o m w S = openRun 0 (o ∷ m ∷ 0 ∷ []) ∷ step 0 0 0 ∷ issue 0 w S ∷ []
 
 -- After `new 1 3 2 1`: two rivals lead, and neither does once a third has seen both.
 abbrev pub rival-script : List StoreCall
@@ -141,13 +141,8 @@ pair-answers =
 abbrev collecting : List ℕ → Store → Store
 collecting offices s =
     let job : ℕ → Job = λ o. record { site = o; reads = 1; upstream = 0 } in
-    withRun s 0 (record {
-      state = 1;
-      jobs = length offices;
-      done = 0;
-      job = λ i. getD (map job offices) i noJob;
-      branch = noBranch;
-    })
+    withRun s 0
+    (unforked 1 (length offices) 0 (λ i. getD (map job offices) i noJob) noBranch)
 
 abbrev one : ℕ → List ℕ → Place Version
 one m row = place (led m 1 (row ∷ []) ∷ [])
@@ -189,13 +184,8 @@ stepping-store =
     []) in
     let s = withMaster (fresh (countsOf 2 2 1 1)) shelf in
     let job : ℕ → Job = λ m. record { site = 0; reads = m; upstream = 0 } in
-    withRun (withCache s 0 shelf) 0 (record {
-      state = 1;
-      jobs = 2;
-      done = 0;
-      job = λ i. getD (job 2 ∷ job 1 ∷ []) i noJob;
-      branch = record { read = 0; snapshot = place (led 1 3 (two-zero ∷ []) ∷ []) };
-    })
+    withRun (withCache s 0 shelf) 0 (unforked 1 2 0 (λ i. getD (job 2 ∷ job 1 ∷ []) i noJob)
+    (record { read = 0; snapshot = place (led 1 3 (two-zero ∷ []) ∷ []) }))
 
 abbrev pub stepped : List (List ℕ)
-stepped = answers (step 0 0 ∷ ask (look 2 0 0) ∷ []) stepping-store
+stepped = answers (step 0 0 0 ∷ ask (look 2 0 0) ∷ []) stepping-store

@@ -18,6 +18,7 @@ pub mod DoneReads
 pub mod FormedPlaces
 pub mod Formed
 pub mod FormedNext
+pub mod Branches
 pub mod Plans
 pub mod Entitled
 pub mod Marked
@@ -27,3 +28,4 @@ pub mod Stays
 pub mod Moved
 pub mod Rows
 pub mod Joining
+pub mod Forks

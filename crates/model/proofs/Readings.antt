@@ -16,7 +16,7 @@ use Rattle.sizes.specs.Bounds.{countsOf}
 use Rattle.model.specs.Algebra.{Place, causalCut, overlappingCut}
 use Rattle.model.specs.Version.{Version, zeroPast, unheld, dependency, supersedes, merge, versions}
 use Rattle.model.specs.Sets.{evictSet}
-use Rattle.model.specs.Store.{Store, Job, noJob, noJobs, noBranch, fresh, withLast, withMarks, withMaster, withCache, withWriter, withRun}
+use Rattle.model.specs.Store.{Store, Job, Branch, Run, noJob, noJobs, noBranch, fresh, withLast, withMarks, withMaster, withCache, withWriter, withRun}
 use Rattle.model.specs.Form.{wellFormed}
 use Rattle.model.specs.Outcome.{answer}
 use Rattle.model.specs.Calls.Look.{rowNumbers}
@@ -44,6 +44,18 @@ version n rows = led 1 n rows
 
 abbrev pub place : List Version → Place Version
 place l k = getD l k unheld
+
+-- A run that was never forked: state, number of jobs, done mask, jobs, read mask and card.
+abbrev pub unforked : ℕ → ℕ → ℕ → (ℕ → Job) → Branch → Run
+unforked state n finished job branch = record {
+  state = state;
+  jobs = n;
+  done = finished;
+  job = job;
+  branch = branch;
+  mark = 0;
+  second = noBranch;
+}
 
 abbrev pub alike : Version → Version → Bool
 alike a b =
@@ -132,13 +144,8 @@ cache-of need = place (version 2 (two-zero ∷ []) ∷ version 2 (need ∷ two-z
 abbrev pub store-of : ℕ → List ℕ → Store
 store-of read need =
     let master = withMaster (fresh (countsOf 2 2 1 1)) (cache-of two-zero) in
-    withRun (withCache master 0 (cache-of need)) 0 (record {
-      state = 1;
-      jobs = 2;
-      done = read;
-      job = jobs;
-      branch = record { read = read; snapshot = place (version 1 (one-zero ∷ []) ∷ []) };
-    })
+    withRun (withCache master 0 (cache-of need)) 0 (unforked 1 2 read jobs
+    (record { read = read; snapshot = place (version 1 (one-zero ∷ []) ∷ []) }))
 
 -- A call on a store that is in form.
 abbrev pub answered : Store → StoreCall → List ℕ → Bool
@@ -146,7 +153,7 @@ answered s c expected = wellFormed s && same (answer (ruleOf c s)) expected
 
 -- The step of job 1.
 abbrev pub stepping : ℕ → List ℕ → List ℕ → Bool
-stepping read need expected = answered (store-of read need) (step 0 1) expected
+stepping read need expected = answered (store-of read need) (step 0 1 0) expected
 
 -- "sheet 0 was read at (1,0). The shelf has 0 at (2,0), and 1 that needs 0 at (1,0). A job
 -- reading 1 goes through."
@@ -210,7 +217,7 @@ unmarked =
     let s = fresh (countsOf 2 2 1 1) in
     answered s (openRun 0 (words 8)) (ok₁ 8) ∷ answered s (openRun 0 (words 9)) (not-taken 5)
     ∷ answered s (openRun 0 (0 ∷ 1 ∷ 0 ∷ 0 ∷ [])) (not-taken 5)
-    ∷ answered s (step 0 0) (not-taken 4) ∷ answered s (ask (look 2 0 0)) (not-taken 8) ∷ []
+    ∷ answered s (step 0 0 0) (not-taken 4) ∷ answered s (ask (look 2 0 0)) (not-taken 8) ∷ []
 
 -- ---- stores that no list of calls from new reaches
 
@@ -218,13 +225,8 @@ unmarked =
 abbrev counted-to : ℕ → ℕ → Store
 counted-to last count =
     let s = withLast (fresh (countsOf 2 2 1 1)) last in
-    withRun (withWriter s 0 (record { count = count; past = zeroPast })) 0 (record {
-      state = 1;
-      jobs = 1;
-      done = 1;
-      job = noJobs;
-      branch = noBranch;
-    })
+    withRun (withWriter s 0 (record { count = count; past = zeroPast })) 0
+    (unforked 1 1 1 noJobs noBranch)
 
 -- "Issue with S not empty": 9 before 10, both where both are reached; neither with S empty, nor
 -- the count of another writer.

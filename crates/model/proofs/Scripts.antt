@@ -35,10 +35,10 @@ not-taken n = 2 ∷ n ∷ []
 
 abbrev pub case-a-script : List StoreCall
 case-a-script =
-    openRun 0 (0 ∷ 0 ∷ 0 ∷ []) ∷ step 0 0 ∷ issue 0 0 3 ∷ fetch 0 0
-    ∷ openRun 0 (0 ∷ 1 ∷ 0 ∷ []) ∷ step 0 0 ∷ issue 0 1 2
-    ∷ openRun 0 (0 ∷ 1 ∷ 0 ∷ 1 ∷ 2 ∷ 1 ∷ []) ∷ step 0 1 ∷ step 0 0 ∷ step 0 1 ∷ ask (look 2 0 1)
-    ∷ fetch 1 1 ∷ evict 0 1 ∷ []
+    openRun 0 (0 ∷ 0 ∷ 0 ∷ []) ∷ step 0 0 0 ∷ issue 0 0 3 ∷ fetch 0 0
+    ∷ openRun 0 (0 ∷ 1 ∷ 0 ∷ []) ∷ step 0 0 0 ∷ issue 0 1 2
+    ∷ openRun 0 (0 ∷ 1 ∷ 0 ∷ 1 ∷ 2 ∷ 1 ∷ []) ∷ step 0 1 0 ∷ step 0 0 0 ∷ step 0 1 0
+    ∷ ask (look 2 0 1) ∷ fetch 1 1 ∷ evict 0 1 ∷ []
 
 abbrev pub case-a-answers : List (List ℕ)
 case-a-answers =
@@ -54,19 +54,19 @@ abbrev pub longer-script : List StoreCall
 longer-script =
     -- Writer 0 saves keys 0 and 1; writer 1, who has read nothing, saves 1: a rival, merged on
     -- the master.
-    openRun 0 (0 ∷ 0 ∷ 0 ∷ []) ∷ step 0 0 ∷ issue 0 0 3
-    ∷ openRun 1 (1 ∷ 0 ∷ 0 ∷ []) ∷ step 1 0 ∷ issue 1 1 2 ∷ ask (look 0 0 1)
+    openRun 0 (0 ∷ 0 ∷ 0 ∷ []) ∷ step 0 0 0 ∷ issue 0 0 3
+    ∷ openRun 1 (1 ∷ 0 ∷ 0 ∷ []) ∷ step 1 0 0 ∷ issue 1 1 2 ∷ ask (look 0 0 1)
     -- Site 0 takes 1, and 0 with it; evicting 0 takes 1 along.
     ∷ fetch 0 1 ∷ evict 0 0 ∷ ask (look 1 0 1) ∷ fetch 0 0 ∷ ask (look 1 0 0)
     -- Run 0 reads 0 at site 0. Writer 0, having read 0, saves 0 and 2; site 1 takes 2, which
     -- needs the new 0.
-    ∷ openRun 0 (0 ∷ 1 ∷ 0 ∷ 1 ∷ 4 ∷ 0 ∷ []) ∷ step 0 0
-    ∷ openRun 1 (0 ∷ 1 ∷ 0 ∷ []) ∷ step 1 0 ∷ issue 1 0 5 ∷ fetch 1 2
+    ∷ openRun 0 (0 ∷ 1 ∷ 0 ∷ 1 ∷ 4 ∷ 0 ∷ []) ∷ step 0 0 0
+    ∷ openRun 1 (0 ∷ 1 ∷ 0 ∷ []) ∷ step 1 0 0 ∷ issue 1 0 5 ∷ fetch 1 2
     -- Run 0 can't read 2 beside its older 0.
-    ∷ step 0 1 ∷ step 0 1 ∷ step 0 2 ∷ dropRun 0
+    ∷ step 0 1 0 ∷ step 0 1 0 ∷ step 0 2 0 ∷ dropRun 0
     -- The same jobs, prepared: site 0 fetches what it lacks, the card is the merge of both
     -- caches, and both go through.
-    ∷ openRun 0 (0 ∷ 1 ∷ 0 ∷ 1 ∷ 4 ∷ 1 ∷ []) ∷ prepare 0 ∷ step 0 0 ∷ prepare 0 ∷ step 0 1
+    ∷ openRun 0 (0 ∷ 1 ∷ 0 ∷ 1 ∷ 4 ∷ 1 ∷ []) ∷ prepare 0 ∷ step 0 0 0 ∷ prepare 0 ∷ step 0 1 0
     ∷ ask (look 2 0 2)
     ∷ issue 0 1 7 ∷ ask (look 0 0 2) ∷ issue 0 1 0 ∷ []
 
@@ -86,12 +86,12 @@ longer-answers =
 
 abbrev pub refusals-script : List StoreCall
 refusals-script =
-    step 0 7 ∷ step 0 8 ∷ openRun 2 (0 ∷ 0 ∷ []) ∷ openRun 0 [] ∷ openRun 0 (1 ∷ 0 ∷ 0 ∷ [])
+    step 0 7 0 ∷ step 0 8 0 ∷ openRun 2 (0 ∷ 0 ∷ []) ∷ openRun 0 [] ∷ openRun 0 (1 ∷ 0 ∷ 0 ∷ [])
     ∷ openRun 0 (0 ∷ 4 ∷ 0 ∷ []) ∷ openRun 0 (0 ∷ 0 ∷ 1 ∷ []) ∷ openRun 0 (0 ∷ 1 ∷ 0 ∷ [])
-    ∷ openRun 0 (0 ∷ 1 ∷ []) ∷ prepare 0 ∷ step 0 0 ∷ issue 0 0 4 ∷ issue 0 2 3 ∷ issue 0 0 3
+    ∷ openRun 0 (0 ∷ 1 ∷ []) ∷ prepare 0 ∷ step 0 0 0 ∷ issue 0 0 4 ∷ issue 0 2 3 ∷ issue 0 0 3
     ∷ dropRun 0 ∷ dropRun 0 ∷ prepare 1 ∷ fetch 0 0 ∷ fetch 1 0 ∷ fetch 0 2 ∷ evict 0 0
-    ∷ evict 0 2 ∷ openRun 0 (0 ∷ 0 ∷ 0 ∷ []) ∷ step 0 1 ∷ step 0 0 ∷ step 0 0 ∷ prepare 0
-    ∷ issue 0 0 3 ∷ fetch 0 0 ∷ openRun 0 (0 ∷ 2 ∷ 0 ∷ []) ∷ step 0 0 ∷ ask (look 2 0 1)
+    ∷ evict 0 2 ∷ openRun 0 (0 ∷ 0 ∷ 0 ∷ []) ∷ step 0 1 0 ∷ step 0 0 0 ∷ step 0 0 0 ∷ prepare 0
+    ∷ issue 0 0 3 ∷ fetch 0 0 ∷ openRun 0 (0 ∷ 2 ∷ 0 ∷ []) ∷ step 0 0 0 ∷ ask (look 2 0 1)
     ∷ ask (look 2 0 0) ∷ ask (look 1 0 0) ∷ ask (look 0 1 0) ∷ ask (look 3 0 0)
     ∷ ask (look 2 2 0) ∷ issue 0 1 1 ∷ fetch 0 1 ∷ ask (look 1 0 0) ∷ fetch 0 0 ∷ []
 
@@ -110,8 +110,8 @@ refusals-answers =
 
 abbrev pub reading-script : List StoreCall
 reading-script =
-    openRun 0 (0 ∷ 0 ∷ 0 ∷ []) ∷ step 0 0 ∷ issue 0 0 1 ∷ openRun 0 (0 ∷ 1 ∷ 0 ∷ [])
-    ∷ step 0 0 ∷ issue 0 1 2 ∷ fetch 1 1 ∷ ask (look 1 1 1) ∷ evict 1 0 ∷ []
+    openRun 0 (0 ∷ 0 ∷ 0 ∷ []) ∷ step 0 0 0 ∷ issue 0 0 1 ∷ openRun 0 (0 ∷ 1 ∷ 0 ∷ [])
+    ∷ step 0 0 0 ∷ issue 0 1 2 ∷ fetch 1 1 ∷ ask (look 1 1 1) ∷ evict 1 0 ∷ []
 
 abbrev pub reading-answers : List (List ℕ)
 reading-answers =
@@ -122,12 +122,12 @@ reading-answers =
 
 -- Writer 0, having read nothing, saves the sheets of S.
 abbrev pub saving : ℕ → List StoreCall
-saving S = openRun 0 (0 ∷ 0 ∷ 0 ∷ []) ∷ step 0 0 ∷ issue 0 0 S ∷ []
+saving S = openRun 0 (0 ∷ 0 ∷ 0 ∷ []) ∷ step 0 0 0 ∷ issue 0 0 S ∷ []
 
 abbrev pub again-script : List StoreCall
 again-script =
-    saving 1 ++ fetch 0 0 ∷ (saving 2 ++ openRun 0 (0 ∷ 3 ∷ 0 ∷ []) ∷ step 0 0 ∷ dropRun 0
-    ∷ evict 0 1 ∷ (saving 3 ++ openRun 0 (0 ∷ 3 ∷ 0 ∷ []) ∷ step 0 0 ∷ []))
+    saving 1 ++ fetch 0 0 ∷ (saving 2 ++ openRun 0 (0 ∷ 3 ∷ 0 ∷ []) ∷ step 0 0 0 ∷ dropRun 0
+    ∷ evict 0 1 ∷ (saving 3 ++ openRun 0 (0 ∷ 3 ∷ 0 ∷ []) ∷ step 0 0 0 ∷ []))
 
 abbrev pub again-answers : List (List ℕ)
 again-answers =
@@ -138,10 +138,10 @@ again-answers =
 
 abbrev pub broken-script : List StoreCall
 broken-script =
-    saving 1 ++ openRun 0 (0 ∷ 1 ∷ 0 ∷ 1 ∷ 2 ∷ 0 ∷ []) ∷ step 0 0
-    ∷ openRun 1 (0 ∷ 1 ∷ 0 ∷ []) ∷ step 1 0 ∷ issue 1 0 3
-    ∷ step 0 1 ∷ ask (look 1 1 1) ∷ prepare 0 ∷ issue 0 0 1 ∷ issue 0 0 0 ∷ step 0 1 ∷ step 0 0
-    ∷ step 0 2 ∷ openRun 0 (0 ∷ 0 ∷ 0 ∷ []) ∷ dropRun 0 ∷ dropRun 0 ∷ []
+    saving 1 ++ openRun 0 (0 ∷ 1 ∷ 0 ∷ 1 ∷ 2 ∷ 0 ∷ []) ∷ step 0 0 0
+    ∷ openRun 1 (0 ∷ 1 ∷ 0 ∷ []) ∷ step 1 0 0 ∷ issue 1 0 3
+    ∷ step 0 1 0 ∷ ask (look 1 1 1) ∷ prepare 0 ∷ issue 0 0 1 ∷ issue 0 0 0 ∷ step 0 1 0
+    ∷ step 0 0 0 ∷ step 0 2 0 ∷ openRun 0 (0 ∷ 0 ∷ 0 ∷ []) ∷ dropRun 0 ∷ dropRun 0 ∷ []
 
 abbrev pub broken-answers : List (List ℕ)
 broken-answers =
@@ -155,8 +155,9 @@ broken-answers =
 abbrev pub behind-script : List StoreCall
 behind-script =
     saving 1 ++ ask (look 0 0 0) ∷ fetch 0 0 ∷ ask (look 1 0 0)
-    ∷ openRun 0 (0 ∷ 0 ∷ 0 ∷ []) ∷ step 0 0 ∷ issue 0 1 1 ∷ ask (look 1 0 0) ∷ ask (look 0 0 0)
-    ∷ openRun 0 (0 ∷ 1 ∷ 0 ∷ []) ∷ step 0 0 ∷ fetch 0 0 ∷ ask (look 1 0 0) ∷ ask (look 2 0 0) ∷ []
+    ∷ openRun 0 (0 ∷ 0 ∷ 0 ∷ []) ∷ step 0 0 0 ∷ issue 0 1 1 ∷ ask (look 1 0 0) ∷ ask (look 0 0 0)
+    ∷ openRun 0 (0 ∷ 1 ∷ 0 ∷ []) ∷ step 0 0 0 ∷ fetch 0 0 ∷ ask (look 1 0 0)
+    ∷ ask (look 2 0 0) ∷ []
 
 abbrev pub behind-answers : List (List ℕ)
 behind-answers =

@@ -2,7 +2,7 @@
 -- Accepted: what it has passed. accepted-used: its run isn't free. job-limit: its jobs.
 -- step-high, step-below, step-free: the cause by the run's range and jobCause.
 -- step-planned, step-cached: where the reads of such a step are. stepSnapshot-..: the snapshot
--- after it. steppedRun: its run.
+-- after it. steppedBranch, steppedRun: its branch and run.
 -- Assumes nothing.
 use mathlib.Core.Path.{_≡_, refl, sym, _∙_}
 use mathlib.Core.Bool.{Bool, true, false, cond, not, So}
@@ -18,10 +18,10 @@ use Rattle.masks.specs.Mask.{withBit}
 use Rattle.model.specs.Algebra.{causalCut, overlappingCut, lacking}
 use Rattle.model.specs.Version.{held, versions}
 use Rattle.model.specs.Sets.{unfetchable}
-use Rattle.model.specs.Store.{Run, Store, planned, withJobDone}
+use Rattle.model.specs.Store.{Branch, Run, Store, planned, withJobDone}
 use Rattle.model.specs.Allowance.{over}
 use Rattle.model.specs.Outcome.{refuse, allowed, stepRow, freeState}
-use Rattle.model.specs.Step.{readStart, stepBranch, stepSite, stepReads, stepStart, stepCache, stepPlan, stepPull, stepSnapshot, stepBarred, jobLimit, notReady, jobCause, stepCause}
+use Rattle.model.specs.Step.{readStart, stepBranch, stepSite, stepReads, stepStart, stepCache, stepPlan, stepPull, stepSnapshot, stepBarred, jobLimit, offBranch, notReady, jobCause, stepCause}
 use Rattle.model.proofs.Outcomes.{no-cause, no-lack, allowed-used}
 use Rattle.model.proofs.Draws.{lacking-iff, fetched-held, pulled-out}
 use Rattle.model.proofs.Pulls.{pulled-held, pulled-keeps, pulled-planned, pulled-overlap}
@@ -31,6 +31,7 @@ pub record Accepted (s : Store) (r j n : ℕ) : Type 0 where
   pub run-in : r < s .counts .runs
   pub open-run : So (allowed stepRow (s .run r .state))
   pub job-in : j < s .run r .jobs
+  pub on-branch : offBranch (s .run r .mark) n ≡ false
   pub ready : notReady (s .run r .done) (s .run r .job j .upstream) j ≡ false
   pub entitled : stepBarred s r j n ≡ false
   pub fetchable : unfetchable (versions (s .counts .writers)) (s .counts .keys) (s .master)
@@ -58,7 +59,8 @@ accepted s r j n e =
     let a = no-cause (leb (s .counts .runs) r) 3 _ (omega arith) e in
     let b = no-cause (leb limit j) 3 _ (omega arith) (a .1) in
     let c = no-lack (allowed stepRow (s .run r .state)) 4 _ (omega arith) (b .1) in
-    let d = no-cause (notReady (x .done) (x .job j .upstream) j) 6 _ (omega arith) (c .1) in
+    let l = no-cause (offBranch (x .mark) n) 14 _ (omega arith) (c .1) in
+    let d = no-cause (notReady (x .done) (x .job j .upstream) j) 6 _ (omega arith) (l .1) in
     let h = no-cause (stepBarred s r j n) 13 _ (omega arith) (d .1) in
     let f = no-cause _ 7 _ (omega arith) (h .1) in
     let g = no-cause _ 12 0 (omega arith) (f .1) in
@@ -66,6 +68,7 @@ accepted s r j n e =
       run-in = leb-gt (s .counts .runs) r (a .0);
       open-run = c .0;
       job-in = rw (job-limit (x .state) (x .jobs) (c .0)) at (leb-gt limit j (b .0));
+      on-branch = l .0;
       ready = d .0;
       entitled = h .0;
       fetchable = f .0;
@@ -75,20 +78,22 @@ accepted s r j n e =
 -- ---- the cause row by row
 
 -- The rows above others: the first of them that holds, or where none does the others.
-rows : (a b c : Bool) (rest : ℕ) → let n = refuse a 3 (refuse b 4 (refuse c 6 0)) in
-    refuse a 3 (refuse b 4 (refuse c 6 rest)) ≡ cond (eqb n 0) rest n
+rows : (a b c d : Bool) (rest : ℕ)
+    → let n = refuse a 3 (refuse b 4 (refuse c 14 (refuse d 6 0))) in
+    refuse a 3 (refuse b 4 (refuse c 14 (refuse d 6 rest))) ≡ cond (eqb n 0) rest n
 unfolding refuse
-rows true b c rest = refl
-rows false true c rest = refl
-rows false false true rest = refl
-rows false false false rest = refl
+rows true b c d rest = refl
+rows false true c d rest = refl
+rows false false true d rest = refl
+rows false false false true rest = refl
+rows false false false false rest = refl
 
 module _ (s : Store) (r j n : ℕ) where
   pub step-high : s .counts .runs ≤ r → stepCause s r j n ≡ 3
   unfolding stepCause refuse
   step-high h = rw (le-leb _ _ h)
 
-  pub step-below : r < s .counts .runs → let c = jobCause (s .run r) j 0 in
+  pub step-below : r < s .counts .runs → let c = jobCause (s .run r) j n 0 in
       stepCause s r j n
       ≡ cond (eqb c 0) (refuse (stepBarred s r j n) 13
       (refuse (unfetchable (versions (s .counts .writers)) (s .counts .keys) (s .master)
@@ -99,16 +104,16 @@ module _ (s : Store) (r j n : ℕ) where
       let a = s .run r in
       rw (gt-leb (s .counts .runs) r h)
       (rows (leb (jobLimit (a .state) (a .jobs)) j) (not (allowed stepRow (a .state)))
-      (notReady (a .done) (a .job j .upstream) j) _)
+      (offBranch (a .mark) n) (notReady (a .done) (a .job j .upstream) j) _)
 
   -- Where there is no cause at all.
   pub step-free : stepCause s r j n ≡ 0
-      → (r < s .counts .runs) × (jobCause (s .run r) j 0 ≡ 0)
+      → (r < s .counts .runs) × (jobCause (s .run r) j n 0 ≡ 0)
   unfolding stepCause
   step-free e =
       let out = no-cause (leb (s .counts .runs) r) 3 _ (omega arith) e .0 in
       let h = leb-gt (s .counts .runs) r out in
-      (h, none (jobCause (s .run r) j 0) _ (sym (step-below h) ∙ e))
+      (h, none (jobCause (s .run r) j n 0) _ (sym (step-below h) ∙ e))
     where
       none : (n m : ℕ) → cond (eqb n 0) m n ≡ 0 → n ≡ 0
       none n m f =
@@ -190,8 +195,13 @@ module _ (s : Store) (r j n : ℕ) where
         (stepBranch s r j n .snapshot) (stepCache s r j n) (stepReads s r j n) o c
         (λ k _. step-planned s r j n k (a .job-in))
 
--- The run after it.
+-- The branch after it, and the run.
+abbrev pub steppedBranch : Store → ℕ → ℕ → ℕ → Branch
+steppedBranch s r j n = record {
+  read = bitOr (stepBranch s r j n .read) (s .run r .job j .reads);
+  snapshot = stepSnapshot s r j n;
+}
+
 abbrev pub steppedRun : Store → ℕ → ℕ → ℕ → Run
 steppedRun s r j n =
-    withJobDone (s .run r) (withBit (s .run r .done) j)
-    (bitOr (stepBranch s r j n .read) (s .run r .job j .reads)) (stepSnapshot s r j n)
+    withJobDone (s .run r) n (withBit (s .run r .done) j) (steppedBranch s r j n)

@@ -12,25 +12,24 @@ use Rattle.sizes.specs.Runs.{maxJobs}
 use Rattle.sizes.specs.declared.Counts.{Counts}
 use Rattle.model.specs.Algebra.{everything, needsMet, causalCut}
 use Rattle.model.specs.Version.{held, versions}
-use Rattle.model.specs.Store.{Run, Store, planned}
+use Rattle.model.specs.Store.{Run, branchOf, Store, planned}
 use Rattle.model.specs.Form.{runFormed}
 use Rattle.model.proofs.Needs.{dependency-iff, supersedes-iff}
 use Rattle.model.proofs.Cuts.{needsMet-intro, overlappingCut-intro, overlappingCut-at}
 use Rattle.model.proofs.FormedPlaces.{version-zero}
 use Rattle.model.proofs.Formed.{Formed}
-use Rattle.model.proofs.Plans.{free-out, free-or-plan}
+use Rattle.model.proofs.Plans.{free-out, free-or-plan, run-branch}
 use Rattle.model.proofs.Admits.{EveryVersion, EveryPast, Covered, Counted, Admissible}
 
 -- A run, free or not, has at most 8 jobs,
 pub run-jobs : (z : Counts) (a : Run) → So (runFormed z a) → a .jobs ≤ maxJobs
 run-jobs z a F =
-    free-or-plan z a F (λ p. omega (arith, free-out z a p .0)) (λ P. P .jobs .high)
+    free-or-plan z a F (λ p. omega (arith, free-out z a p .jobs)) (λ P. P .jobs .high)
 
 -- and carries only keys of its plan.
-pub run-carries : (z : Counts) (a : Run) → So (runFormed z a) → (k : ℕ) → k < z .keys
-    → So (held (a .branch .snapshot k)) → So (planned (a .jobs) (a .job) k)
-run-carries z a F k l h =
-    free-or-plan z a F (λ p. clash h (free-out z a p .2 k l .0)) (λ P. P .snapshot .carried k l h)
+pub run-carries : (z : Counts) (a : Run) → So (runFormed z a) → (n k : ℕ) → k < z .keys
+    → So (held (branchOf n a .snapshot k)) → So (planned (a .jobs) (a .job) k)
+run-carries z a F n k l h = run-branch z a F n .carried k l h
 
 -- The master's own rows.
 abbrev pub ownRows : Store → ℕ → Clock
@@ -41,9 +40,9 @@ pub record Sufficing (s : Store) : Type 0 where
   pub caches : (o : ℕ) → o < s .counts .sites
       → So (needsMet (versions (s .counts .writers)) (s .counts .keys) everything
       (s .site o .cache))
-  pub snapshots : (r : ℕ) → r < s .counts .runs
+  pub snapshots : (r : ℕ) → r < s .counts .runs → (n : ℕ)
       → So (needsMet (versions (s .counts .writers)) (s .counts .keys)
-      (planned (s .run r .jobs) (s .run r .job)) (s .run r .branch .snapshot))
+      (planned (s .run r .jobs) (s .run r .job)) (branchOf n (s .run r) .snapshot))
   pub covered : EveryPast s (Covered s)
   pub counted : Counted s (ownRows s)
   pub numbered : EveryVersion s (λ v. v .issue ≤ s .last)
@@ -90,17 +89,17 @@ module _ (s : Store) where
       record {
         master = master-cut F C;
         caches = S .caches;
-        snapshots = λ r l.
+        snapshots = λ r l n.
             overlappingCut-intro (versions W) K (planned (s .run r .jobs) (s .run r .job))
-            (s .run r .branch .snapshot) (run-carries (s .counts) (s .run r) (F .run r l))
-            (S .snapshots r l);
+            (branchOf n (s .run r) .snapshot) (run-carries (s .counts) (s .run r) (F .run r l) n)
+            (S .snapshots r l n);
         covered = C;
         counted = record {
           versions = record {
             master = λ k l. every (s .master k .past) (C .versions .master k l);
             caches = λ o i k l. every (s .site o .cache k .past) (C .versions .caches o i k l);
-            snapshots = λ r i k l.
-                every (s .run r .branch .snapshot k .past) (C .versions .snapshots r i k l);
+            snapshots = λ r i n k l.
+                every (branchOf n (s .run r) .snapshot k .past) (C .versions .snapshots r i n k l);
           };
           writers = λ w l. every (s .writer w .past) (C .writers w l);
         };
@@ -111,12 +110,12 @@ module _ (s : Store) where
   unfolding causalCut
   sufficing A = record {
     caches = A .caches;
-    snapshots = λ r l.
+    snapshots = λ r l n.
         needsMet-intro (versions (s .counts .writers)) (s .counts .keys)
-        (planned (s .run r .jobs) (s .run r .job)) (s .run r .branch .snapshot)
+        (planned (s .run r .jobs) (s .run r .job)) (branchOf n (s .run r) .snapshot)
         (λ k d lk ld _. overlappingCut-at (versions (s .counts .writers)) (s .counts .keys)
-        (planned (s .run r .jobs) (s .run r .job)) (s .run r .branch .snapshot)
-        (A .snapshots r l) k d lk ld);
+        (planned (s .run r .jobs) (s .run r .job)) (branchOf n (s .run r) .snapshot)
+        (A .snapshots r l n) k d lk ld);
     covered = A .covered;
     counted = λ d l. A .counted .versions .master d l d l;
     numbered = A .numbered;

@@ -9,6 +9,7 @@ pub mod Admit
 pub mod Allow
 pub mod Pick
 pub mod Rights
+pub mod Fork
 use mathlib.Core.List.{List}
 use Prim.Native.Nat.{ℕ}
 use Rattle.model.specs.Store.{Store}
@@ -25,17 +26,18 @@ use Rattle.model.specs.Calls.Admit.{admitReply}
 use Rattle.model.specs.Calls.Allow.{allowRule}
 use Rattle.model.specs.Calls.Pick.{pickRule}
 use Rattle.model.specs.Calls.Rights.{mayholdRule, maysaveRule}
+use Rattle.model.specs.Calls.Fork.{forkRule, joinRule}
 
 -- A call that only answers.
 pub data Query : Type 0 where
   look : ℕ → ℕ → ℕ → Query  -- place, its number, sheet
-  explain : ℕ → ℕ → Query  -- run, job
+  explain : ℕ → ℕ → ℕ → Query  -- run, job, line
   stale : ℕ → Query  -- office
   admit : Query
 
 unfoldable pub replyOf : Query → Store → Reply
 replyOf (look p i k) = lookReply p i k
-replyOf (explain r j) = explainReply r j 0
+replyOf (explain r j n) = explainReply r j n
 replyOf (stale o) = staleReply o
 replyOf admit = admitReply
 
@@ -45,13 +47,15 @@ pub data StoreCall : Type 0 where
   fetch : ℕ → ℕ → StoreCall  -- office, sheet
   evict : ℕ → ℕ → StoreCall  -- office, sheet
   prepare : ℕ → StoreCall  -- run
-  step : ℕ → ℕ → StoreCall  -- run, job
+  step : ℕ → ℕ → ℕ → StoreCall  -- run, job, line
   issue : ℕ → ℕ → ℕ → StoreCall  -- run, writer, mask S
   dropRun : ℕ → StoreCall  -- run
   allow : ℕ → ℕ → StoreCall  -- office, number
   pick : StoreCall
   mayhold : ℕ → ℕ → StoreCall  -- office, mask
   maysave : ℕ → ℕ → StoreCall  -- writer, mask
+  fork : ℕ → StoreCall  -- run
+  join : ℕ → StoreCall  -- run
   ask : Query → StoreCall
 
 unfoldable pub ruleOf : StoreCall → Store → Outcome
@@ -59,11 +63,13 @@ ruleOf (openRun r l) = openRule r l
 ruleOf (fetch o k) = fetchRule o k
 ruleOf (evict o k) = evictRule o k
 ruleOf (prepare r) = prepareRule r
-ruleOf (step r j) = stepRule r j 0
+ruleOf (step r j n) = stepRule r j n
 ruleOf (issue r w S) = issueRule r w S
 ruleOf (dropRun r) = dropRule r
 ruleOf (allow o n) = allowRule o n
 ruleOf pick = pickRule
 ruleOf (mayhold o m) = mayholdRule o m
 ruleOf (maysave w m) = maysaveRule w m
+ruleOf (fork r) = forkRule r
+ruleOf (join r) = joinRule r
 ruleOf (ask q) = λ s. replied (replyOf q s)

@@ -2,8 +2,9 @@
 -- versionFormed, placeFormed, validJob, runFormed, siteFormed, tailFormed, wellFormed.
 -- Header, offsets and length are the buffer's: crate layout, `inForm`.
 -- Assumes nothing.
-use mathlib.Core.Bool.{Bool, cond, not, _&&_}
+use mathlib.Core.Bool.{Bool, cond, not, _&&_, _||_}
 use Prim.Native.Nat.{ℕ, _^_}
+use lib.Bits.{bitOr}
 use lib.Dec.{eqb, leb, ltb}
 use Rattle.words.specs.Tests.{allBelow}
 use Rattle.masks.specs.Mask.{testBit, maskBelow}
@@ -15,7 +16,7 @@ use Rattle.model.specs.Algebra.{Place, implies}
 use Rattle.model.specs.Version.{Version, held}
 use Rattle.model.specs.Marks.{staleMask}
 use Rattle.model.specs.Tail.{Tail, barred}
-use Rattle.model.specs.Store.{Job, Run, Site, Store, planned, doneReads}
+use Rattle.model.specs.Store.{Job, Branch, Run, forkedMark, joinedMark, Site, Store, planned, doneReads}
 use Rattle.model.specs.Allowance.{over}
 
 -- Only zero counts.
@@ -48,13 +49,17 @@ validJob z i j =
 unfoldable pub zeroJob : Job → Bool
 zeroJob j = eqb (j .site) 0 && (eqb (j .reads) 0 && eqb (j .upstream) 0)
 
+-- Nothing read, and only zero words on the card.
+unfoldable pub zeroBranch : Counts → Branch → Bool
+zeroBranch z b =
+    eqb (b .read) 0
+    && allBelow (z .keys) (λ k. not (held (b .snapshot k)) && zeroVersion z (b .snapshot k))
+
 -- "a free run is all zero"
 unfoldable pub freeFormed : Counts → Run → Bool
 freeFormed z r =
-    eqb (r .jobs) 0 && (eqb (r .done) 0 && (eqb (r .branch .read) 0
-    && (allBelow maxJobs (λ i. zeroJob (r .job i))
-    && allBelow (z .keys) (λ k.
-    not (held (r .branch .snapshot k)) && zeroVersion z (r .branch .snapshot k)))))
+    eqb (r .jobs) 0 && (eqb (r .done) 0 && (allBelow maxJobs (λ i. zeroJob (r .job i))
+    && (zeroBranch z (r .branch) && (eqb (r .mark) 0 && zeroBranch z (r .second)))))
 
 -- "has 1..8 jobs, zero words beyond them, valid jobs"
 unfoldable pub jobsFormed : Counts → Run → Bool
@@ -63,25 +68,38 @@ jobsFormed z r =
     && allBelow maxJobs (λ i.
     cond (ltb i (r .jobs)) (validJob z i (r .job i)) (zeroJob (r .job i)))
 
--- "a done mask below 2^jobs, a read mask that is just the done jobs' reads"
+-- "a done mask below 2^jobs, a read mask that is just the done jobs' reads"; CR 10: "the read
+-- masks together are the done jobs' reads"
 unfoldable pub masksFormed : Counts → Run → Bool
 masksFormed z r =
     ltb (r .done) (2 ^ r .jobs)
-    && eqb (r .branch .read) (maskBelow (z .keys) (doneReads (r .jobs) (r .job) (r .done)))
+    && eqb (bitOr (r .branch .read) (r .second .read))
+    (maskBelow (z .keys) (doneReads (r .jobs) (r .job) (r .done)))
 
--- "carried sheets among the plan's sheets, each read sheet on the card"
-unfoldable pub snapshotFormed : Counts → Run → Bool
-snapshotFormed z r =
-    placeFormed z (r .branch .snapshot)
+-- CR 10: "a mark (0 never forked, 1 forked, 2 joined), a second read mask and a second card, these
+-- two zero unless the mark is 1"
+unfoldable pub markFormed : Counts → Run → Bool
+markFormed z r =
+    leb (r .mark) joinedMark && (eqb (r .mark) forkedMark || zeroBranch z (r .second))
+
+-- "carried sheets among the plan's sheets, each read sheet on the card", of a branch
+unfoldable pub snapshotFormed : Counts → Run → Branch → Bool
+snapshotFormed z r b =
+    placeFormed z (b .snapshot)
     && allBelow (z .keys) (λ k.
-    implies (held (r .branch .snapshot k)) (planned (r .jobs) (r .job) k)
-    && implies (testBit (r .branch .read) k) (held (r .branch .snapshot k)))
+    implies (held (b .snapshot k)) (planned (r .jobs) (r .job) k)
+    && implies (testBit (b .read) k) (held (b .snapshot k)))
+
+-- CR 10: "Form asks of each line's card what it asked of one".
+unfoldable pub branchesFormed : Counts → Run → Bool
+branchesFormed z r = snapshotFormed z r (r .branch) && snapshotFormed z r (r .second)
 
 -- "any other run is in state 1 or 2 and .."
 unfoldable pub runFormed : Counts → Run → Bool
 runFormed z r =
     cond (eqb (r .state) 0) (freeFormed z r)
-    (leb (r .state) 2 && (jobsFormed z r && (masksFormed z r && snapshotFormed z r)))
+    (leb (r .state) 2
+    && (jobsFormed z r && (masksFormed z r && (markFormed z r && branchesFormed z r))))
 
 -- CR 4: "Form asks it": the mark is true. CR 7: "one above K .. a stored one isn't in form", "No
 -- shelf ever holds more (form asks it)". CR 9: "No shelf ever holds a sheet barred to its office

@@ -15,7 +15,7 @@ use Rattle.clock.specs.Count.{maxWord}
 use Rattle.model.specs.Algebra.{Place}
 use Rattle.model.specs.Version.{Version, merge}
 use Rattle.model.specs.Tail.{barred}
-use Rattle.model.specs.Store.{Store, Writer, freeRun, withLast, withMarks, withMaster, withRun, withWriter}
+use Rattle.model.specs.Store.{forkedMark, Store, Writer, freeRun, withLast, withMarks, withMaster, withRun, withWriter}
 use Rattle.model.specs.Outcome.{Outcome, done, refuse, unless, issueRow, runCause}
 
 -- "when the last issue number is 4,294,967,295" 9, "when the writer's count is" 10.
@@ -25,8 +25,8 @@ raiseCause s w =
     (refuse (eqb (s .writer w .count) maxWord) 10
     0)
 
--- 13: a key of S that the writer may not save (CR 9); S empty needs no right. 9 and 10: "Issue
--- with S not empty".
+-- 14: "prepare or issue when forked" (CR 10). 13: a key of S that the writer may not save (CR 9);
+-- S empty needs no right. 9 and 10: "Issue with S not empty".
 unfoldable pub issueCause : Store → ℕ → ℕ → ℕ → ℕ
 issueCause s r w S =
     let z = s .counts in
@@ -34,9 +34,10 @@ issueCause s r w S =
     refuse (leb (z .writers) w) 3
     (refuse (leb (2 ^ z .keys) S) 3
     (runCause s issueRow r
+    (refuse (eqb (a .mark) forkedMark) 14
     (refuse (not (allBelow (a .jobs) (testBit (a .done)))) 6
     (refuse (barred (z .keys) (s .tail .maySave w) (testBit S)) 13
-    (cond (eqb S 0) 0 (raiseCause s w))))))
+    (cond (eqb S 0) 0 (raiseCause s w)))))))
 
 -- "the writer's past takes in (larger count at each place) the pasts of the versions that the run
 -- read", by a read mask and a card.

@@ -11,7 +11,7 @@ use Rattle.model.specs.Store.{Store}
 
 pub data Outcome : Type 0 where
   refused : ℕ → Outcome  -- "turned down": the cause's number; every word stays
-  broken : ℕ → Store → Outcome  -- step alone: the mask, and the next store
+  broken : ℕ → Store → Outcome  -- of a step or join: the mask, and the next store
   done : List ℕ → Store → Outcome  -- ok: the answer's numbers, and the next store
   told : ℕ → List ℕ → Outcome  -- the answer's first word and numbers; every word stays
 
@@ -70,7 +70,14 @@ issueRow = 3
 abbrev pub dropRow : ℕ
 dropRow = 4
 
+abbrev pub forkRow : ℕ
+forkRow = 5
+
+abbrev pub joinRow : ℕ
+joinRow = 6
+
 -- "Which state a call needs: open: free; prepare, step, issue: open; drop: open or broken."
+-- CR 10: "An open run may fork once", "Joining, for an open run".
 -- A row for each call; free, open, broken.
 abbrev pub stateTable : List ℕ
 stateTable =
@@ -78,7 +85,9 @@ stateTable =
     0 ∷ 1 ∷ 0 ∷
     0 ∷ 1 ∷ 0 ∷
     0 ∷ 1 ∷ 0 ∷
-    0 ∷ 1 ∷ 1 ∷ []
+    0 ∷ 1 ∷ 1 ∷
+    0 ∷ 1 ∷ 0 ∷
+    0 ∷ 1 ∷ 0 ∷ []
 
 unfoldable pub allowed : ℕ → ℕ → Bool
 allowed call state = eqb (getD stateTable (call * 3 + state) 0) 1

@@ -13,7 +13,7 @@ use Rattle.model.specs.Algebra.{Algebra, Place, lacking}
 use Rattle.model.specs.Version.{Version, held, versions}
 use Rattle.model.specs.Sets.{fetchSet, fetched, unfetchable}
 use Rattle.model.specs.Tail.{barred}
-use Rattle.model.specs.Store.{Job, Store, planned, withCaches, withRun, withSnapshot}
+use Rattle.model.specs.Store.{Job, forkedMark, Store, planned, withCaches, withRun, withSnapshot}
 use Rattle.model.specs.Allowance.{over}
 use Rattle.model.specs.Outcome.{Outcome, done, refuse, unless, prepareRow, runCause}
 
@@ -71,18 +71,20 @@ prepareCaches s r =
 unfoldable pub anyOver : Store → (ℕ → Place Version) → Bool
 anyOver s cache = anyBelow (s .counts .sites) (λ o. over (s .counts) (s .site o) (cache o))
 
+-- 14: "prepare or issue when forked" (CR 10).
 unfoldable pub prepareCause : Store → ℕ → ℕ
 prepareCause s r =
     let z = s .counts in
     let a = s .run r in
     let alg = versions (z .writers) in
     runCause s prepareRow r
+    (refuse (eqb (a .mark) forkedMark) 14
     (refuse (not (eqb (a .done) 0)) 6
     (refuse (unentitled alg (z .keys) (s .master) (a .job) (s .tail .mayHold) (a .jobs)
     (siteCaches s)) 13
     (refuse (unpreparable alg (z .keys) (s .master) (a .job) (a .jobs) (siteCaches s)) 7
     (refuse (anyOver s (prepareCaches s r)) 12
-    0))))
+    0)))))
 
 unfoldable pub prepareSnapshot : Store → ℕ → Place Version
 prepareSnapshot s r =

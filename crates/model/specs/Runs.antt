@@ -50,6 +50,8 @@ openedRun l = record {
   done = 0;
   job = listedJobs l;
   branch = noBranch;
+  mark = 0;
+  second = noBranch;
 }
 
 -- "Answers the number of jobs."

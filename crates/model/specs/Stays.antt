@@ -2,7 +2,7 @@
 -- sameVersion: equal in all their words. stays, staysOther: the merge of two versions is the one,
 -- or the other. movedKeys, movedSet: the keys read on a line whose version the merge changes.
 -- leadersMerged, keeps, staysBy, staysOtherBy: the same, told from both versions without their
--- merge (`proofs/Stays`: stays-test, stays-other).
+-- merge, for what is held or in form (`proofs/Stays`: stays-test, stays-formed, stays-other).
 -- Assumes nothing.
 use mathlib.Core.Bool.{Bool, not, _&&_, _||_}
 use Prim.Native.Nat.{ℕ}

@@ -1,8 +1,8 @@
 -- Step: a job reads its keys, on a branch ("line") of its run, from the snapshot ("card"), its
 -- site's cache or the master.
 -- stepBranch (read mask and card), stepReads (R), stepStart (what is fetched), stepCache (the
--- cache after the fetch), stepPull (C), stepMoved. jobLimit, notReady, jobCause: the causes that
--- the run decides alone.
+-- cache after the fetch), stepPull (C), stepMoved. jobLimit, offBranch, notReady, jobCause: the
+-- causes that the run decides alone.
 -- Assumes nothing.
 use mathlib.Core.Bool.{Bool, cond, not, _&&_, _||_}
 use mathlib.Core.List.{[], _∷_}
@@ -16,7 +16,7 @@ use Rattle.model.specs.Algebra.{Algebra, Place, lacking}
 use Rattle.model.specs.Version.{Version, versions}
 use Rattle.model.specs.Sets.{fetchSet, fetched, unfetchable, pullSet, pulled}
 use Rattle.model.specs.Tail.{barred}
-use Rattle.model.specs.Store.{Branch, branchOf, Run, Store, planned, withCache, withRun, withState, withJobDone}
+use Rattle.model.specs.Store.{Branch, branchOf, Run, forkedMark, Store, planned, withCache, withRun, withState, withJobDone}
 use Rattle.model.specs.Allowance.{over}
 use Rattle.model.specs.Outcome.{Outcome, broken, done, refuse, unless, allowed, stepRow, freeState, brokenState}
 
@@ -33,13 +33,19 @@ unfoldable pub notReady : ℕ → ℕ → ℕ → Bool
 notReady finished upstream j =
     testBit finished j || anyBelow maxJobs (λ i. testBit upstream i && not (testBit finished i))
 
--- The rows of the refusal table that the run decides alone, above the rows that are left.
-unfoldable pub jobCause : Run → ℕ → ℕ → ℕ
-jobCause a j rest =
+-- CR 10: "line 1 on a run not forked, or a line above 1", by the run's mark.
+unfoldable pub offBranch : ℕ → ℕ → Bool
+offBranch mark n = leb 2 n || (eqb n 1 && not (eqb mark forkedMark))
+
+-- The rows of the refusal table that the run decides alone, above the rows that are left. CR 10:
+-- 14 is "placed after 4".
+unfoldable pub jobCause : Run → ℕ → ℕ → ℕ → ℕ
+jobCause a j n rest =
     refuse (leb (jobLimit (a .state) (a .jobs)) j) 3
     (refuse (not (allowed stepRow (a .state))) 4
+    (refuse (offBranch (a .mark) n) 14
     (refuse (notReady (a .done) (a .job j .upstream) j) 6
-    rest))
+    rest)))
 
 module _ (s : Store) (r j n : ℕ) where
   -- The read mask and the card that the step goes by.
@@ -99,7 +105,7 @@ module _ (s : Store) (r j n : ℕ) where
   stepCause =
       let alg = versions (s .counts .writers) in
       refuse (leb (s .counts .runs) r) 3
-      (jobCause (s .run r) j
+      (jobCause (s .run r) j n
       (refuse stepBarred 13
       (refuse (unfetchable alg (s .counts .keys) (s .master) stepStart) 7
       (refuse (over (s .counts) (s .site stepSite) stepCache) 12
@@ -119,8 +125,10 @@ module _ (s : Store) (r j n : ℕ) where
       ∷ maskBelow K (λ k. stepReads k && (stepPull k && not (stepFetch k)))
       ∷ maskBelow K (λ k. stepReads k && (stepPull k && stepFetch k)) ∷ [])
       (withRun (withCache s stepSite stepCache) r
-      (withJobDone (s .run r) (withBit (s .run r .done) j)
-      (bitOr (stepBranch .read) (s .run r .job j .reads)) stepSnapshot))
+      (withJobDone (s .run r) n (withBit (s .run r .done) j) (record {
+        read = bitOr (stepBranch .read) (s .run r .job j .reads);
+        snapshot = stepSnapshot;
+      })))
 
 unfoldable pub stepRule : ℕ → ℕ → ℕ → Store → Outcome
 stepRule r j n s =

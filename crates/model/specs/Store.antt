@@ -1,10 +1,10 @@
 -- The store ("desk"): what a buffer of words stands for.
--- Writer, Job, Branch (read mask and card), Run, Site (an office: its shelf, stale mark and
--- allowance), Store; planned ("plan's sheets"), doneReads; with..: one part changed.
+-- Writer, Job, Branch (read mask and card), Run, branchOf, Site (an office: its shelf, stale mark
+-- and allowance), Store; planned ("plan's sheets"), doneReads; with..: one part changed.
 -- Assumes nothing.
 use mathlib.Core.Bool.{cond, _&&_}
 use Prim.Native.Nat.{ℕ}
-use lib.Dec.{ltb}
+use lib.Dec.{eqb, ltb}
 use Rattle.words.specs.Tests.{Items, anyBelow}
 use Rattle.words.specs.Lists.{putAt}
 use Rattle.masks.specs.Mask.{testBit}
@@ -32,16 +32,25 @@ pub record Branch : Type 0 where
   pub snapshot : Place Version
 
 -- "state (0 free, 1 open, 2 broken), number of jobs, done mask, read mask, 8 jobs, then the card"
+-- CR 10: "a mark (0 never forked, 1 forked, 2 joined), a second read mask and a second card"
 pub record Run : Type 0 where
   pub state : ℕ
   pub jobs : ℕ
   pub done : ℕ
   pub job : ℕ → Job
   pub branch : Branch
+  pub mark : ℕ
+  pub second : Branch
 
--- The branch ("line") n of a run: it has one.
+abbrev pub forkedMark : ℕ
+forkedMark = 1
+
+abbrev pub joinedMark : ℕ
+joinedMark = 2
+
+-- The branch ("line", 0 or 1) n of a run.
 abbrev pub branchOf : ℕ → Run → Branch
-branchOf n a = a .branch
+branchOf n a = cond (eqb n 0) (a .branch) (a .second)
 
 -- An office: its shelf, the mask of the sheets on it that are behind (CR 4), and how many it may
 -- hold (CR 7).
@@ -81,7 +90,15 @@ abbrev pub noBranch : Branch
 noBranch = record { read = 0; snapshot = emptyPlace }
 
 abbrev pub freeRun : Run
-freeRun = record { state = 0; jobs = 0; done = 0; job = noJobs; branch = noBranch }
+freeRun = record {
+  state = 0;
+  jobs = 0;
+  done = 0;
+  job = noJobs;
+  branch = noBranch;
+  mark = 0;
+  second = noBranch;
+}
 
 -- A site with another cache, mark or allowance: its other words stay.
 abbrev pub siteCached : Site → Place Version → Site
@@ -121,38 +138,29 @@ doneReads n job done k = anyBelow n (λ j. testBit done j && testBit (job j .rea
 
 -- ---- the store with one part changed
 
-unfoldable pub withMaster : Store → Place Version → Store
-withMaster s p = record {
-  counts = s .counts;
-  last = s .last;
-  master = p;
-  site = s .site;
-  writer = s .writer;
-  run = s .run;
-  tail = s .tail;
+abbrev pub storeWith :
+    Counts → ℕ → Place Version → (ℕ → Site) → (ℕ → Writer) → (ℕ → Run) → Tail → Store
+storeWith z n master site writer run tail = record {
+  counts = z;
+  last = n;
+  master = master;
+  site = site;
+  writer = writer;
+  run = run;
+  tail = tail;
 }
+
+unfoldable pub withMaster : Store → Place Version → Store
+withMaster s p =
+    storeWith (s .counts) (s .last) p (s .site) (s .writer) (s .run) (s .tail)
 
 unfoldable pub withLast : Store → ℕ → Store
-withLast s n = record {
-  counts = s .counts;
-  last = n;
-  master = s .master;
-  site = s .site;
-  writer = s .writer;
-  run = s .run;
-  tail = s .tail;
-}
+withLast s n =
+    storeWith (s .counts) n (s .master) (s .site) (s .writer) (s .run) (s .tail)
 
 unfoldable pub withSites : Store → (ℕ → Site) → Store
-withSites s f = record {
-  counts = s .counts;
-  last = s .last;
-  master = s .master;
-  site = f;
-  writer = s .writer;
-  run = s .run;
-  tail = s .tail;
-}
+withSites s f =
+    storeWith (s .counts) (s .last) (s .master) f (s .writer) (s .run) (s .tail)
 
 abbrev pub withSite : Store → ℕ → Site → Store
 withSite s o x = withSites s (putAt (s .site) o x)
@@ -173,37 +181,18 @@ unfoldable pub withMarks : Store → Store
 withMarks s = withCaches s (λ o. s .site o .cache)
 
 unfoldable pub withWriter : Store → ℕ → Writer → Store
-withWriter s w x = record {
-  counts = s .counts;
-  last = s .last;
-  master = s .master;
-  site = s .site;
-  writer = putAt (s .writer) w x;
-  run = s .run;
-  tail = s .tail;
-}
+withWriter s w x =
+    storeWith (s .counts) (s .last) (s .master) (s .site) (putAt (s .writer) w x) (s .run)
+    (s .tail)
 
 unfoldable pub withRun : Store → ℕ → Run → Store
-withRun s r x = record {
-  counts = s .counts;
-  last = s .last;
-  master = s .master;
-  site = s .site;
-  writer = s .writer;
-  run = putAt (s .run) r x;
-  tail = s .tail;
-}
+withRun s r x =
+    storeWith (s .counts) (s .last) (s .master) (s .site) (s .writer) (putAt (s .run) r x)
+    (s .tail)
 
 unfoldable pub withTail : Store → Tail → Store
-withTail s t = record {
-  counts = s .counts;
-  last = s .last;
-  master = s .master;
-  site = s .site;
-  writer = s .writer;
-  run = s .run;
-  tail = t;
-}
+withTail s t =
+    storeWith (s .counts) (s .last) (s .master) (s .site) (s .writer) (s .run) t
 
 abbrev pub withRound : Store → ℕ → Store
 withRound s r = withTail s (tailRound (s .tail) r)
@@ -216,30 +205,29 @@ withMaySave s w m = withTail s (tailSave (s .tail) w m)
 
 -- ---- a run with one part changed
 
-unfoldable pub withState : Run → ℕ → Run
-withState a x = record {
-  state = x;
-  jobs = a .jobs;
-  done = a .done;
-  job = a .job;
-  branch = a .branch;
-}
-
-unfoldable pub withSnapshot : Run → Place Version → Run
-withSnapshot a p = record {
-  state = a .state;
-  jobs = a .jobs;
-  done = a .done;
-  job = a .job;
-  branch = record { read = a .branch .read; snapshot = p };
-}
-
--- The run after a job: done and read masks, and the snapshot.
-unfoldable pub withJobDone : Run → ℕ → ℕ → Place Version → Run
-withJobDone a done read p = record {
-  state = a .state;
+-- A run with the same jobs.
+abbrev pub runWith : Run → ℕ → ℕ → Branch → ℕ → Branch → Run
+runWith a state done branch mark second = record {
+  state = state;
   jobs = a .jobs;
   done = done;
   job = a .job;
-  branch = record { read = read; snapshot = p };
+  branch = branch;
+  mark = mark;
+  second = second;
 }
+
+unfoldable pub withState : Run → ℕ → Run
+withState a x = runWith a x (a .done) (a .branch) (a .mark) (a .second)
+
+-- Another snapshot, of branch 0.
+unfoldable pub withSnapshot : Run → Place Version → Run
+withSnapshot a p =
+    runWith a (a .state) (a .done) (record { read = a .branch .read; snapshot = p }) (a .mark)
+    (a .second)
+
+-- The run after a job on branch n: its done mask, and that branch.
+unfoldable pub withJobDone : Run → ℕ → ℕ → Branch → Run
+withJobDone a n done b =
+    runWith a (a .state) done (cond (eqb n 0) b (a .branch)) (a .mark)
+    (cond (eqb n 0) (a .second) b)

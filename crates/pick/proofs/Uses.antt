@@ -85,7 +85,7 @@ two-runs fair l c r F n h other-call first second =
 
 pub picked-steps : (l : List ℕ) (r j : ℕ) → So (inForm l)
     → answer (callOn (on pick) l) ≡ 0 ∷ r ∷ j ∷ []
-    → (r < countsIn l .runs) × (jobCause (storeOf l .run r) j 0 ≡ 0)
+    → (r < countsIn l .runs) × (jobCause (storeOf l .run r) j 0 0 ≡ 0)
 unfolding answer pickDone pickedRun storeOf
 picked-steps l r j F e =
     let s = storeOf l in
@@ -98,8 +98,9 @@ picked-steps l r j F e =
           let m = picked-waits l (countsIn l) H (pickTurn s) refl h (s .tail .round) (pickedRun s)
           refl refl in (
             subst (λ (k : ℕ). k < countsIn l .runs) run (m .0),
-            subst (λ (k : ℕ). jobCause (s .run r) k 0 ≡ 0) job
-                (subst (λ (k : ℕ). jobCause (s .run k) (readyJob (s .run (pickedRun s))) 0 ≡ 0) run
+            subst (λ (k : ℕ). jobCause (s .run r) k 0 0 ≡ 0) job
+                (subst (λ (k : ℕ). jobCause (s .run k) (readyJob (s .run (pickedRun s))) 0 0 ≡ 0)
+                run
                 (ready-steps (s .run (pickedRun s)) 0 (m .1))),
           )
       | no h ↦

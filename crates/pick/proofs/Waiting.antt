@@ -2,7 +2,7 @@
 -- waiting-no, waiting-is: as the code finds it. ready-found, ready-first: its job.
 -- ready-steps: the run alone refuses no step of that job.
 -- Assumes nothing.
-use mathlib.Core.Path.{_≡_, sym, _∙_}
+use mathlib.Core.Path.{_≡_, refl, sym, _∙_}
 use mathlib.Core.Bool.{Bool, false, not, So}
 use mathlib.Core.Logic.{_≢_}
 use Prim.Native.Nat.{ℕ, _≤_, _<_}
@@ -15,7 +15,7 @@ use Rattle.words.proofs.Firsts.{first-passes, first-least, first-any}
 use Rattle.sizes.specs.Runs.{maxJobs}
 use Rattle.model.specs.Store.{Run}
 use Rattle.model.specs.Outcome.{refuse, allowed, stepRow, openState}
-use Rattle.model.specs.Step.{notReady, jobLimit, jobCause}
+use Rattle.model.specs.Step.{notReady, offBranch, jobLimit, jobCause}
 use Rattle.model.specs.Calls.Pick.{ready, waiting, readyJob}
 
 -- By its state, and by its lowest ready job.
@@ -64,9 +64,9 @@ step-open : (n : ℕ) → n ≡ openState → not (allowed stepRow n) ≡ false
 unfolding allowed
 step-open n e = rw e
 
--- The rows that the run decides alone are passed.
-pub ready-steps : (a : Run) (rest : ℕ) → So (waiting a) → jobCause a (readyJob a) rest ≡ rest
-unfolding jobCause ready
+-- The rows that the run decides alone are passed, on line 0.
+pub ready-steps : (a : Run) (rest : ℕ) → So (waiting a) → jobCause a (readyJob a) 0 rest ≡ rest
+unfolding jobCause offBranch ready
 ready-steps a rest h =
     let j = readyJob a in
     let late = notReady (a .done) (a .job j .upstream) j in
@@ -74,7 +74,9 @@ ready-steps a rest h =
     let o : a .state ≡ openState = waiting-open a h in
     let top = jobLimit (a .state) (a .jobs) in
     let e : top ≡ a .jobs = limit-open (a .state) (a .jobs) o in
-    passed (leb top j) 3 (refuse shut 4 (refuse late 6 rest))
+    let line = offBranch (a .mark) 0 in
+    passed (leb top j) 3 (refuse shut 4 (refuse line 14 (refuse late 6 rest)))
     (gt-leb top j (omega (arith, e, ready-low a h)))
-    ∙ passed shut 4 (refuse late 6 rest) (step-open (a .state) o)
+    ∙ passed shut 4 (refuse line 14 (refuse late 6 rest)) (step-open (a .state) o)
+    ∙ passed line 14 (refuse late 6 rest) refl
     ∙ passed late 6 rest (not-elim (ready-found a h))

@@ -48,7 +48,7 @@ module _ (l : List ℕ) (z : Counts) (r : ℕ) (U : UsedRun l z r) where
       let same = form-counts l z (U .form) in
       let put : putPlace z (written s l) (snapshotAt z r 0) p
       ≡ written (withRun s r (withSnapshot (s .run r) p)) l =
-      rw (← same) (put-snapshot s l r 0 p (rw same (U .run))) in
+      rw (← same) (put-snapshot s l r p (rw same (U .run))) in
       ap (λ (m : List ℕ). putPlace z m (snapshotAt z r 0) p) (sym (form-again l z (U .form))) ∙ put
 
   -- at: where the snapshot is. m: the buffer with it cleared.

@@ -12,7 +12,7 @@ use lib.Dec.{eqb, leb}
 use Rattle.words.proofs.Bools.{ne-eqb}
 use Rattle.sizes.specs.declared.Counts.{Counts}
 use Rattle.model.specs.Version.{versions}
-use Rattle.model.specs.Store.{Store}
+use Rattle.model.specs.Store.{forkedMark, Store}
 use Rattle.model.specs.Outcome.{refuse, allowed, prepareRow, runCause}
 use Rattle.model.specs.Prepare.{unentitled, unpreparable, siteCaches, anyOver, prepareCaches, prepareCause}
 use Rattle.model.proofs.Outcomes.{no-cause, no-lack, allowed-used, run-rest}
@@ -30,15 +30,16 @@ early-rest : (s : Store) (r n : ℕ)
 unfolding earlyCause runCause refuse
 early-rest s r n =
     go (leb (s .counts .runs) r) (not (allowed prepareRow (s .run r .state)))
-    (not (eqb (s .run r .done) 0))
+    (eqb (s .run r .mark) forkedMark) (not (eqb (s .run r .done) 0))
   where
-    go : (a b c : Bool) → refuse a 3 (refuse b 4 (refuse c 6 n))
-        ≡ cond (eqb (refuse a 3 (refuse b 4 (refuse c 6 0))) 0) n
-        (refuse a 3 (refuse b 4 (refuse c 6 0)))
-    go true b c = refl
-    go false true c = refl
-    go false false true = refl
-    go false false false = refl
+    go : (a b c d : Bool) → refuse a 3 (refuse b 4 (refuse c 14 (refuse d 6 n)))
+        ≡ cond (eqb (refuse a 3 (refuse b 4 (refuse c 14 (refuse d 6 0)))) 0) n
+        (refuse a 3 (refuse b 4 (refuse c 14 (refuse d 6 0))))
+    go true b c d = refl
+    go false true c d = refl
+    go false false true d = refl
+    go false false false true = refl
+    go false false false false = refl
 
 -- n: what the code finds of the run.
 pub cause-run : (s : Store) (r n : ℕ) → n ≡ runCause s prepareRow r 0 → n ≢ 0
@@ -46,15 +47,12 @@ pub cause-run : (s : Store) (r n : ℕ) → n ≡ runCause s prepareRow r 0 → 
 unfolding earlyCause
 cause-run s r n e h = rw (run-rest s prepareRow r _, ← e, ne-eqb n 0 h)
 
-pub cause-done : (s : Store) (r : ℕ) → runCause s prepareRow r 0 ≡ 0 → s .run r .done ≢ 0
-    → 6 ≡ earlyCause s r 0
-unfolding earlyCause refuse
-cause-done s r e h = rw (run-rest s prepareRow r _, e, ne-eqb (s .run r .done) 0 h)
-
-pub cause-none : (s : Store) (r : ℕ) → runCause s prepareRow r 0 ≡ 0 → s .run r .done ≡ 0
-    → 0 ≡ earlyCause s r 0
-unfolding earlyCause refuse
-cause-none s r e h = rw (run-rest s prepareRow r _, e, h)
+-- a, b: what it finds of the mark and of the done mask.
+pub cause-words : (s : Store) (r : ℕ) (a b : Bool) → runCause s prepareRow r 0 ≡ 0
+    → a ≡ eqb (s .run r .mark) forkedMark → b ≡ not (eqb (s .run r .done) 0)
+    → refuse a 14 (refuse b 6 0) ≡ earlyCause s r 0
+unfolding earlyCause
+cause-words s r a b e f g = rw (run-rest s prepareRow r _, e, ← f, ← g)
 
 -- ---- all of them
 

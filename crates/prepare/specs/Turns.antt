@@ -20,7 +20,7 @@ use Rattle.model.specs.Algebra.{Place, lacking}
 use Rattle.model.specs.Version.{Version, merge, versions}
 use Rattle.model.specs.Sets.{fetchSet}
 use Rattle.model.specs.Tail.{barred}
-use Rattle.model.specs.Store.{Store, emptyPlace, planned, withCaches, withRun, withSnapshot}
+use Rattle.model.specs.Store.{forkedMark, Store, emptyPlace, planned, withCaches, withRun, withSnapshot}
 use Rattle.model.specs.Outcome.{refuse, prepareRow, runCause}
 use Rattle.model.specs.Prepare.{usesSite, sitesMerged, siteCaches}
 use Rattle.layout.specs.Reading.{readPlace, storeOf}
@@ -32,7 +32,11 @@ use Rattle.fetching.specs.Takes.{takesOver}
 
 -- The causes of prepare that its run decides alone, above those that are left.
 unfoldable pub earlyCause : Store → ℕ → ℕ → ℕ
-earlyCause s r rest = runCause s prepareRow r (refuse (not (eqb (s .run r .done) 0)) 6 rest)
+earlyCause s r rest =
+    runCause s prepareRow r
+    (refuse (eqb (s .run r .mark) forkedMark) 14
+    (refuse (not (eqb (s .run r .done) 0)) 6
+    rest))
 
 -- ---- the caches
 

@@ -13,6 +13,7 @@ use form::header::counts;
 use merges::merge_run;
 use sizes::Counts;
 use sizes::run::RunOffset;
+use states::FORKED_MARK;
 use states::PREPARE_ROW;
 use status::run_cause;
 use version::held_mask;
@@ -70,8 +71,14 @@ fn early_cause(words: &[u32], z: Counts, r: usize) -> u32
     if cause != 0 {
         return cause;
     }
+    let mark = z.mark_at(r);
     let at = z.run_at(r);
-    if words[at + RunOffset::DONE] != 0 {
+    let forked = words[mark] == FORKED_MARK;
+    let begun = words[at + RunOffset::DONE] != 0;
+    if forked {
+        return 14;
+    }
+    if begun {
         return 6;
     }
     0

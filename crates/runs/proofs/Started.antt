@@ -83,6 +83,8 @@ started n = record {
   done = 0;
   job = noJobs;
   branch = noBranch;
+  mark = 0;
+  second = noBranch;
 }
 
 started-words : (z : Counts) (n : ℕ)

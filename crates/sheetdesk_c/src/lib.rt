@@ -5,7 +5,7 @@ pub mod clocks;
 
 use form::in_form;
 ghost use mathlib.Core.Path.{_≡_};
-ghost use Rattle.model.specs.Calls.{look, explain, stale, admit, openRun, fetch, evict, prepare, step, issue, dropRun, allow, pick, mayhold, maysave, ask};
+ghost use Rattle.model.specs.Calls.{look, explain, stale, admit, openRun, fetch, evict, prepare, step, issue, dropRun, allow, pick, mayhold, maysave, fork, join, ask};
 ghost use Rattle.layout.specs.Calls.{new, on};
 ghost use Rattle.calls.specs.Performs.{Exported};
 
@@ -56,12 +56,13 @@ pub extern "C" fn sheetdesk_prepare(store: &mut [u32], run: u32, out: &mut [u32]
     calls::first::prepare(store, in_form(store), run, out)
 }
 
+// On line 0.
 #[no_mangle]
 pub extern "C" fn sheetdesk_step(store: &mut [u32], run: u32, job: u32, out: &mut [u32]) -> u32
-    ensures { λ n. ⌜ Exported (on (step run job))
+    ensures { λ n. ⌜ Exported (on (step run job 0))
         (now (store .entry)) (now (store .exit)) (now (out .entry)) (now (out .exit)) n ⌝ }
 {
-    calls::first::step(store, in_form(store), run, job, out)
+    calls::first::step(store, in_form(store), run, job, 0, out)
 }
 
 #[no_mangle]
@@ -100,12 +101,13 @@ pub extern "C" fn sheetdesk_look(
     calls::first::look(store, in_form(store), place, number, key, out)
 }
 
+// On line 0.
 #[no_mangle]
 pub extern "C" fn sheetdesk_explain(store: &[u32], run: u32, job: u32, out: &mut [u32]) -> u32
-    ensures { λ n. ⌜ Exported (on (ask (explain run job)))
+    ensures { λ n. ⌜ Exported (on (ask (explain run job 0)))
         (now (store .entry)) (now (store .entry)) (now (out .entry)) (now (out .exit)) n ⌝ }
 {
-    calls::later::explain(store, in_form(store), run, job, out)
+    calls::later::explain(store, in_form(store), run, job, 0, out)
 }
 
 #[no_mangle]
@@ -166,18 +168,62 @@ pub extern "C" fn sheetdesk_maysave(
     calls::later::maysave(store, in_form(store), writer, right, out)
 }
 
+#[no_mangle]
+pub extern "C" fn sheetdesk_fork(store: &mut [u32], run: u32, out: &mut [u32]) -> u32
+    ensures { λ n. ⌜ Exported (on (fork run))
+        (now (store .entry)) (now (store .exit)) (now (out .entry)) (now (out .exit)) n ⌝ }
+{
+    calls::later::fork(store, in_form(store), run, out)
+}
+
+#[no_mangle]
+pub extern "C" fn sheetdesk_join(store: &mut [u32], run: u32, out: &mut [u32]) -> u32
+    ensures { λ n. ⌜ Exported (on (join run))
+        (now (store .entry)) (now (store .exit)) (now (out .entry)) (now (out .exit)) n ⌝ }
+{
+    calls::later::join(store, in_form(store), run, out)
+}
+
+#[no_mangle]
+pub extern "C" fn sheetdesk_step_on(
+    store: &mut [u32],
+    run: u32,
+    job: u32,
+    line: u32,
+    out: &mut [u32],
+) -> u32
+    ensures { λ n. ⌜ Exported (on (step run job line))
+        (now (store .entry)) (now (store .exit)) (now (out .entry)) (now (out .exit)) n ⌝ }
+{
+    calls::first::step(store, in_form(store), run, job, line, out)
+}
+
+#[no_mangle]
+pub extern "C" fn sheetdesk_explain_on(
+    store: &[u32],
+    run: u32,
+    job: u32,
+    line: u32,
+    out: &mut [u32],
+) -> u32
+    ensures { λ n. ⌜ Exported (on (ask (explain run job line)))
+        (now (store .entry)) (now (store .entry)) (now (out .entry)) (now (out .exit)) n ⌝ }
+{
+    calls::later::explain(store, in_form(store), run, job, line, out)
+}
+
 // The version of this interface: it rises when a call, its arguments or its answer change.
 #[no_mangle]
 pub extern "C" fn sheetdesk_version() -> u32
-    ensures { λ r. ⌜ r ≡ 9 ⌝ }
+    ensures { λ r. ⌜ r ≡ 10 ⌝ }
 {
-    9
+    10
 }
 
 // The version of the layout: it rises when the words of a desk change.
 #[no_mangle]
 pub extern "C" fn sheetdesk_layout() -> u32
-    ensures { λ r. ⌜ r ≡ 6 ⌝ }
+    ensures { λ r. ⌜ r ≡ 7 ⌝ }
 {
-    6
+    7
 }

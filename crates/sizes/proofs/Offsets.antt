@@ -7,12 +7,12 @@ use mathlib.Core.Bool.{So, _&&_}
 use Prim.Native.Nat.{ℕ, _+_, _*_, _≤_, _<_}
 use native.Mathlib.Nat.{mul-le-mul}
 use native.Mathlib.Omega.{arith}
-use lib.Dec.{leb}
-use Rattle.words.proofs.Bools.{and-intro, and-left, and-right, leb-le, le-leb}
+use lib.Dec.{eqb, leb}
+use Rattle.words.proofs.Bools.{test, and-intro, and-left, and-right, leb-le, le-leb}
 use Rattle.words.proofs.Slots.{slot-end}
 use Rattle.sizes.specs.declared.Counts.{Counts}
-use Rattle.sizes.specs.Bounds.{maxKeys, maxWriters, maxSites, maxRuns, maxTotal, headerSize, pastOffset, writerPastOffset, between, ranged, Ranged, pastSize, versionSize, placeSize, siteSize, writerSize, runSize, masterAt, sitesAt, writersAt, runsAt, tailSize, tailAt, totalOf, roundAt, mayHoldAt, maySaveAt, siteAt, staleAt, allowanceAt, writerAt, runAt, snapshotAt, keyAt, pastRowAt, rowAt, writerRowAt}
-use Rattle.sizes.specs.Runs.{maxJobs, jobSize, planSize, snapshotOffset, jobAt}
+use Rattle.sizes.specs.Bounds.{maxKeys, maxWriters, maxSites, maxRuns, maxTotal, headerSize, pastOffset, writerPastOffset, between, ranged, Ranged, pastSize, versionSize, placeSize, siteSize, writerSize, runSize, masterAt, sitesAt, writersAt, runsAt, tailSize, tailAt, totalOf, roundAt, mayHoldAt, maySaveAt, siteAt, staleAt, allowanceAt, writerAt, runFront, runAt, markAt, readAt, snapshotAt, keyAt, pastRowAt, rowAt, writerRowAt}
+use Rattle.sizes.specs.Runs.{maxJobs, jobSize, planSize, readOffset, snapshotOffset, jobAt}
 
 -- ---- counts in range
 
@@ -68,10 +68,10 @@ pub record Largest (z : Counts) : Type 0 where
   pub place : placeSize z ≤ 16448
   pub site : siteSize z ≤ 16450
   pub writer : writerSize z ≤ 513
-  pub run : runSize z ≤ 16476
+  pub run : runSize z ≤ 32926
   pub sites : z .sites * siteSize z ≤ 131600
   pub writers : z .writers * writerSize z ≤ 8208
-  pub runs : z .runs * runSize z ≤ 131808
+  pub runs : z .runs * runSize z ≤ 263408
 
 pub largest : (z : Counts) → Ranged z → Largest z
 unfolding pastSize versionSize placeSize siteSize writerSize runSize
@@ -81,7 +81,7 @@ largest z R =
     let place : placeSize z ≤ 32 * 514 = mul-le-mul (R .keys-high) version in
     let site : siteSize z ≤ 16450 = omega arith in
     let writer : writerSize z ≤ 513 = omega arith in
-    let run : runSize z ≤ 16476 = omega arith in
+    let run : runSize z ≤ 32926 = omega arith in
     record {
       past = past;
       version = version;
@@ -175,11 +175,26 @@ pub allowance-lies : (z : Counts) (at : ℕ)
 unfolding siteSize
 allowance-lies z at = record { starts = omega arith; ends = omega arith }
 
--- The snapshot of branch n lies behind the plan of its run.
+-- The snapshot of branch n lies behind the plan of its run; its read mask behind the done mask,
+-- the mark behind the front.
 pub snapshot-lies : (z : Counts) (r n : ℕ)
     → Lies (runAt z r + snapshotOffset) (runAt z r + runSize z) (snapshotAt z r n) (placeSize z)
 unfolding snapshotAt runSize
-snapshot-lies z r n = record { starts = omega arith; ends = omega arith }
+snapshot-lies z r n =
+    test (eqb n 0) (λ p. rw p (record { starts = omega arith; ends = omega arith }))
+    (λ q. rw q (record { starts = omega arith; ends = omega arith }))
+
+pub read-lies : (z : Counts) (r n : ℕ)
+    → Lies (runAt z r + readOffset) (runAt z r + runSize z) (readAt z r n) 1
+unfolding readAt runSize
+read-lies z r n =
+    test (eqb n 0) (λ p. rw p (record { starts = omega arith; ends = omega arith }))
+    (λ q. rw q (record { starts = omega arith; ends = omega arith }))
+
+pub branch-mark-lies : (z : Counts) (r : ℕ)
+    → Lies (runAt z r + runFront z) (runAt z r + runSize z) (markAt z r) 1
+unfolding markAt runSize
+branch-mark-lies z r = record { starts = omega arith; ends = omega arith }
 
 -- Key k lies in its place, row d in its version or writer.
 pub key-lies : (z : Counts) (at k : ℕ) → k < z .keys

@@ -3,12 +3,12 @@
 -- ..Offset: where a part of the header, a version or a writer stands in it; of a run: Runs.
 -- ..At: where a part begins. totalOf: all words; maxTotal: the most there can be.
 -- Assumes nothing.
-use mathlib.Core.Bool.{Bool, _&&_}
+use mathlib.Core.Bool.{Bool, cond, _&&_}
 use Prim.Native.Nat.{ℕ, _+_, _*_, _≤_}
-use lib.Dec.{leb}
+use lib.Dec.{eqb, leb}
 use Rattle.sizes.specs.declared.Counts.{Counts}
 use Rattle.sizes.specs.declared.Sizes.{Sizes}
-use Rattle.sizes.specs.Runs.{readOffset, snapshotOffset}
+use Rattle.sizes.specs.Runs.{readOffset, snapshotOffset, secondReadOffset, secondOffset}
 
 abbrev pub countsOf : ℕ → ℕ → ℕ → ℕ → Counts
 countsOf k w n p = record { keys = k; writers = w; sites = n; runs = p }
@@ -126,12 +126,13 @@ siteSize z = placeSize z + siteRest
 unfoldable pub writerSize : Counts → ℕ
 writerSize z = writerPastOffset + pastSize z
 
--- "runs P·(28 + K·V)": a run's front, and what stands behind it, its rest: nothing.
+-- "runs P·(28 + K·V)": a run's front. CR 10: "A run's words gain at their end a mark .., a second
+-- read mask and a second card": its rest.
 abbrev pub runFront : Counts → ℕ
 runFront z = snapshotOffset + placeSize z
 
 abbrev pub runRest : Counts → ℕ
-runRest z = 0
+runRest z = secondOffset + placeSize z
 
 unfoldable pub runSize : Counts → ℕ
 runSize z = runFront z + runRest z
@@ -142,7 +143,7 @@ runSize z = runFront z + runRest z
 unfoldable pub tailSize : Counts → ℕ
 tailSize z = 1 + (z .sites + z .writers)
 
--- ---- offsets: "master K·V; shelves N·(K·V + 2); writers W·(1 + K·W); runs P·(28 + K·V)"
+-- ---- offsets: "master K·V; shelves N·(K·V + 2); writers W·(1 + K·W); runs P·(30 + 2·K·V)"
 
 unfoldable pub masterAt : Counts → ℕ
 masterAt z = headerSize
@@ -163,7 +164,7 @@ unfoldable pub totalOf : Counts → ℕ
 totalOf z = tailAt z + tailSize z
 
 abbrev pub maxTotal : ℕ
-maxTotal = 288099
+maxTotal = 419699
 
 unfoldable pub sizesOf : Counts → Sizes
 sizesOf z = record {
@@ -204,12 +205,15 @@ mayHoldAt z o = tailAt z + 1 + o
 abbrev pub maySaveAt : Counts → ℕ → ℕ
 maySaveAt z w = tailAt z + 1 + z .sites + w
 
--- The snapshot of branch n of run r, and its read mask: a run has one branch.
-unfoldable pub snapshotAt : Counts → ℕ → ℕ → ℕ
-snapshotAt z r n = runAt z r + snapshotOffset
+-- Of run r the mark; of its branch n, in its front or its rest, the read mask and the snapshot.
+unfoldable pub markAt : Counts → ℕ → ℕ
+markAt z r = runAt z r + runFront z
 
-abbrev pub readAt : Counts → ℕ → ℕ → ℕ
-readAt z r n = runAt z r + readOffset
+unfoldable pub readAt : Counts → ℕ → ℕ → ℕ
+readAt z r n = runAt z r + cond (eqb n 0) readOffset (runFront z + secondReadOffset)
+
+unfoldable pub snapshotAt : Counts → ℕ → ℕ → ℕ
+snapshotAt z r n = runAt z r + cond (eqb n 0) snapshotOffset (runFront z + secondOffset)
 
 -- The version of key k in the place at an index.
 unfoldable pub keyAt : Counts → ℕ → ℕ → ℕ

@@ -1,6 +1,7 @@
 -- Where the parts of a run, and of a job, stand in it (document 01, "Size and layout").
 -- maxJobs: the most jobs of a run; everyJob: their mask. ..Offset: how many words behind the
--- beginning. jobSize, planSize: words of a job, and of all. jobAt: where a job begins.
+-- beginning; second..: behind the mark. jobSize, planSize: words of a job, and of all. jobAt:
+-- where a job begins.
 -- Assumes nothing.
 use Prim.Native.Nat.{ℕ, _+_, _*_}
 
@@ -42,6 +43,13 @@ planSize = maxJobs * jobSize
 
 abbrev pub snapshotOffset : ℕ
 snapshotOffset = planOffset + planSize
+
+-- CR 10: "a mark .., a second read mask and a second card", behind the mark.
+abbrev pub secondReadOffset : ℕ
+secondReadOffset = 1
+
+abbrev pub secondOffset : ℕ
+secondOffset = 2
 
 -- Job i of the jobs at an index.
 unfoldable pub jobAt : ℕ → ℕ → ℕ

@@ -10,7 +10,7 @@ use past::WriterOffset;
 use run::RunOffset;
 ghost use mathlib.Core.Path.{_≡_};
 ghost use Prim.Native.Nat.{_+_, _*_, _<_, _^_};
-ghost use Rattle.sizes.specs.Bounds.{between, ranged, Ranged, countsOf, sizesOf, maxKeys, maxWriters, maxSites, maxRuns, placeLimit, versionLimit, siteRest, pastSize, versionSize, placeSize, siteSize, writerSize, runSize, siteAt, staleAt, allowanceAt, writerAt, runAt, snapshotAt, keyAt, pastRowAt};
+ghost use Rattle.sizes.specs.Bounds.{between, ranged, Ranged, countsOf, sizesOf, maxKeys, maxWriters, maxSites, maxRuns, placeLimit, versionLimit, siteRest, pastSize, versionSize, placeSize, siteSize, writerSize, runSize, siteAt, staleAt, allowanceAt, writerAt, runAt, keyAt, pastRowAt};
 ghost use Rattle.sizes.specs.Runs.{maxJobs, everyJob, jobSize, jobAt};
 
 // Sheets, writers, offices and runs (document 01: K, W, N, P).
@@ -60,7 +60,8 @@ impl Sizes {
         let sites_at = HeaderOffset::SIZE + place;
         let writers_at = sites_at + sites * (place + Sizes::SITE_REST);
         let runs_at = writers_at + writers * (WriterOffset::PAST + past);
-        let tail = runs_at + runs * (RunOffset::SNAPSHOT + place);
+        let run = RunOffset::SNAPSHOT + place + (RunOffset::SECOND + place);
+        let tail = runs_at + runs * run;
         Sizes {
             master: HeaderOffset::SIZE,
             sites: sites_at,
@@ -167,7 +168,8 @@ impl Counts {
         requires { ⌜ Ranged self ⌝ }
         ensures { λ r. ⌜ r ≡ runSize self ⌝ }
     {
-        RunOffset::SNAPSHOT + self.place_size()
+        let place = self.place_size();
+        RunOffset::SNAPSHOT + place + (RunOffset::SECOND + place)
     }
 
     // Where site o, writer u and run r begin.
@@ -214,15 +216,6 @@ impl Counts {
         ensures { λ r. ⌜ r ≡ allowanceAt self at ⌝ }
     {
         self.stale_at(at) + 1
-    }
-
-    // Where the snapshot of run r begins, of branch 0.
-    pub fn snapshot_at(self, r: usize) -> usize
-        requires { ⌜ Ranged self ⌝ }
-        requires { ⌜ r < self .runs ⌝ }
-        ensures { λ at. ⌜ at ≡ snapshotAt self r 0 ⌝ }
-    {
-        self.run_at(r) + RunOffset::SNAPSHOT
     }
 
     // Where the version of key k begins in the place at an index.

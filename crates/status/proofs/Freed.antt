@@ -2,27 +2,29 @@
 -- no-jobs-words: the words of no jobs. zeros-free: zeros stored over a run. free-is: its form.
 -- Assumes nothing.
 use mathlib.Core.Path.{_≡_, sym, ap, _∙_, fun-ext}
-use mathlib.Core.Bool.{Bool, So, not, _&&_}
+use mathlib.Core.Bool.{So, _&&_}
 use mathlib.Core.Logic.{⊎-elim}
 use mathlib.Core.List.{List, []}
-use Prim.Native.Nat.{ℕ, _<_}
+use Prim.Native.Nat.{ℕ}
 use lib.Dec.{eqb}
 use lib.Seq.{sets}
 use Rattle.words.specs.Tests.{allBelow}
 use Rattle.words.specs.Lists.{window, upto}
 use Rattle.words.specs.Words.{put}
-use Rattle.words.proofs.Bools.{and-left, and-right, not-elim, eqb-eq, eq-eqb}
+use Rattle.words.proofs.Bools.{and-left, and-right, eqb-eq, eq-eqb}
 use Rattle.words.proofs.Tests.{below-or-not, all-at}
 use Rattle.sizes.specs.declared.Counts.{Counts}
 use Rattle.sizes.specs.Bounds.{runSize}
 use Rattle.sizes.specs.Runs.{maxJobs, planSize}
-use Rattle.model.specs.Version.{Version, unheld, held}
-use Rattle.model.specs.Store.{Job, Run, noJob, noJobs, emptyPlace, freeRun}
-use Rattle.model.specs.Form.{zeroVersion, zeroJob, freeFormed, runFormed}
+use Rattle.model.specs.Version.{Version, unheld}
+use Rattle.model.specs.Store.{Job, Branch, Run, noJob, noJobs, emptyPlace, noBranch, freeRun}
+use Rattle.model.specs.Form.{zeroJob, zeroBranch, freeFormed, runFormed}
+use Rattle.model.proofs.Branches.{vacant-out}
 use Rattle.layout.specs.Words.{jobsWords, runWords}
 use Rattle.layout.specs.Reading.{readClock, readPast, readVersion, readPlace, readJob, readJobs, readRun}
 use Rattle.layout.proofs.Runs.{FitRun, run-laws}
 use Rattle.layout.proofs.Jobs.{FitJobs, jobs-laws}
+use Rattle.layout.proofs.Parts.{FitPlace}
 use Rattle.layout.proofs.Merges.{unheld-is}
 use Rattle.version.proofs.Versions.{upto-all, nothing-read}
 use Rattle.layout.specs.Stored.{putRun}
@@ -48,12 +50,15 @@ unfolding readRun
 no-run z at =
     let job = no-jobs _ in
     let snapshot = no-place z _ in
+    let second = no-place z _ in
     λ i. record {
       state = 0;
       jobs = 0;
       done = 0;
       job = job i;
       branch = record { read = 0; snapshot = snapshot i };
+      mark = 0;
+      second = record { read = 0; snapshot = second i };
     }
 
 -- ---- zeros
@@ -86,43 +91,43 @@ jobs-are f F p =
     fun-ext (λ i. ⊎-elim (λ h. job-is (f i) (all-at maxJobs (λ i. zeroJob (f i)) p i h))
     (F .rest i) (below-or-not i maxJobs))
 
-module _ (z : Counts) (a : Run) (F : FitRun z a) where
-  abbrev keyEmpty : ℕ → Bool
-  keyEmpty k = not (held (a .branch .snapshot k)) && zeroVersion z (a .branch .snapshot k)
+branch-is : (z : Counts) (b : Branch) → FitPlace z (b .snapshot) → So (zeroBranch z b)
+    → b ≡ noBranch
+branch-is z b F p =
+    let E = vacant-out z b p in
+    let read = E .read in
+    let snapshot : b .snapshot ≡ emptyPlace = fun-ext (λ k. ⊎-elim
+    (λ h. unheld-is z (b .snapshot k) (F .each k h) (E .none k h) (E .zeros k h))
+    (F .rest k) (below-or-not k (z .keys))) in
+    λ i. record { read = read i; snapshot = snapshot i }
 
-  place-is : So (allBelow (z .keys) keyEmpty) → a .branch .snapshot ≡ emptyPlace
-  place-is p =
-      fun-ext (λ k. ⊎-elim (below k) (F .snapshot .rest k) (below-or-not k (z .keys)))
-    where
-      below : (k : ℕ) → k < z .keys → a .branch .snapshot k ≡ unheld
-      below k h =
-          let q = all-at (z .keys) keyEmpty p k h in
-          let no = not (held (a .branch .snapshot k)) in
-          let words = zeroVersion z (a .branch .snapshot k) in
-          unheld-is z (a .branch .snapshot k) (F .snapshot .each k h)
-          (not-elim (and-left no words q)) (and-right no words q)
-
-  pub free-is : So (runFormed z a) → a .state ≡ 0 → a ≡ freeRun
-  unfolding runFormed freeFormed
-  free-is p e =
-      let q : So (freeFormed z a) = rw (eq-eqb (a .state) 0 e) at p in
-      let jobs = eqb (a .jobs) 0 in
-      let done = eqb (a .done) 0 in
-      let read = eqb (a .branch .read) 0 in
-      let job = allBelow maxJobs (λ i. zeroJob (a .job i)) in
-      let snapshot = allBelow (z .keys) keyEmpty in
-      let q₁ = and-right jobs (done && (read && (job && snapshot))) q in
-      let q₂ = and-right done (read && (job && snapshot)) q₁ in
-      let q₃ = and-right read (job && snapshot) q₂ in
-      let x = eqb-eq _ _ (and-left jobs (done && (read && (job && snapshot))) q) in
-      let y = eqb-eq _ _ (and-left done (read && (job && snapshot)) q₁) in
-      let w = eqb-eq _ _ (and-left read (job && snapshot) q₂) in
-      let f = jobs-are (a .job) (F .job) (and-left job snapshot q₃) in
-      let g = place-is (and-right job snapshot q₃) in
-      λ i. record {
-        state = e i;
-        jobs = x i;
-        done = y i;
-        job = f i;
-        branch = record { read = w i; snapshot = g i };
-      }
+pub free-is : (z : Counts) (a : Run) → FitRun z a → So (runFormed z a) → a .state ≡ 0 → a ≡ freeRun
+unfolding runFormed freeFormed
+free-is z a F p e =
+    let q : So (freeFormed z a) = rw (eq-eqb (a .state) 0 e) at p in
+    let jobs = eqb (a .jobs) 0 in
+    let done = eqb (a .done) 0 in
+    let job = allBelow maxJobs (λ i. zeroJob (a .job i)) in
+    let first = zeroBranch z (a .branch) in
+    let mark = eqb (a .mark) 0 in
+    let second = zeroBranch z (a .second) in
+    let rest = job && (first && (mark && second)) in
+    let q₁ = and-right jobs (done && rest) q in
+    let q₂ = and-right done rest q₁ in
+    let q₃ = and-right job (first && (mark && second)) q₂ in
+    let q₄ = and-right first (mark && second) q₃ in
+    let x = eqb-eq _ _ (and-left jobs (done && rest) q) in
+    let y = eqb-eq _ _ (and-left done rest q₁) in
+    let f = jobs-are (a .job) (F .job) (and-left job (first && (mark && second)) q₂) in
+    let b = branch-is z (a .branch) (F .snapshot) (and-left first (mark && second) q₃) in
+    let m = eqb-eq _ _ (and-left mark second q₄) in
+    let c = branch-is z (a .second) (F .second) (and-right mark second q₄) in
+    λ i. record {
+      state = e i;
+      jobs = x i;
+      done = y i;
+      job = f i;
+      branch = b i;
+      mark = m i;
+      second = c i;
+    }

@@ -16,19 +16,20 @@ use Rattle.model.specs.Outcome.{brokenState}
 use Rattle.status.specs.Lent.{statusAt, putStatus, freed, marked, spoiled}
 
 pub freed-words : (l : List ℕ) (at : ℕ)
-    → putStatus l at (freed (statusAt l at)) ≡ put l at planOffset (λ _. 0)
+    → putStatus l at (at + readOffset) (freed (statusAt l at (at + readOffset)))
+    ≡ put l at planOffset (λ _. 0)
 unfolding putStatus freed put
 freed-words l at =
     let three : List ℕ → List ℕ =
     λ m. set (set (set m (at + jobsOffset) 0) (at + doneOffset) 0) (at + readOffset) 0 in
     ap (λ (i : ℕ). three (set l i 0)) (sym (add-zero at))
 
-pub marked-words : (l : List ℕ) (at done read : ℕ)
-    → putStatus l at (marked (statusAt l at) done read)
-    ≡ set (set l (at + doneOffset) done) (at + readOffset) read
+pub marked-words : (l : List ℕ) (at read done reads : ℕ)
+    → putStatus l at read (marked (statusAt l at read) done reads)
+    ≡ set (set l (at + doneOffset) done) read reads
 unfolding putStatus marked statusAt
-marked-words l at done read =
-    let masks : List ℕ → List ℕ = λ m. set (set m (at + doneOffset) done) (at + readOffset) read in
+marked-words l at read done reads =
+    let masks : List ℕ → List ℕ = λ m. set (set m (at + doneOffset) done) read reads in
     let jobs = at + jobsOffset in
     ap (λ (m : List ℕ). masks (set m jobs (getD l jobs 0))) (set-getD l at 0)
     ∙ ap masks (set-getD l jobs 0)
@@ -39,7 +40,8 @@ again l i x j n =
     ap (set (set l i x) j) (sym (getD-set-other l i j x 0 n)) ∙ set-getD (set l i x) j 0
 
 pub spoiled-words : (l : List ℕ) (at : ℕ)
-    → putStatus l at (spoiled (statusAt l at)) ≡ set l at brokenState
+    → putStatus l at (at + readOffset) (spoiled (statusAt l at (at + readOffset)))
+    ≡ set l at brokenState
 unfolding putStatus spoiled statusAt
 spoiled-words l at =
     let w : ℕ → ℕ = λ i. getD l i 0 in

@@ -13,7 +13,7 @@ use words::zero;
 ghost use mathlib.Core.Path.{_≡_};
 ghost use Prim.Native.Nat.{_+_, _≤_, _<_};
 ghost use lib.ListN.{length};
-ghost use Rattle.sizes.specs.Runs.{planOffset};
+ghost use Rattle.sizes.specs.Runs.{readOffset, planOffset};
 ghost use Rattle.model.specs.Store.{freeRun};
 ghost use Rattle.model.specs.Outcome.{runCause};
 ghost use Rattle.layout.specs.Reading.{storeOf};
@@ -25,7 +25,7 @@ ghost use Rattle.status.specs.Lent.{statusAt, putStatus, freed, marked, 
 // one that the call, a row of the table, allows. 0: none.
 pub fn run_cause(words: &[u32], z: Counts, row: u32, r: usize) -> u32
     requires { ⌜ FormWith (now words) z ⌝ }
-    requires { ⌜ row < 5 ⌝ }
+    requires { ⌜ row < 7 ⌝ }
     ensures { λ c. ⌜ c ≡ runCause (storeOf (now (words .entry))) row r 0 ⌝ }
 {
     let runs = z.runs;
@@ -53,53 +53,58 @@ pub fn clear_run(words: &mut [u32], z: Counts, at: usize)
 fn free_status(words: &mut [u32], at: usize)
     requires { ⌜ at + planOffset ≤ length (now words) ⌝ }
     ensures { λ _. ⌜ now (words .exit)
-        ≡ putStatus (now (words .entry)) at (freed (statusAt (now (words .entry)) at)) ⌝ }
+        ≡ putStatus (now (words .entry)) at (at + readOffset)
+        (freed (statusAt (now (words .entry)) at (at + readOffset))) ⌝ }
 {
-    let s = freed(status_at(words, at));
-    put_status(words, at, s);
+    let read = at + RunOffset::READ;
+    let s = freed(status_at(words, at, read));
+    put_status(words, at, read, s);
 }
 
-// Marks in the run at an index which jobs are done and which keys are read.
-pub fn mark_done(words: &mut [u32], at: usize, done: u32, read: u32)
-    requires { ⌜ at + planOffset ≤ length (now words) ⌝ }
+// Marks in the run at an index which jobs are done, and at the index of a branch's read mask which
+// keys it has read.
+pub fn mark_done(words: &mut [u32], at: usize, read: usize, done: u32, reads: u32)
+    requires { ⌜ (at + planOffset ≤ length (now words)) × (read < length (now words)) ⌝ }
     ensures { λ _. ⌜ now (words .exit)
-        ≡ putStatus (now (words .entry)) at
-        (marked (statusAt (now (words .entry)) at) done read) ⌝ }
+        ≡ putStatus (now (words .entry)) at read
+        (marked (statusAt (now (words .entry)) at read) done reads) ⌝ }
 {
-    let s = marked(status_at(words, at), done, read);
-    put_status(words, at, s);
+    let s = marked(status_at(words, at, read), done, reads);
+    put_status(words, at, read, s);
 }
 
 // Breaks the run at an index.
 pub fn mark_broken(words: &mut [u32], at: usize)
     requires { ⌜ at + planOffset ≤ length (now words) ⌝ }
     ensures { λ _. ⌜ now (words .exit)
-        ≡ putStatus (now (words .entry)) at (spoiled (statusAt (now (words .entry)) at)) ⌝ }
+        ≡ putStatus (now (words .entry)) at (at + readOffset)
+        (spoiled (statusAt (now (words .entry)) at (at + readOffset))) ⌝ }
 {
-    let s = spoiled(status_at(words, at));
-    put_status(words, at, s);
+    let read = at + RunOffset::READ;
+    let s = spoiled(status_at(words, at, read));
+    put_status(words, at, read, s);
 }
 
-// What stands first in the run at an index.
-fn status_at(words: &[u32], at: usize) -> RunStatus
-    requires { ⌜ at + planOffset ≤ length (now words) ⌝ }
-    ensures { λ s. ⌜ s ≡ statusAt (now (words .entry)) at ⌝ }
+// What stands first in the run at an index, with the read mask at another.
+fn status_at(words: &[u32], at: usize, read: usize) -> RunStatus
+    requires { ⌜ (at + planOffset ≤ length (now words)) × (read < length (now words)) ⌝ }
+    ensures { λ s. ⌜ s ≡ statusAt (now (words .entry)) at read ⌝ }
 {
     RunStatus {
         state: words[at],
         jobs: words[at + RunOffset::JOBS],
         done: words[at + RunOffset::DONE],
-        read: words[at + RunOffset::READ],
+        read: words[read],
     }
 }
 
-// Stores what stands first in the run at an index.
-fn put_status(words: &mut [u32], at: usize, s: RunStatus)
-    requires { ⌜ at + planOffset ≤ length (now words) ⌝ }
-    ensures { λ _. ⌜ now (words .exit) ≡ putStatus (now (words .entry)) at s ⌝ }
+// Stores what stands first in the run at an index, with the read mask at another.
+fn put_status(words: &mut [u32], at: usize, read: usize, s: RunStatus)
+    requires { ⌜ (at + planOffset ≤ length (now words)) × (read < length (now words)) ⌝ }
+    ensures { λ _. ⌜ now (words .exit) ≡ putStatus (now (words .entry)) at read s ⌝ }
 {
     words[at] = s.state;
     words[at + RunOffset::JOBS] = s.jobs;
     words[at + RunOffset::DONE] = s.done;
-    words[at + RunOffset::READ] = s.read;
+    words[read] = s.read;
 }

@@ -5,19 +5,20 @@
 -- Assumes nothing.
 use mathlib.Core.Path.{_≡_, sym, ap, subst, _∙_}
 use mathlib.Core.List.{List}
-use Prim.Native.Nat.{ℕ, suc, _+_, _<_}
-use native.Mathlib.Omega.{arith}
+use Prim.Native.Nat.{ℕ, _+_, _<_}
 use lib.Bits.{bitOr}
+use lib.Dec.{eqb}
 use lib.ListN.{length, getD, set}
+use Rattle.words.proofs.Bools.{test}
 use Rattle.words.proofs.Lists.{putAt-same}
 use Rattle.masks.specs.Mask.{testBit, withBit, maskBelow}
 use Rattle.sizes.specs.declared.Counts.{Counts}
-use Rattle.sizes.specs.Bounds.{siteAt, runAt, snapshotAt}
-use Rattle.sizes.specs.Runs.{doneOffset, readOffset}
+use Rattle.sizes.specs.Bounds.{siteAt, runAt, readAt, snapshotAt}
+use Rattle.sizes.specs.Runs.{doneOffset}
 use Rattle.model.specs.Algebra.{Place}
 use Rattle.model.specs.Version.{Version, merge, versions}
 use Rattle.model.specs.Sets.{fetchSet, fetched, pulled}
-use Rattle.model.specs.Store.{branchOf, Run, Site, Store, siteWith, withSites, withCache, withRun, withSnapshot, withJobDone}
+use Rattle.model.specs.Store.{Branch, branchOf, Run, Site, Store, siteWith, withSites, withCache, withRun, withJobDone}
 use Rattle.model.specs.Step.{stepBranch, stepSite, stepStart, stepFetch, stepCache, stepPull, stepSnapshot, stepDone}
 use Rattle.layout.specs.Reading.{readPlace, countsIn, storeOf}
 use Rattle.layout.specs.Stored.{putPlace}
@@ -28,7 +29,7 @@ use Rattle.layout.proofs.Whole.{counts-back, store-back}
 use Rattle.layout.proofs.Fit.{fit-choice, fit-cache}
 use Rattle.layout.proofs.Readings.{cache-in, snapshot-in}
 use Rattle.layout.proofs.Follow.{form-fine}
-use Rattle.layout.proofs.RunUpdates.{put-snapshot, put-masks, run-twice}
+use Rattle.layout.proofs.RunUpdates.{withBranch, put-card, put-masks, run-twice}
 use Rattle.version.specs.Places.{choice, Areas}
 use Rattle.version.proofs.Stores.{snapshot-site}
 use Rattle.form.specs.Parts.{FormWith}
@@ -44,30 +45,40 @@ use Rattle.trial.proofs.Finds.{found-counts, found-run, found-site, found-site-
 
 -- ---- by the store
 
--- The snapshot, then the done and the read mask.
+-- A branch and the done mask changed, then another read mask and done mask.
+done-twice : (a : Run) (n d x y : ℕ) (b : Branch) → let c = withJobDone a n d b in
+    withJobDone c n x (record { read = y; snapshot = branchOf n c .snapshot })
+    ≡ withJobDone a n x (record { read = y; snapshot = b .snapshot })
+unfolding withJobDone
+done-twice a n d x y b = test (eqb n 0) (λ p. rw p) (λ p. rw p)
+
+-- The snapshot of branch n, then the done mask and the branch's read mask.
 run-stepped : (s : Store) (l : List ℕ) (r n : ℕ) (q : Place Version) (x y : ℕ)
     → r < s .counts .runs → let z = s .counts in
-    set (set (putPlace z (written s l) (snapshotAt z r n) q) (runAt z r + 2) x) (runAt z r + 3) y
-    ≡ written (withRun s r (withJobDone (s .run r) x y q)) l
-unfolding withRun withSnapshot withJobDone
+    set (set (putPlace z (written s l) (snapshotAt z r n) q) (runAt z r + doneOffset) x)
+    (readAt z r n) y
+    ≡ written (withRun s r (withJobDone (s .run r) n x (record { read = y; snapshot = q }))) l
+unfolding withRun
 run-stepped s l r n q x y h =
     let z = s .counts in
-    let a = withSnapshot (s .run r) q in
+    let b : Branch = record { read = branchOf n (s .run r) .read; snapshot = q } in
+    let a = withBranch (s .run r) n b in
     let t = withRun s r a in
     let here : t .run r ≡ a = putAt-same (s .run) r a in
-    let next : runAt z r + 3 ≡ suc (runAt z r + 2) = omega arith in
-    let after : Run → Store = λ b. withRun t r (withJobDone b x y (b .branch .snapshot)) in
-    rw (put-snapshot s l r n q h, next)
-    (put-masks t l r x y h ∙ ap (λ (b : Run). written (after b) l) here
-    ∙ ap (λ (s : Store). written s l) (run-twice s r a (withJobDone a x y q)))
+    let after : Run → Store = λ c.
+    withRun t r (withJobDone c n x (record { read = y; snapshot = branchOf n c .snapshot })) in
+    rw (put-card s l r n q h)
+    (put-masks t l r n x y h ∙ ap (λ (c : Run). written (after c) l) here
+    ∙ ap (λ (c : Run). written (withRun t r c) l) (done-twice (s .run r) n (s .run r .done) x y b)
+    ∙ ap (λ (s : Store). written s l) (run-twice s r a _))
 
 -- The cache before them.
 step-stored : (l : List ℕ) (z : Counts) (r n o : ℕ) (p q : Place Version) (x y : ℕ) → FormWith l z
     → r < z .runs
     → set (set (putPlace z (written (withCache (storeOf l) o p) l) (snapshotAt z r n) q)
-    (runAt z r + 2) x) (runAt z r + 3) y
+    (runAt z r + doneOffset) x) (readAt z r n) y
     ≡ written (withRun (withCache (storeOf l) o p) r
-    (withJobDone (storeOf l .run r) x y q)) l
+    (withJobDone (storeOf l .run r) n x (record { read = y; snapshot = q }))) l
 unfolding withCache withSites
 step-stored l z r n o p q x y H h =
     let same = form-counts l z H in
@@ -193,16 +204,17 @@ module _ (l : List ℕ) (z : Counts) (r j n : ℕ) (v : Visit) (t : Trial)
 
   -- ---- all that is stored
 
-  -- at: where the run begins.
-  pub step-left : (at : ℕ) → at ≡ runAt z r
+  -- at, read: where the run begins, and where its branch's read mask stands.
+  pub step-left : (at read : ℕ) → at ≡ runAt z r → read ≡ readAt z r n
       → set (set (putPlace z (written (shelved s r j n) l) (v .snapshot)
       (stepSnapshot s r j n)) (at + doneOffset) (withBit (getD l (at + doneOffset) 0) j))
-      (at + readOffset) (bitOr (v .read) (v .reads))
+      read (bitOr (v .read) (v .reads))
       ≡ leaves (stepDone s r j n) l
   unfolding leaves stepDone
-  step-left at e =
+  step-left at read e f =
       rw (
         e,
+        f,
         done-word l z r (used .0),
         found-read l z r j n v t F,
         found-reads l z r j n v t F,

@@ -1,5 +1,5 @@
-// Step: a job reads its keys, from the snapshot, its site's cache or the master. What it would do
-// is found first, and nothing is stored before that.
+// Step: a job reads its keys on a branch of its run, from that branch's snapshot, its site's cache
+// or the master. What it would do is found first, and nothing is stored before that.
 use answers::put_two;
 use fetching::take_keys;
 use form::header::counts;
@@ -32,37 +32,46 @@ ghost use Rattle.trial.specs.Trials.{Finds};
 ghost use Rattle.step.specs.Answers.{steppedWords};
 
 // The reads from the snapshot, from the cache and from the master; or the keys that would move
-// though the run has read them; or the cause's number.
+// though the branch has read them; or the cause's number.
 pub enum Stepped {
     Done(u32, u32, u32),
     Broken(u32),
     Refused(u32),
 }
 
-// A job of a run reads its keys.
-pub fn step(words: &mut [u32], run: u32, job: u32) -> Stepped
+// A job of a run reads its keys, on a branch (CR 10: a line).
+pub fn step(words: &mut [u32], run: u32, job: u32, line: u32) -> Stepped
     requires { ⌜ So (inForm (now words)) ⌝ }
     ensures answers { λ r. ⌜ steppedWords r
-        ≡ answer (callOn (on (step run job)) (now (words .entry))) ⌝ }
+        ≡ answer (callOn (on (step run job line)) (now (words .entry))) ⌝ }
     ensures leaves { λ _. ⌜ now (words .exit)
-        ≡ leaves (callOn (on (step run job)) (now (words .entry))) (now (words .entry)) ⌝ }
+        ≡ leaves (callOn (on (step run job line)) (now (words .entry))) (now (words .entry)) ⌝ }
 {
     let z = counts(words);
     let r = run as usize;
-    let tried = try_job(words, z, r, job as usize);
+    let n = line as usize;
+    let tried = try_job(words, z, r, job as usize, n);
     match tried {
         Tried::Refused(no) => Stepped::Refused(no),
-        Tried::Found(visit, trial) => act(words, z, r, job, visit, trial),
+        Tried::Found(visit, trial) => act(words, z, r, job, n, visit, trial),
     }
 }
 
 // Breaks the run or finishes the job, by what the trial found.
-fn act(words: &mut [u32], z: Counts, r: usize, job: u32, visit: Visit, trial: Trial) -> Stepped
-    requires { ⌜ Finds (now words) z r job 0 visit trial ⌝ }
+fn act(
+    words: &mut [u32],
+    z: Counts,
+    r: usize,
+    job: u32,
+    n: usize,
+    visit: Visit,
+    trial: Trial,
+) -> Stepped
+    requires { ⌜ Finds (now words) z r job n visit trial ⌝ }
     ensures answers { λ a. ⌜ steppedWords a
-        ≡ answer (callOn (on (step r job)) (now (words .entry))) ⌝ }
+        ≡ answer (callOn (on (step r job n)) (now (words .entry))) ⌝ }
     ensures leaves { λ _. ⌜ now (words .exit)
-        ≡ leaves (callOn (on (step r job)) (now (words .entry))) (now (words .entry)) ⌝ }
+        ≡ leaves (callOn (on (step r job n)) (now (words .entry))) (now (words .entry)) ⌝ }
 {
     let at = z.run_at(r);
     let moved = trial.pulled & visit.read;
@@ -70,22 +79,23 @@ fn act(words: &mut [u32], z: Counts, r: usize, job: u32, visit: Visit, trial: Tr
         mark_broken(words, at);
         return Stepped::Broken(moved);
     }
-    finish(words, z, r, job, visit, trial);
+    finish(words, z, r, job, n, visit, trial);
     divided(visit.reads, trial)
 }
 
-// The cache takes T, and its mark is set; the snapshot takes C; the job is done, and its reads are
-// read.
-fn finish(words: &mut [u32], z: Counts, r: usize, job: u32, visit: Visit, trial: Trial)
-    requires { ⌜ Finds (now words) z r job 0 visit trial ⌝ }
+// The cache takes T, and its mark is set; the branch's snapshot takes C; the job is done, and the
+// branch has read its reads.
+fn finish(words: &mut [u32], z: Counts, r: usize, job: u32, n: usize, visit: Visit, trial: Trial)
+    requires { ⌜ Finds (now words) z r job n visit trial ⌝ }
     ensures { λ _. ⌜ now (words .exit)
-        ≡ leaves (stepDone (storeOf (now (words .entry))) r job 0) (now (words .entry)) ⌝ }
+        ≡ leaves (stepDone (storeOf (now (words .entry))) r job n) (now (words .entry)) ⌝ }
 {
     let at = z.run_at(r);
+    let read = z.read_on(r, n);
     let jobs_done = with_item(words[at + RunOffset::DONE], job);
     take_keys(words, z, visit.site, trial.taken);
     merge_keys(words, z, visit.snapshot, visit.cache, trial.pulled);
-    mark_done(words, at, jobs_done, visit.read | visit.reads);
+    mark_done(words, at, read, jobs_done, visit.read | visit.reads);
 }
 
 // The reads divided by where they come from.

@@ -42,7 +42,7 @@ module _ (l : List ℕ) (z : Counts) (r j n : ℕ) (v : Visit) (t : Trial)
   pub found-run : UsedRun l z r × (j < s .run r .jobs)
   found-run =
       let f = step-free s r j n (F .free) in
-      job-ready l z r j (F .form) (rw (← found-counts) (f .0)) (f .1)
+      job-ready l z r j (F .form) (rw (← found-counts) (f .0)) n (f .1)
 
   pub found-site : stepSite s r j n < z .sites
   unfolding stepSite

@@ -2,8 +2,8 @@
 -- decides alone.
 -- JobsKnown, jobs-known: where the run lies, and its plan; snapshot-behind: its snapshot.
 -- job-known: one of its jobs. ..-word: what is read where. job-found: a job as the code reads it.
--- limit-in, state-in, done-in: parts of a cause, by the words. job-open: a job in range of an open
--- run. job-ready: where no cause holds.
+-- limit-in, state-in, done-in, mark-found: parts of a cause, by the words. job-open: a job in
+-- range of an open run. job-ready: where no cause holds.
 -- Assumes nothing.
 use mathlib.Core.Path.{_≡_, sym, ap, _∙_}
 use mathlib.Core.Bool.{false, So}
@@ -15,9 +15,9 @@ use lib.ListN.{length, getD}
 use lib.Pow.{pow-mono}
 use Rattle.words.proofs.Bools.{leb-gt}
 use Rattle.sizes.specs.declared.Counts.{Counts}
-use Rattle.sizes.specs.Bounds.{placeSize, siteSize, runSize, siteAt, runAt, snapshotAt}
+use Rattle.sizes.specs.Bounds.{placeSize, siteSize, runSize, siteAt, runAt, markAt, snapshotAt}
 use Rattle.sizes.specs.Runs.{maxJobs, readsOffset, upstreamOffset, jobsOffset, doneOffset, planOffset, snapshotOffset, jobAt}
-use Rattle.sizes.proofs.Offsets.{ordered, site-lies, run-lies, snapshot-lies}
+use Rattle.sizes.proofs.Offsets.{ordered, site-lies, run-lies, snapshot-lies, branch-mark-lies}
 use Rattle.model.specs.Store.{Job, Run}
 use Rattle.model.specs.Form.{runFormed}
 use Rattle.model.specs.Outcome.{allowed, stepRow}
@@ -26,6 +26,7 @@ use Rattle.model.proofs.Outcomes.{no-cause, no-lack}
 use Rattle.model.proofs.Plans.{Valid, Plan, valid-out, plan-out}
 use Rattle.model.proofs.Steps.{step-used, job-limit}
 use Rattle.layout.specs.Reading.{readJobs, readRun, storeOf}
+use Rattle.layout.proofs.Readings.{mark-in}
 use Rattle.form.specs.Parts.{RunArea, FormWith, jobOf}
 use Rattle.form.proofs.Known.{form-area}
 use Rattle.form.proofs.Runs.{job-words}
@@ -123,6 +124,14 @@ module _ (l : List ℕ) (z : Counts) (r : ℕ) (K : RunKnown l z r) (at : ℕ) (
   unfolding readRun
   done-in = rw (e, K .run)
 
+-- The mark, and where it stands.
+pub mark-found : (l : List ℕ) (z : Counts) (r : ℕ) → FormWith l z → r < z .runs
+    → (markAt z r < length l) × (storeOf l .run r .mark ≡ getD l (markAt z r) 0)
+mark-found l z r H h =
+    let K = run-known l z r H h in
+    let e = branch-mark-lies z r in
+    (omega (arith, K .area .fits), mark-in l z (H .counts) r h)
+
 module _ (l : List ℕ) (z : Counts) (r j : ℕ) (H : FormWith l z) (h : r < z .runs) where
   pub job-open : leb (jobLimit (storeOf l .run r .state) (storeOf l .run r .jobs)) j ≡ false
       → So (allowed stepRow (storeOf l .run r .state))
@@ -134,10 +143,10 @@ module _ (l : List ℕ) (z : Counts) (r j : ℕ) (H : FormWith l z) (h : r < z .
         omega (arith, leb-gt _ j out, limit),
       )
 
-  pub job-ready : jobCause (storeOf l .run r) j 0 ≡ 0
+  pub job-ready : (n : ℕ) → jobCause (storeOf l .run r) j n 0 ≡ 0
       → UsedRun l z r × (j < storeOf l .run r .jobs)
   unfolding jobCause
-  job-ready e =
+  job-ready n e =
       let x = storeOf l .run r in
       let a = no-cause (leb (jobLimit (x .state) (x .jobs)) j) 3 _ (omega arith) e in
       let b = no-lack (allowed stepRow (x .state)) 4 _ (omega arith) (a .1) in

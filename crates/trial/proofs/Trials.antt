@@ -2,12 +2,12 @@
 -- visit-is: a visit as the code makes it. VisitKnown, visit-known: what holds of it.
 -- site-at, master-at, cache-at, old-..: the parts of the rule, where a visit reads them.
 -- taken-read: T. cause-last: the causes by T, as the code tests them. trial-found: T and C.
--- branch-own: the run's own snapshot and read mask.
+-- BranchAt, branch-at: where a branch's snapshot and read mask stand.
 -- Assumes nothing.
 use mathlib.Core.Path.{_≡_, sym, ap, _∙_}
 use mathlib.Core.Bool.{Bool, cond, _||_}
 use mathlib.Core.List.{List}
-use Prim.Native.Nat.{ℕ, _+_, _<_, _^_}
+use Prim.Native.Nat.{ℕ, _<_, _^_}
 use native.Mathlib.Omega.{arith}
 use lib.Bits.{bitOr}
 use lib.Dec.{eqb}
@@ -17,25 +17,25 @@ use Rattle.masks.specs.Mask.{testBit, maskBelow}
 use Rattle.masks.proofs.Bits.{test-or}
 use Rattle.masks.proofs.Sets.{item-of}
 use Rattle.sizes.specs.declared.Counts.{Counts}
-use Rattle.sizes.specs.Bounds.{runSize, masterAt, siteAt, snapshotAt, readAt}
+use Rattle.sizes.specs.Bounds.{masterAt, siteAt, snapshotAt, readAt}
 use Rattle.sizes.specs.Runs.{everyJob}
+use Rattle.sizes.proofs.Offsets.{ordered, run-lies, read-lies}
 use Rattle.model.specs.Algebra.{Algebra, lacking}
 use Rattle.model.specs.Version.{Version, versions}
 use Rattle.model.specs.Sets.{drawSet, fetchSet, fetched, unfetchable}
 use Rattle.model.specs.Tail.{barred}
-use Rattle.model.specs.Store.{branchOf, Run, Store}
+use Rattle.model.specs.Store.{branchOf, Store}
 use Rattle.model.specs.Allowance.{over}
 use Rattle.model.specs.Outcome.{refuse}
 use Rattle.model.specs.Step.{readStart, jobCause, stepCause, stepSite, stepReads, stepStart, stepFetch, stepCache, stepPlan, stepPull, stepBarred}
 use Rattle.model.proofs.Steps.{step-below}
-use Rattle.layout.specs.Reading.{readPlace, readRun, storeOf}
-use Rattle.layout.proofs.Readings.{master-in, cache-in, snapshot-in}
+use Rattle.layout.specs.Reading.{readPlace, storeOf}
+use Rattle.layout.proofs.Readings.{master-in, cache-in, snapshot-in, read-in}
 use Rattle.version.specs.Places.{Area}
 use Rattle.version.proofs.Stores.{master-area, site-area, snapshot-area}
 use Rattle.form.specs.Parts.{readsOf, FormWith}
 use Rattle.form.proofs.Known.{form-area, form-counts}
 use Rattle.form.proofs.Snapshots.{test-plan}
-use Rattle.status.proofs.Known.{run-known}
 use Rattle.sets.specs.Draws.{viewed}
 use Rattle.fetching.specs.Takes.{takesCause}
 use Rattle.fetching.proofs.Taking.{taken-cause}
@@ -43,15 +43,38 @@ use Rattle.trial.specs.declared.Visit.{Visit}
 use Rattle.trial.specs.declared.Trial.{Trial}
 use Rattle.trial.specs.declared.jobs.PlannedJob.{PlannedJob}
 use Rattle.trial.specs.Jobs.{UsedRun, plannedJob}
-use Rattle.trial.specs.Trials.{visitOf, trialOf, BranchAt}
+use Rattle.trial.specs.Trials.{visitOf, trialOf}
 use Rattle.trial.proofs.Known.{jobs-known, job-known}
-use Rattle.trial.proofs.Masks.{fetchable, taken-mask, pulled-mask}
+use Rattle.trial.proofs.Masks.{taken-mask, pulled-mask}
+
+-- ---- where a branch stands
+
+-- The snapshot and the read mask of branch n of run r stand at two indices of the buffer.
+pub record BranchAt (l : List ℕ) (z : Counts) (r n snapshot read : ℕ) : Type 0 where
+  pub area : Area (length l) z snapshot
+  pub place : branchOf n (storeOf l .run r) .snapshot ≡ readPlace z l snapshot
+  pub low : read < length l
+  pub mask : branchOf n (storeOf l .run r) .read ≡ getD l read 0
+
+pub branch-at : (l : List ℕ) (z : Counts) (r n : ℕ) → FormWith l z → r < z .runs
+    → (snapshot : ℕ) → snapshot ≡ snapshotAt z r n → BranchAt l z r n snapshot (readAt z r n)
+branch-at l z r n H h snapshot e =
+    let S = form-area l z H in
+    let q = ordered z (S .ranged) in
+    let t = run-lies z r h in
+    let u = read-lies z r n in
+    rw e (record {
+      area = snapshot-area (length l) z (S .ranged) (S .fits) r n h;
+      place = snapshot-in l z (H .counts) r n h;
+      low = omega (arith, S .fits);
+      mask = read-in l z (H .counts) r n h;
+    })
 
 -- ---- the visit of a job of a run that isn't free
 
 -- m, c, p, x: what the code finds.
 pub visit-is : (l : List ℕ) (z : Counts) (r j n snapshot read : ℕ) → FormWith l z
-    → BranchAt l z r n snapshot read → let a = storeOf l .run r in
+    → branchOf n (storeOf l .run r) .read ≡ getD l read 0 → let a = storeOf l .run r in
     (o m c p : ℕ) (x : PlannedJob) → o ≡ x .site → m ≡ masterAt z → c ≡ siteAt z o
     → p ≡ readsOf (a .jobs) (a .job) everyJob → x ≡ plannedJob (a .job j)
     → _≡_ {A = Visit} (record {
@@ -65,9 +88,9 @@ pub visit-is : (l : List ℕ) (z : Counts) (r j n snapshot read : ℕ) → FormW
     })
     (visitOf (storeOf l) r j n snapshot)
 unfolding visitOf stepSite
-visit-is l z r j n snapshot read H L o m c p x b d e f g =
+visit-is l z r j n snapshot read H y o m c p x b d e f g =
     let site = b ∙ ap (λ (x : PlannedJob). x .site) g in
-    rw (form-counts l z H, L .mask) (λ i. record {
+    rw (form-counts l z H, y) (λ i. record {
       site = site i;
       master = d i;
       cache = (e ∙ ap (siteAt z) site) i;
@@ -161,7 +184,7 @@ module _ (l : List ℕ) (z : Counts) (r j n snapshot : ℕ) (U : UsedRun l z r)
         (test-or (v .reads) t k
         ∙ ap (λ (b : Bool). testBit (v .reads) k || b) (item-of (z .keys) t T e k i))
 
-    pub cause-last : (t : ℕ) → jobCause (s .run r) j 0 ≡ 0
+    pub cause-last : (t : ℕ) → jobCause (s .run r) j n 0 ≡ 0
         → t ≡ maskBelow (z .keys) (fetchSet alg (z .keys) (s .master) (s .site (v .site) .cache)
         (testBit start))
         → stepCause s r j n ≡ takesCause z s (v .site) (bitOr (v .reads) t) t
@@ -206,18 +229,3 @@ module _ (l : List ℕ) (z : Counts) (r j n snapshot : ℕ) (U : UsedRun l z r)
         (pulled-mask alg (z .keys) (readPlace z l (v .master)) _ _ _ wanted start w e t f
         (testBit (v .plan)) p g) in
         λ i. record { taken = taken i; pulled = pulled i }
-
--- ---- the run's own
-
-pub branch-own : (l : List ℕ) (z : Counts) (r n : ℕ) → FormWith l z → r < z .runs
-    → BranchAt l z r n (snapshotAt z r n) (readAt z r n)
-unfolding runSize readRun
-branch-own l z r n H h =
-    let S = form-area l z H in
-    let K = run-known l z r H h in
-    record {
-      area = snapshot-area (length l) z (S .ranged) (S .fits) r n h;
-      place = snapshot-in l z (H .counts) r n h;
-      low = omega (arith, K .area .fits);
-      mask = ap (λ (a : Run). branchOf n a .read) (K .run);
-    }

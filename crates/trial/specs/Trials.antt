@@ -1,21 +1,19 @@
 -- What a step would do, by the model's sets.
 -- visitOf: what it looks at. trialOf: T and C. triedOf: refused for its cause, or these.
--- BranchAt: where the snapshot and the read mask of a branch stand. Finds: what was found.
+-- Finds: what was found.
 -- Assumes nothing.
 use mathlib.Core.Path.{_≡_}
 use mathlib.Core.Bool.{cond}
 use mathlib.Core.List.{List}
-use Prim.Native.Nat.{ℕ, _<_}
+use Prim.Native.Nat.{ℕ}
 use lib.Dec.{eqb}
-use lib.ListN.{length, getD}
 use Rattle.masks.specs.Mask.{maskBelow}
 use Rattle.sizes.specs.declared.Counts.{Counts}
 use Rattle.sizes.specs.Bounds.{masterAt, siteAt, snapshotAt}
 use Rattle.sizes.specs.Runs.{everyJob}
-use Rattle.model.specs.Store.{branchOf, Store}
+use Rattle.model.specs.Store.{Store}
 use Rattle.model.specs.Step.{stepBranch, stepSite, stepFetch, stepPull, stepCause}
-use Rattle.layout.specs.Reading.{readPlace, storeOf}
-use Rattle.version.specs.Places.{Area}
+use Rattle.layout.specs.Reading.{storeOf}
 use Rattle.form.specs.Parts.{readsOf, FormWith}
 use Rattle.trial.specs.declared.Visit.{Visit}
 use Rattle.trial.specs.declared.Trial.{Trial}
@@ -48,13 +46,6 @@ module _ (s : Store) (r j n : ℕ) where
   triedOf snapshot =
       cond (eqb (stepCause s r j n) 0) (Tried.Found (visitOf snapshot) trialOf)
       (Tried.Refused (stepCause s r j n))
-
--- The snapshot and the read mask of branch n of run r stand at two indices of the buffer.
-pub record BranchAt (l : List ℕ) (z : Counts) (r n snapshot read : ℕ) : Type 0 where
-  pub area : Area (length l) z snapshot
-  pub place : branchOf n (storeOf l .run r) .snapshot ≡ readPlace z l snapshot
-  pub low : read < length l
-  pub mask : branchOf n (storeOf l .run r) .read ≡ getD l read 0
 
 -- What a trial of job j of run r on branch n found: no cause, and what the step looks at and would
 -- do.

@@ -12,7 +12,6 @@ use sets::View;
 use sets::draw_set;
 use sets::missing::lacking;
 use sizes::Counts;
-use sizes::run::RunOffset;
 use words::wide;
 ghost use mathlib.Core.Path.{_≡_};
 ghost use Prim.Native.Nat.{_<_};
@@ -20,10 +19,10 @@ ghost use Rattle.sizes.specs.Bounds.{snapshotAt};
 ghost use Rattle.layout.specs.Reading.{storeOf};
 ghost use Rattle.form.specs.Parts.{FormWith};
 ghost use Rattle.trial.specs.Jobs.{UsedRun};
-ghost use Rattle.trial.specs.Trials.{visitOf, triedOf, BranchAt};
+ghost use Rattle.trial.specs.Trials.{visitOf, triedOf};
 
 // What a step looks at: the job's site, where three places begin, the plan's keys, the job's reads
-// (R), and what the run has read.
+// (R), and what the branch has read.
 pub struct Visit {
     pub site: usize,
     pub master: usize,
@@ -46,33 +45,31 @@ pub enum Tried {
     Found(Visit, Trial),
 }
 
-// What a step of job j of run r would do, on branch 0: with the run's own snapshot and read mask.
-pub fn try_job(words: &[u32], z: Counts, r: usize, j: usize) -> Tried
+// What a step of job j of run r would do on branch n: with that branch's snapshot and read mask.
+pub fn try_job(words: &[u32], z: Counts, r: usize, j: usize, n: usize) -> Tried
     requires { ⌜ FormWith (now words) z ⌝ }
-    ensures { λ t. ⌜ t ≡ triedOf (storeOf (now (words .entry))) r j 0 (snapshotAt z r 0) ⌝ }
+    ensures { λ t. ⌜ t ≡ triedOf (storeOf (now (words .entry))) r j n (snapshotAt z r n) ⌝ }
 {
     let runs = z.runs;
     if runs <= r {
         return Tried::Refused(3);
     }
-    let at = z.run_at(r);
-    let snapshot = z.snapshot_at(r);
-    try_at(words, z, r, j, snapshot, at + RunOffset::READ)
+    try_at(words, z, r, j, n, z.snapshot_on(r, n))
 }
 
-// The same, of one of the runs, where its snapshot and its read mask stand at two indices. T is
-// found once; the site must have the right to it and to what the job reads, even from the
-// snapshot; C is found against the cache seen through T, as the fetch would leave it.
-pub fn try_at(words: &[u32], z: Counts, r: usize, j: usize, snapshot: usize, read: usize) -> Tried
+// The same, of one of the runs, with where the branch's snapshot stands. T is found once; the site
+// must have the right to it and to what the job reads, even from the snapshot; C is found against
+// the cache seen through T, as the fetch would leave it.
+fn try_at(words: &[u32], z: Counts, r: usize, j: usize, n: usize, snapshot: usize) -> Tried
     requires { ⌜ FormWith (now words) z × (r < z .runs) ⌝ }
-    requires { ⌜ BranchAt (now words) z r 0 snapshot read ⌝ }
-    ensures { λ t. ⌜ t ≡ triedOf (storeOf (now (words .entry))) r j 0 snapshot ⌝ }
+    requires { ⌜ snapshot ≡ snapshotAt z r n ⌝ }
+    ensures { λ t. ⌜ t ≡ triedOf (storeOf (now (words .entry))) r j n snapshot ⌝ }
 {
-    let early = job_cause(words, z, r, j);
+    let early = job_cause(words, z, r, j, n);
     if early != 0 {
         return Tried::Refused(early);
     }
-    let visit = visit_of(words, z, r, j, snapshot, read);
+    let visit = visit_of(words, z, r, j, n, snapshot);
     let wanted = lacking(words, z, snapshot, visit.reads);
     let start = lacking(words, z, visit.cache, wanted);
     let taken = find_taken(words, z, visit.site, start);
@@ -89,17 +86,17 @@ pub fn try_at(words: &[u32], z: Counts, r: usize, j: usize, snapshot: usize, rea
     Tried::Found(visit, Trial { taken, pulled })
 }
 
-// What a step of job j of run r looks at.
-fn visit_of(words: &[u32], z: Counts, r: usize, j: usize, snapshot: usize, read: usize) -> Visit
+// What a step of job j of run r on branch n looks at.
+fn visit_of(words: &[u32], z: Counts, r: usize, j: usize, n: usize, snapshot: usize) -> Visit
     requires { ⌜ UsedRun (now words) z r × (j < storeOf (now words) .run r .jobs) ⌝ }
-    requires { ⌜ BranchAt (now words) z r 0 snapshot read ⌝ }
-    ensures { λ v. ⌜ v ≡ visitOf (storeOf (now (words .entry))) r j 0 snapshot ⌝ }
+    ensures { λ v. ⌜ v ≡ visitOf (storeOf (now (words .entry))) r j n snapshot ⌝ }
 {
     let job = job_of(words, z, r, j);
     let plan = plan_keys(words, z, r);
     let areas = z.areas();
     let site = wide(job.site);
     let cache = z.site_at(site);
+    let read = z.read_on(r, n);
     Visit {
         site,
         master: areas.master,

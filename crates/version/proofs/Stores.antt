@@ -1,5 +1,5 @@
 -- Where the places of a store lie: the master, the caches and the snapshots.
--- ..-area: one of them. site-master, snapshot-site: target and source.
+-- ..-area: one of them. site-master, snapshot-site, snapshot-pair: target and source.
 -- place-beside: a place is read beside one that was stored.
 -- Assumes nothing.
 use mathlib.Core.Path.{_≡_}
@@ -82,3 +82,13 @@ module _ (len : ℕ) (z : Counts) (R : Ranged z) (fits : totalOf z ≤ len) wher
         source = site-area o i;
         apart = inr (inr (omega arith));
       }
+
+  -- The two snapshots of a run.
+  pub snapshot-pair : (r : ℕ) → r < z .runs
+      → Areas len z (snapshotAt z r 0) (snapshotAt z r 1)
+  unfolding snapshotAt
+  snapshot-pair r h = record {
+    target = snapshot-area r 0 h;
+    source = snapshot-area r 1 h;
+    apart = inr (inl (omega arith));
+  }

@@ -1,16 +1,12 @@
 -- `snapshots_taken` answers whether every snapshot is taken.
 -- The loop's invariant: those passed are.
 -- Assumes nothing.
-use mathlib.Core.Path.{_≡_, refl, ap, _∙_}
+use mathlib.Core.Path.{_≡_, refl}
 use mathlib.Core.Bool.{So}
-use Prim.Native.Nat.{ℕ, _≤_, _-_}
+use Prim.Native.Nat.{_≤_, _-_}
 use native.Mathlib.Omega.{arith}
 use Rattle.words.specs.Tests.{Items, allBelow}
-use Rattle.layout.specs.Reading.{readPlace, readRun}
-use Rattle.form.proofs.Known.{form-area}
-use Rattle.form.proofs.Stores.{run-area}
-use Rattle.admit.specs.Parts.{runTaken, runTest}
-use Rattle.admit.proofs.Words.{run-most}
+use Rattle.admit.specs.Parts.{runTest}
 use Rattle.form.proofs.Loops.{loop-fails, loop-turn, loop-ends}
 use Rattle.admit.proofs.snapshots_taken.Statement.{statement}
 use Rattle.admit.proofs.snapshots_taken.Tie as tie
@@ -29,38 +25,22 @@ loop-holds : tie.Need-loop-holds Inv-loop μ-loop
 unfolding allBelow
 loop-holds c = (omega arith, refl)
 
-run-at-requires : tie.Need-run-at-requires Inv-loop μ-loop
-run-at-requires c κs =
-    let s = c .before .before .before in (form-area _ _ (s .pre .0) .ranged, omega arith)
-
 run-taken-requires : tie.Need-run-taken-requires Inv-loop μ-loop
-run-taken-requires c κs =
-    let l = c .before .before in
-    let s = l .before .before in
-    let H = s .pre .0 in
-    rw (c .run-at .ensures) (
-      (s .pre .1, run-area _ _ (form-area _ _ H) (l .loop .r) (omega arith)),
-      run-most _ _ H (l .loop .r) (omega arith),
-    )
+run-taken-requires c κs = let s = c .before .before .before in (s .pre, omega arith)
 
 -- What the code finds is the test of run r.
-found : (c : tie.After-run-taken Inv-loop μ-loop) → let l = c .before .before .before in
+found : (c : tie.After-run-taken Inv-loop μ-loop) → let l = c .before .before in
     c .run-taken .result ≡ tests l (l .loop .r)
-found c =
-    let a = c .before .before .before .before .before .args in
-    let l = a .words .now in
-    c .run-taken .ensures
-    ∙ ap (λ (i : ℕ). runTaken (a .z) (readPlace (a .z) l (a .master)) (a .last .0)
-    (readRun (a .z) l i)) (c .before .run-at .ensures)
+found c = c .run-taken .ensures
 
 returns : tie.Need-returns Inv-loop μ-loop
 returns c =
-    let l = c .before .before .before .before in
+    let l = c .before .before .before in
     loop-fails _ (tests l) (l .loop .r) _ (omega arith) (found (c .before)) (c .if1 .taken)
 
 loop-again : tie.Need-loop-again Inv-loop μ-loop
 loop-again c =
-    let l = c .before .before .before .before in
+    let l = c .before .before .before in
     let e = (found (c .before)) in
     (omega arith, loop-turn (tests l) (l .loop .r) _ (l .loop .inv .1) e (c .if1 .left))
 
@@ -75,7 +55,6 @@ snapshots-taken-spec =
     Inv-loop
     μ-loop
     loop-holds
-    run-at-requires
     run-taken-requires
     returns
     (λ c. omega arith)

@@ -90,6 +90,10 @@ make-spec =
     (λ c κs. search needs)
     (λ c. search needs)
     (λ c κs. search needs)
+    (λ c. search needs)
+    (λ c κs. search needs)
+    (λ c. search needs)
+    (λ c κs. search needs)
     returns
     (λ c. search needs)
     (λ c. search needs)
@@ -97,6 +101,12 @@ make-spec =
     (λ c. search needs)
     (λ c. search needs)
     returns-3
+    (λ c. search needs)
+    (λ c. search needs)
+    (λ c. search made-of)
+    (λ c. search needs)
+    (λ c. search needs)
+    (λ c. search made-of)
     (λ c. search needs)
     (λ c. search needs)
     (λ c. search made-of)

@@ -41,8 +41,8 @@ use Rattle.consistency.proofs.Counting.{Masked}
 use Rattle.consistency.proofs.Invariant.{WriterFollows, Follows, Inv, Moves}
 use Rattle.consistency.proofs.Laws.{Laws, laws-unless}
 use Rattle.consistency.proofs.Following.{by-counts, cache-related, free-follows, follows-run}
-use Rattle.consistency.proofs.Changing.{nothing-read, inv-next, inv-anew}
-use Rattle.consistency.proofs.Issuing.{place-grow, run-grow, issuedCopies, issued-every, newPast-entered, issuedMaster-whole, issuedMaster-led}
+use Rattle.consistency.proofs.Changing.{nothing-read, nothing-covers, free-unread, inv-next, inv-anew}
+use Rattle.consistency.proofs.Issuing.{stands-grow, place-grow, run-grow, issuedCopies, issued-every, newPast-entered, issuedMaster-whole, issuedMaster-led}
 
 -- ---- the book with the new issue, the run not yet freed
 
@@ -70,7 +70,7 @@ module _ (s : Store) (b : Book) (F : Follows s b) (r w S : ℕ) (hr : r < s .cou
   unfolding entry
   issued-sound =
       let K = s .counts .keys in
-      let G = F .run r hr .branch in
+      let G = F .run r hr .line 0 in
       let c = b .run r .branch in
       sound-issue K (s .counts .writers) (entry r w S b) (b .history) (F .sound) hw
       (λ d. test-low S K d hS) (mask-some K S hS some)
@@ -85,7 +85,7 @@ module _ (s : Store) (b : Book) (F : Follows s b) (r w S : ℕ) (hr : r < s .cou
   unfolding entry
   issued-lists =
       let K = s .counts .keys in
-      let G = F .run r hr .branch in
+      let G = F .run r hr .line 0 in
       let c = b .run r .branch in
       lists-issue (b .base) K (s .counts .writers) (entry r w S b) (b .history) issued-sound
       (F .lists) (rw (← F .counts) (λ d u.
@@ -187,7 +187,10 @@ module _ (s : Store) (b : Book) (F : Follows s b) (r w S : ℕ) (hr : r < s .cou
       let K = s .counts .keys in
       inv-next (withRun t r freeRun) (withBookRun c r noRun) (putAt f r []) r freeRun noRun v
       (follows-run issued-follows r freeRun noRun (free-follows W K (c .history) (c .base)))
-      refl refl refl hr (putAt-other f r []) (nothing-read K freeRun noRun f r)
+      refl refl refl hr (putAt-other f r [])
+      (λ k x y. stands-grow W K (entry r w S b) (b .history) (b .base) k x y)
+      (nothing-read s c freeRun noRun f r)
+      (nothing-covers K freeRun _ free-unread)
 
 -- ---- the call
 
@@ -199,7 +202,8 @@ unfolding issueDone issuedStore bookRule bookIssued finish finishBy roleOf
 done-moves s b f r w S v hr hw hS =
     test (eqb S 0)
     (λ y. rw y (inv-anew v r freeRun noRun
-    (free-follows (s .counts .writers) (s .counts .keys) (b .history) (b .base)) hr))
+    (free-follows (s .counts .writers) (s .counts .keys) (b .history) (b .base)) hr
+    free-unread))
     (λ n. rw (n, book-issued r w S b) (issued-inv s b (v .follows) r w S hr hw hS n f v))
 
 pub issue-laws : (r w S : ℕ) (s : Store) → Fine s → Laws (issue r w S) s (issueRule r w S s)

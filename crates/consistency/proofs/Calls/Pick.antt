@@ -39,7 +39,12 @@ pub inv-tail : {s : Store} {b : Book} {f : ℕ → List ReadSet} → Inv s b f �
     → Inv (withTail s t) b f
 unfolding withTail
 inv-tail v t =
-    record { follows = follows-tail (v .follows) t; reads = v .reads; no-run = v .no-run }
+    record {
+      follows = follows-tail (v .follows) t;
+      reads = v .reads;
+      covered = v .covered;
+      no-run = v .no-run;
+    }
 
 pub pick-laws : (s : Store) → Fine s → Laws pick s (pickRule s)
 unfolding pickRule pickDone withTail bookStep bookRule finish finishBy roleOf

@@ -8,10 +8,12 @@ use mathlib.Core.Bool.{false}
 use mathlib.Core.List.{List}
 use Prim.Native.Nat.{ℕ, _<_}
 use native.Mathlib.Omega.{arith}
-use Rattle.words.proofs.Bools.{clash}
+use lib.Dec.{eqb}
+use Rattle.words.proofs.Bools.{test, clash}
+use Rattle.masks.specs.Mask.{testBit}
 use Rattle.model.specs.Algebra.{Place}
-use Rattle.model.specs.Version.{versions}
-use Rattle.model.specs.Store.{Run, Site, Store, planned, siteWith, withCaches, withSites, withRun, withSnapshot}
+use Rattle.model.specs.Version.{Version, versions}
+use Rattle.model.specs.Store.{Site, Store, planned, siteWith, withCaches, withSites, withRun, withSnapshot}
 use Rattle.model.specs.Prepare.{preparedCaches, usesSite, sitesMerged, siteCaches, prepareCause, prepareCaches, prepareSnapshot, prepareDone, prepareRule}
 use Rattle.model.specs.Calls.{prepare}
 use Rattle.model.proofs.Plans.{valid-out}
@@ -26,9 +28,9 @@ use Rattle.consistency.proofs.Simulation.{Related}
 use Rattle.consistency.proofs.SimulationPrepare.{SitesBelow, RelatedSites, preparedCaches-rel, sitesMerged-rel}
 use Rattle.consistency.proofs.Closing.{bookWrites, ClosedIn}
 use Rattle.consistency.proofs.ClosingPrepare.{CutsWithin, sitesMerged-closed, preparedCaches-cuts}
-use Rattle.consistency.proofs.Invariant.{RunFollows, Follows, Inv, Moves}
+use Rattle.consistency.proofs.Invariant.{BranchFollows, RunFollows, Follows, ReadAs, Covers, Inv, Moves}
 use Rattle.consistency.proofs.Laws.{works, Laws, laws-unless}
-use Rattle.consistency.proofs.Following.{Stands, now-simulates, now-laws, now-named, master-closed, master-related, cache-related, cache-part}
+use Rattle.consistency.proofs.Following.{Stands, now-simulates, now-laws, now-named, master-closed, master-related, cache-related, cache-part, plan-same, on-lines}
 use Rattle.consistency.proofs.Changing.{HasRead, inv-caches, inv-run}
 
 -- ---- the book's caches and run r after prepare, with the store's counts and jobs
@@ -52,6 +54,7 @@ module _ (s : Store) (b : Book) (r : ℕ) where
     jobs = s .run r .jobs;
     job = s .run r .job;
     branch = record { read = b .run r .branch .read; snapshot = copySnapshot };
+    second = b .run r .second;
   }
 
   book-prepare : Follows s b → r < s .counts .runs
@@ -127,31 +130,64 @@ module _ {s : Store} {b : Book} {r : ℕ} (fine : Fine s) (F : Follows s b) (A :
   run-follows : RunFollows (s .counts .writers) (s .counts .keys) (b .history) (b .base)
       (withSnapshot (s .run r) (prepareSnapshot s r)) (copyRun s b r)
   unfolding withSnapshot copyRun
-  run-follows = record {
-    jobs = refl;
-    job = refl;
-    branch = record {
-      read = F .run r (A .run) .branch .read;
-      low = F .run r (A .run) .branch .low;
-      snapshot = λ k l. snapshot-related k l .counts;
-      led = λ e k l. snapshot-related k l .led e;
-      closed = snapshot-closed;
-    };
-  }
+  run-follows =
+      let G = F .run r (A .run) in
+      record {
+        jobs = refl;
+        job = refl;
+        line = on-lines (BranchFollows (s .counts .writers) (s .counts .keys) (b .history)
+            (b .base) (planned (s .run r .jobs) (s .run r .job)))
+            (withSnapshot (s .run r) (prepareSnapshot s r)) (copyRun s b r) (record {
+              read = G .line 0 .read;
+              low = G .line 0 .low;
+              snapshot = λ k l. snapshot-related k l .counts;
+              led = λ e k l. snapshot-related k l .led e;
+              closed = snapshot-closed;
+            }) (rw (plan-same G) (G .line 1));
+      }
+
+-- What has read nothing has read it from any card.
+unread-first : (s : Store) (b : Book) (f : ℕ → List ReadSet) (r : ℕ) → Inv s b f
+    → r < s .counts .runs → ((k : ℕ) → testBit (s .run r .branch .read) k ≡ false)
+    → (x : ReadSet) (p : Place Version)
+    → ReadAs (s .counts .writers) (s .counts .keys) (s .run r .branch) (b .run r .branch) x
+    → ReadAs (s .counts .writers) (s .counts .keys)
+    (record { read = s .run r .branch .read; snapshot = p })
+    (record { read = b .run r .branch .read; snapshot = copySnapshot s b r }) x
+unread-first s b f r v l none x p R =
+    let nothing : (k : ℕ) → k < s .counts .keys → b .run r .branch .read k ≡ false =
+    λ k h. sym (v .follows .run r l .line 0 .read k h) ∙ none k in
+    record {
+      keys = R .keys;
+      version = λ k h q. clash (R .keys k h q) (nothing k h);
+      copy = λ k h q. clash (R .keys k h q) (nothing k h);
+    }
 
 -- No job is done, so nothing is read.
 none-read : {s : Store} {b : Book} {f : ℕ → List ReadSet} {r : ℕ} → Fine s → Inv s b f
-    → Accepted s r → (a : Run) → HasRead (s .counts .keys) a (copyRun s b r) (f r)
-unfolding copyRun
-none-read {s} {b} {f} {r} fine v A a x i =
-    let was-read = v .reads r (A .run) x i .keys in
-    let nothing : (k : ℕ) → k < s .counts .keys → b .run r .branch .read k ≡ false =
-    λ k l. sym (v .follows .run r (A .run) .branch .read k l) ∙ unread s r fine A k in
+    → Accepted s r
+    → HasRead s b (withSnapshot (s .run r) (prepareSnapshot s r)) (copyRun s b r) (f r)
+unfolding copyRun withSnapshot
+none-read {s} {b} {f} {r} fine v A x i =
+    let E = v .reads r (A .run) x i in
+    let first = unread-first s b f r v (A .run) (unread s r fine A) x in
     record {
-      keys = was-read;
-      version = λ k l p. clash (was-read k l p) (nothing k l);
-      copy = λ k l p. clash (was-read k l p) (nothing k l);
+      stands = E .stands;
+      lines = λ n o.
+          let R = E .lines n o in
+          test (eqb n 0) (λ y. rw y (first _ (rw y at R))) (λ y. rw y (rw y at R));
+      placed = E .placed;
+      single = E .single;
     }
+
+-- The read masks stay.
+same-covers : {s : Store} {b : Book} {f : ℕ → List ReadSet} {r : ℕ} → Fine s → Inv s b f
+    → Accepted s r
+    → Covers (s .counts .keys) (withSnapshot (s .run r) (prepareSnapshot s r)) (f r)
+unfolding withSnapshot
+same-covers {r = r} fine v A n k l h p =
+    v .covered r (A .run) n k l h
+    (test (eqb n 0) (λ y. rw y (rw y at p)) (λ y. rw y (rw y at p)))
 
 done-moves : {s : Store} {b : Book} {f : ℕ → List ReadSet} {r : ℕ} → Fine s → Inv s b f
     → Accepted s r → Moves (prepare r) s b f (prepareDone s r)
@@ -164,7 +200,7 @@ done-moves {s} {b} {f} {r} fine v A =
     (λ o l. (caches-related fine F A o l, caches-cuts fine F A o l .0)) in
     rw (book-prepare s b r F (A .run))
     (inv-run w f r after (copyRun s b r) (run-follows fine F A) (A .run) (λ _ _. refl)
-    (none-read fine v A after))
+    (none-read fine v A) (same-covers fine v A))
 
 pub prepare-laws : (r : ℕ) (s : Store) → Fine s → Laws (prepare r) s (prepareRule r s)
 unfolding prepareRule prepareDone withRun withCaches withSites withSnapshot roleOf

@@ -20,7 +20,7 @@ use Rattle.consistency.specs.Roles.{roleOf}
 use Rattle.consistency.specs.Trace.{finishBy, finish}
 use Rattle.consistency.proofs.Laws.{Laws, laws-unless}
 use Rattle.consistency.proofs.Following.{empty-follows, free-follows}
-use Rattle.consistency.proofs.Changing.{inv-anew}
+use Rattle.consistency.proofs.Changing.{free-unread, inv-anew}
 
 -- Only a free run is opened.
 open-free : (r : ℕ) (s : Store) → Fine s → r < s .counts .runs
@@ -40,7 +40,8 @@ open-laws r l s F =
       moves = λ b f v.
           inv-anew v r _ _ (empty-follows (s .counts .writers) (s .counts .keys) (b .history)
           (b .base)
-          openState (listedCount l) 0 (listedJobs l)) low;
+          openState (listedCount l) 0 (listedJobs l)) low
+          (λ n. test (eqb n 0) (λ y. rw y refl) (λ y. rw y refl));
       turns = record {
         run = openedRun l;
         how = (open-free r s F low (no-lack _ 4 _ (omega arith) (x .1) .0), refl);
@@ -55,7 +56,8 @@ drop-laws r s _ =
       moves = λ b f v.
           inv-anew v r freeRun noRun
           (free-follows (s .counts .writers) (s .counts .keys) (b .history) (b .base))
-          (leb-gt _ _ (no-cause _ 3 _ (omega arith) e .0));
+          (leb-gt _ _ (no-cause _ 3 _ (omega arith) e .0))
+          free-unread;
       turns = record { run = freeRun; how = refl; put = refl };
     })
 

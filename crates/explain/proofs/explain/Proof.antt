@@ -16,14 +16,14 @@ counts-requires c κs = form-long _ (c .before .pre)
 -- What the trial found.
 found : (c : tie.After-tried2) → let n = c .before .before .before in
     let a = n .before .before .args in
-    Finds (a .words .now) (n .counts .result) (a .run) (a .job) 0 (c .tried2 .given .0 .0)
+    Finds (a .words .now) (n .counts .result) (a .run) (a .job) (a .line) (c .tried2 .given .0 .0)
     (c .tried2 .given .0 .1 .0)
 found c =
     let t = c .before .before in
     let n = t .before in
     let s = n .before .before in
     let a = s .args in
-    let f = found-as _ (a .run) (a .job) 0 _ _ _
+    let f = found-as _ (a .run) (a .job) (a .line) _ _ _
     (sym (c .tried2 .given .1) ∙ t .try-job .ensures) in
     record {
       form = record { form = s .pre; counts = n .counts .ensures };
@@ -45,15 +45,15 @@ returns c =
     let n = t .before in
     let s = n .before .before in
     let a = s .args in
-    let f = refused-as _ (a .run) (a .job) 0 _ _
+    let f = refused-as _ (a .run) (a .job) (a .line) _ _
     (sym (k .tried .given .1) ∙ t .try-job .ensures) in
     rw (c .alone .ensures)
-    (words-refused (a .words .now) (a .run) (a .job) _ (s .pre) (f .0) (f .1), tt)
+    (words-refused (a .words .now) (a .run) (a .job) (a .line) _ (s .pre) (f .0) (f .1), tt)
 
 returns-2 : tie.Need-returns-2
 returns-2 c =
     let f = found (c .before .before) in
-    (c .judge .ensures .0 ∙ words-found _ _ _ _ _ _ f, c .judge .ensures .1)
+    (c .judge .ensures .0 ∙ words-found _ _ _ _ _ _ _ f, c .judge .ensures .1)
 
 pub explain-spec : {M : Type 1} → statement M
 explain-spec =

@@ -4,21 +4,20 @@
 use mathlib.Core.Path.{_≡_, refl, sym}
 use mathlib.Core.Bool.{So, _&&_}
 use mathlib.Core.List.{List}
+use mathlib.Core.Logic.{inr}
 use Prim.Native.Nat.{ℕ, _*_, _≤_, _<_}
 use native.Mathlib.Omega.{arith}
 use lib.Dec.{eqb}
 use lib.ListN.{length}
 use lib.Pow.{pow-pos}
 use Rattle.words.specs.Tests.{allBelow}
-use Rattle.words.proofs.Bools.{clash, and-left, and-right, leb-gt, eqb-eq}
+use Rattle.words.proofs.Bools.{and-left, and-right, leb-gt, eqb-eq}
 use Rattle.words.proofs.Tests.{all-at}
 use Rattle.words.proofs.Lists.{upto-in, upto-out}
-use Rattle.masks.proofs.Bits.{test-none}
 use Rattle.sizes.specs.declared.Counts.{Counts}
 use Rattle.sizes.specs.Bounds.{between}
 use Rattle.sizes.specs.Runs.{maxJobs, jobSize}
 use Rattle.sizes.proofs.Offsets.{between-out}
-use Rattle.model.specs.Version.{held}
 use Rattle.model.specs.Store.{Store, noJob, withRun}
 use Rattle.model.specs.Form.{validJob, runFormed}
 use Rattle.model.specs.Outcome.{runCause}
@@ -27,10 +26,10 @@ use Rattle.model.proofs.Outcomes.{no-cause, no-lack}
 use Rattle.model.proofs.DoneReads.{doneReads-none}
 use Rattle.layout.proofs.Runs.{FitRun}
 use Rattle.layout.proofs.Fit.{fit-empty, fit-run}
-use Rattle.model.proofs.FormedPlaces.{formed-empty}
 use Rattle.model.proofs.Formed.{well-out}
 use Rattle.model.proofs.FormedNext.{formed-run}
 use Rattle.model.proofs.Plans.{zero-job, plan-in}
+use Rattle.model.proofs.Branches.{on-both, Snapshot, none-vacant, vacant-snapshot}
 use Rattle.layout.proofs.Follow.{Fine}
 use Rattle.layout.proofs.Kept.{Kept, kept-done, kept-unless}
 
@@ -72,10 +71,11 @@ opened-fits z l L = record {
     rest = λ i h. job-out l i (omega (arith, L .high));
   };
   snapshot = fit-empty z;
+  second = fit-empty z;
 }
 
 opened-formed : (z : Counts) (l : List ℕ) → Listed z l → So (runFormed z (openedRun l))
-unfolding openedRun held
+unfolding openedRun
 opened-formed z l L = plan-in z (openedRun l) (omega arith) (record {
   state = omega arith;
   jobs = record {
@@ -88,11 +88,10 @@ opened-formed z l L = plan-in z (openedRun l) (omega arith) (record {
     low = pow-pos (listedCount l);
     reads = sym (doneReads-none (z .keys) (listedCount l) (listedJobs l));
   };
-  snapshot = record {
-    place = formed-empty z;
-    carried = λ k _ p. clash p refl;
-    has = λ k _ p. clash p (test-none k);
-  };
+  mark = record { high = omega arith; single = inr (none-vacant z) };
+  snapshot = on-both (Snapshot z (listedCount l) (listedJobs l)) (openedRun l)
+      (vacant-snapshot (listedCount l) (listedJobs l) (none-vacant z))
+      (vacant-snapshot (listedCount l) (listedJobs l) (none-vacant z));
 })
 
 pub open-kept : (r : ℕ) (l : List ℕ) (s : Store) → Fine s → Kept s (openRule r l s)

@@ -8,11 +8,11 @@ use mathlib.Core.Bool.{Bool, true, false, cond, So, _&&_}
 use Prim.Native.Nat.{ℕ, _≤_, _<_}
 use native.Mathlib.Omega.{arith}
 use Rattle.words.specs.Tests.{Items}
-use Rattle.words.proofs.Bools.{test, clash, leb-gt, eqb-eq}
+use Rattle.words.proofs.Bools.{test, clash, or-none, leb-gt, eqb-eq}
 use Rattle.words.proofs.Numbers.{fold-keeps}
 use Rattle.words.proofs.Tests.{any-none}
 use Rattle.masks.specs.Mask.{testBit}
-use Rattle.masks.proofs.Bits.{test-none}
+use Rattle.masks.proofs.Bits.{test-or, test-none}
 use Rattle.sizes.specs.declared.Counts.{Counts}
 use Rattle.model.specs.Algebra.{Place}
 use Rattle.model.specs.Version.{Version, unheld, held, merge, versions}
@@ -28,15 +28,15 @@ use Rattle.model.proofs.Allowances.{over-no}
 use Rattle.model.proofs.Rights.{unbarred-fetched}
 use Rattle.model.proofs.AtOnce.{prepared-at-once, unentitled-sites}
 use Rattle.model.proofs.DoneReads.{doneReads-none}
-use Rattle.layout.proofs.Codec.{FitMany}
 use Rattle.layout.proofs.Parts.{FitVersion, FitPlace}
 use Rattle.layout.proofs.Runs.{FitRun}
-use Rattle.layout.proofs.Codec.{fit-put}
+use Rattle.layout.proofs.Codec.{FitMany, fit-put}
 use Rattle.layout.proofs.Fit.{fit-unheld, fit-merge, fit-caches, fit-run}
 use Rattle.model.proofs.FormedPlaces.{VersionFormed, version-unheld, version-merge, PlaceFormed}
 use Rattle.model.proofs.Formed.{Unbarred, well-out}
 use Rattle.model.proofs.FormedNext.{formed-caches, formed-run}
-use Rattle.model.proofs.Plans.{valid-out, Jobs, Plan, plan-out, plan-in}
+use Rattle.model.proofs.Plans.{valid-out, Jobs, readBoth, Plan, plan-out, plan-in}
+use Rattle.model.proofs.Branches.{on-both, Snapshot}
 use Rattle.layout.proofs.Follow.{Fine}
 use Rattle.layout.proofs.Kept.{Kept, kept-done, kept-unless, fetched-fits, fetched-formed}
 
@@ -144,7 +144,8 @@ unfolding prepareCause runCause allowed anyOver
 accepted s r e =
     let a = no-cause _ 3 _ (omega arith) e in
     let b = no-lack _ 4 _ (omega arith) (a .1) in
-    let c = no-lack _ 6 _ (omega arith) (b .1) in
+    let m = no-cause _ 14 _ (omega arith) (b .1) in
+    let c = no-lack _ 6 _ (omega arith) (m .1) in
     let t = no-cause _ 13 _ (omega arith) (c .1) in
     let d = no-cause _ 7 _ (omega arith) (t .1) in
     let f = no-cause _ 12 0 (omega arith) (d .1) in
@@ -191,9 +192,11 @@ module _ (s : Store) (r : ℕ) (F : Fine s) (A : Accepted s r) where
   unread k =
       let a = s .run r in
       let K = s .counts .keys in
-      let e : a .branch .read ≡ 0 =
+      let e : readBoth a ≡ 0 =
       was .masks .reads ∙ rw (A .done) (doneReads-none K (a .jobs) (a .job)) in
-      rw e (test-none k)
+      or-none (testBit (a .branch .read) k) (testBit (a .second .read) k)
+      (sym (test-or (a .branch .read) (a .second .read) k)
+      ∙ ap (λ (m : ℕ). testBit m k) e ∙ test-none k) .0
 
   after : Run
   after = withSnapshot (s .run r) (prepareSnapshot s r)
@@ -207,6 +210,7 @@ module _ (s : Store) (r : ℕ) (F : Fine s) (A : Accepted s r) where
         job = F .fits .run .each r (A .run) .job;
         snapshot = merged-fits z (usesSite (a .jobs) (a .job)) (planned (a .jobs) (a .job))
             (prepareCaches s r) caches;
+        second = F .fits .run .each r (A .run) .second;
       }
 
   after-formed : So (runFormed (s .counts) after)
@@ -220,11 +224,12 @@ module _ (s : Store) (r : ℕ) (F : Fine s) (A : Accepted s r) where
         state = was .state;
         jobs = was .jobs;
         masks = was .masks;
-        snapshot = record {
+        mark = record { high = was .mark .high; single = was .mark .single };
+        snapshot = on-both (Snapshot z (a .jobs) (a .job)) after (record {
           place = merged-formed z sites plan (prepareCaches s r) caches;
           carried = λ k _ p. merged-planned z sites plan (prepareCaches s r) caches k p;
           has = λ k _ p. clash p (unread k);
-        };
+        }) (was .snapshot 1);
       })
 
   done-kept : Kept s (prepareDone s r)

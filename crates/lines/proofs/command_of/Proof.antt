@@ -63,7 +63,8 @@ unfolding calling formAt
 returns-6 c =
     let a = c .before .before .before .before .number-at .ensures in
     let b = c .before .before .before .number-at2 .ensures in
-    (rw (c .match .keys6, a, b), omega arith)
+    let d = c .before .before .number-at3 .ensures in
+    (rw (c .match .keys6, a, b, d), omega arith)
 
 returns-7 : tie.Need-returns-7
 unfolding calling formAt

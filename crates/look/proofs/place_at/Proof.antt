@@ -29,8 +29,8 @@ returns-2 c =
     let b = c .before in
     rw (ne-eqb _ _ (b .before .if1 .left), eq-eqb _ _ (b .if2 .taken)) (c .site-at .ensures)
 
-snapshot-at-requires : tie.Need-snapshot-at-requires
-snapshot-at-requires c κs =
+snapshot-on-requires : tie.Need-snapshot-on-requires
+snapshot-on-requires c κs =
     let s = c .before .before in
     let a = s .args in
     let h = ne-eqb _ _ (c .before .if1 .left) in
@@ -40,9 +40,9 @@ returns-3 : tie.Need-returns-3
 unfolding placeAt
 returns-3 c =
     let b = c .before in
-    rw (ne-eqb _ _ (b .before .if1 .left), ne-eqb _ _ (b .if2 .left)) (c .snapshot-at .ensures)
+    rw (ne-eqb _ _ (b .before .if1 .left), ne-eqb _ _ (b .if2 .left)) (c .snapshot-on .ensures)
 
 pub place-at-spec : {M : Type 1} → statement M
 place-at-spec =
     tie.close
-    (tie.spec areas-requires returns site-at-requires returns-2 snapshot-at-requires returns-3)
+    (tie.spec areas-requires returns site-at-requires returns-2 snapshot-on-requires returns-3)

@@ -13,7 +13,7 @@ use Rattle.model.specs.Store.{Store, Writer, Run, Job, noJob, fresh, wit
 use Rattle.model.specs.Calls.{StoreCall, fetch, step, issue, ask, look, explain, admit}
 use Rattle.model.proofs.Computed.Explain.{leaving, save, clear, path}
 use Rattle.model.proofs.Scripts.{ok₁, ok₃, broke, not-taken}
-use Rattle.model.proofs.Readings.{same, clock, version, place, answered}
+use Rattle.model.proofs.Readings.{same, clock, version, place, unforked, answered}
 
 -- A writer with this count and these rows.
 abbrev wrote : ℕ → List (List ℕ) → Writer
@@ -31,13 +31,9 @@ both n = version 1 ((n ∷ []) ∷ []) ∷ version 2 ((1 ∷ []) ∷ (2 ∷ []) 
 
 -- A run in this state with one job, and this version of 1 on its card.
 abbrev carrying : ℕ → ℕ → Version → Run
-carrying state m v = record {
-  state = state;
-  jobs = 1;
-  done = 0;
-  job = reads (m ∷ []);
-  branch = record { read = 0; snapshot = place (unheld ∷ v ∷ []) };
-}
+carrying state m v =
+    unforked state 1 0 (reads (m ∷ []))
+    (record { read = 0; snapshot = place (unheld ∷ v ∷ []) })
 
 abbrev card : Version
 card = version 2 ((1 ∷ []) ∷ (2 ∷ []) ∷ [])
@@ -86,17 +82,12 @@ listed n =
     let master = version 2 ((2 ∷ []) ∷ []) ∷ version 3 ((2 ∷ []) ∷ (1 ∷ []) ∷ [])
     ∷ version 1 ((n ∷ []) ∷ (1 ∷ []) ∷ (1 ∷ []) ∷ []) ∷ [] in
     let s = withMaster (withLast (fresh (countsOf 3 1 1 1)) 3) (place master) in
-    withRun (withWriter s 0 (wrote 2 [])) 0 (record {
-      state = 1;
-      jobs = 2;
-      done = 1;
-      job = reads (1 ∷ 4 ∷ []);
-      branch = record { read = 1; snapshot = place (version 1 ((1 ∷ []) ∷ []) ∷ []) };
-    })
+    withRun (withWriter s 0 (wrote 2 [])) 0 (unforked 1 2 1 (reads (1 ∷ 4 ∷ []))
+    (record { read = 1; snapshot = place (version 1 ((1 ∷ []) ∷ []) ∷ []) }))
 
 abbrev pub listed-calls : List StoreCall
 listed-calls =
-    ask admit ∷ ask (explain 0 1) ∷ step 0 1 ∷ ask (look 2 0 0) ∷ issue 0 0 2 ∷ ask admit ∷ []
+    ask admit ∷ ask (explain 0 1 0) ∷ step 0 1 0 ∷ ask (look 2 0 0) ∷ issue 0 0 2 ∷ ask admit ∷ []
 
 abbrev pub listed-answers : List (List ℕ)
 listed-answers =
@@ -105,7 +96,7 @@ listed-answers =
 -- The rows of the master's 1 and of the writer's past after these calls.
 abbrev pub listed-rows : List Bool
 listed-rows =
-    let s = leaving (step 0 1 ∷ issue 0 0 2 ∷ []) (listed 0) in
+    let s = leaving (step 0 1 0 ∷ issue 0 0 2 ∷ []) (listed 0) in
     let v = s .master 1 in
     let w = s .writer 0 in
     same (v .past 0 0 ∷ v .past 1 0 ∷ v .past 2 0 ∷ []) (2 ∷ 3 ∷ 1 ∷ [])
@@ -113,7 +104,7 @@ listed-rows =
 
 -- With 0 at 2 in the list of the master's 2 itself.
 abbrev pub broken-calls : List StoreCall
-broken-calls = ask admit ∷ ask (explain 0 1) ∷ step 0 1 ∷ []
+broken-calls = ask admit ∷ ask (explain 0 1 0) ∷ step 0 1 0 ∷ []
 
 abbrev pub broken-answers : List (List ℕ)
 broken-answers = ok₁ 0 ∷ path (2 ∷ 0 ∷ []) ∷ broke 1 ∷ []

@@ -14,7 +14,7 @@ use Rattle.model.proofs.Readings.{version, place}
 
 -- Run r reads nothing, and writer w saves the sheets of S.
 abbrev saves : ℕ → ℕ → ℕ → List StoreCall
-saves r w S = openRun r (0 ∷ 0 ∷ 0 ∷ []) ∷ step r 0 ∷ issue r w S ∷ []
+saves r w S = openRun r (0 ∷ 0 ∷ 0 ∷ []) ∷ step r 0 0 ∷ issue r w S ∷ []
 
 abbrev saved : ℕ → List (List ℕ)
 saved n = ok₁ 1 ∷ ok₃ 0 0 0 ∷ ok₁ n ∷ []
@@ -23,9 +23,9 @@ saved n = ok₁ 1 ∷ ok₃ 0 0 0 ∷ ok₁ n ∷ []
 -- run stays open.
 abbrev pub hidden-script : List StoreCall
 hidden-script =
-    saves 0 0 1 ++ openRun 0 (0 ∷ 1 ∷ 0 ∷ 1 ∷ 2 ∷ 0 ∷ []) ∷ step 0 0
-    ∷ (saves 1 0 3 ++ allow 1 1 ∷ ask (explain 0 1) ∷ step 0 1 ∷ fetch 1 1
-    ∷ allow 1 2 ∷ ask (explain 0 1) ∷ step 0 1 ∷ ask (look 1 1 1) ∷ [])
+    saves 0 0 1 ++ openRun 0 (0 ∷ 1 ∷ 0 ∷ 1 ∷ 2 ∷ 0 ∷ []) ∷ step 0 0 0
+    ∷ (saves 1 0 3 ++ allow 1 1 ∷ ask (explain 0 1 0) ∷ step 0 1 0 ∷ fetch 1 1
+    ∷ allow 1 2 ∷ ask (explain 0 1 0) ∷ step 0 1 0 ∷ ask (look 1 1 1) ∷ [])
 
 abbrev pub hidden-answers : List (List ℕ)
 hidden-answers =
@@ -48,7 +48,7 @@ held-answers =
 abbrev pub jobs-script : List StoreCall
 jobs-script =
     saves 0 0 1 ++ (saves 0 1 2 ++ allow 0 1 ∷ openRun 0 (0 ∷ 1 ∷ 0 ∷ 0 ∷ 2 ∷ 0 ∷ [])
-    ∷ prepare 0 ∷ ask (look 1 0 0) ∷ step 0 0 ∷ step 0 1 ∷ evict 0 0 ∷ step 0 1
+    ∷ prepare 0 ∷ ask (look 1 0 0) ∷ step 0 0 0 ∷ step 0 1 0 ∷ evict 0 0 ∷ step 0 1 0
     ∷ openRun 1 (0 ∷ 4 ∷ 0 ∷ 0 ∷ 3 ∷ 0 ∷ []) ∷ prepare 1 ∷ fetch 0 3 ∷ [])
 
 abbrev pub jobs-answers : List (List ℕ)
@@ -70,7 +70,7 @@ any-answers =
 -- After `new 2 1 1 1`: 7 before 12 in a step, and where it is explained.
 abbrev pub first-script : List StoreCall
 first-script =
-    saves 0 0 1 ++ allow 0 0 ∷ openRun 0 (0 ∷ 3 ∷ 0 ∷ []) ∷ ask (explain 0 0) ∷ step 0 0 ∷ []
+    saves 0 0 1 ++ allow 0 0 ∷ openRun 0 (0 ∷ 3 ∷ 0 ∷ []) ∷ ask (explain 0 0 0) ∷ step 0 0 0 ∷ []
 
 abbrev pub first-answers : List (List ℕ)
 first-answers = saved 1 ++ ok₁ 0 ∷ ok₁ 1 ∷ not-taken 7 ∷ not-taken 7 ∷ []

@@ -25,7 +25,7 @@ path l = 4 ∷ l
 
 -- A run reads the keys of m at site o, and issues S by writer w.
 abbrev pub edit : ℕ → ℕ → ℕ → ℕ → ℕ → List StoreCall
-edit r o m w S = openRun r (o ∷ m ∷ 0 ∷ []) ∷ step r 0 ∷ issue r w S ∷ []
+edit r o m w S = openRun r (o ∷ m ∷ 0 ∷ []) ∷ step r 0 0 ∷ issue r w S ∷ []
 
 -- The same, with nothing read.
 abbrev pub save : ℕ → ℕ → ℕ → List StoreCall
@@ -35,11 +35,12 @@ save r w S = edit r 0 0 w S
 
 abbrev pub passing-before : List ℕ → List StoreCall
 passing-before jobs =
-    save 1 0 1 ++ openRun 0 jobs ∷ step 0 0 ∷ (save 1 1 2 ++ edit 1 0 2 2 4 ++ edit 1 0 1 3 3)
+    save 1 0 1 ++ openRun 0 jobs ∷ step 0 0 0 ∷ (save 1 1 2 ++ edit 1 0 2 2 4 ++ edit 1 0 1 3 3)
 
 abbrev pub passing-calls : List StoreCall
 passing-calls =
-    ask (explain 0 1) ∷ ask (explain 0 2) ∷ ask (look 1 1 2) ∷ step 0 1 ∷ ask (explain 0 1) ∷ []
+    ask (explain 0 1 0) ∷ ask (explain 0 2 0) ∷ ask (look 1 1 2) ∷ step 0 1 0
+    ∷ ask (explain 0 1 0) ∷ []
 
 abbrev pub passing-answers : List (List ℕ)
 passing-answers =
@@ -47,7 +48,7 @@ passing-answers =
 
 -- Where 1 isn't in the plan, nothing is drawn.
 abbrev pub unplanned-calls : List StoreCall
-unplanned-calls = ask (explain 0 1) ∷ step 0 1 ∷ []
+unplanned-calls = ask (explain 0 1 0) ∷ step 0 1 0 ∷ []
 
 abbrev pub unplanned-answers : List (List ℕ)
 unplanned-answers = clear ∷ ok₃ 0 0 4 ∷ []
@@ -56,11 +57,11 @@ unplanned-answers = clear ∷ ok₃ 0 0 4 ∷ []
 
 abbrev pub planned-before : List StoreCall
 planned-before =
-    save 1 0 1 ++ openRun 0 (0 ∷ 1 ∷ 0 ∷ 1 ∷ 8 ∷ 0 ∷ 1 ∷ 4 ∷ 0 ∷ []) ∷ step 0 0
+    save 1 0 1 ++ openRun 0 (0 ∷ 1 ∷ 0 ∷ 1 ∷ 8 ∷ 0 ∷ 1 ∷ 4 ∷ 0 ∷ []) ∷ step 0 0 0
     ∷ (save 1 1 2 ++ save 1 2 4 ++ edit 1 0 6 3 8 ++ edit 1 0 1 4 7)
 
 abbrev pub planned-calls : List StoreCall
-planned-calls = ask (explain 0 1) ∷ step 0 1 ∷ []
+planned-calls = ask (explain 0 1 0) ∷ step 0 1 0 ∷ []
 
 abbrev pub planned-answers : List (List ℕ)
 planned-answers = path (3 ∷ 2 ∷ 0 ∷ []) ∷ broke 1 ∷ []
@@ -70,11 +71,11 @@ planned-answers = path (3 ∷ 2 ∷ 0 ∷ []) ∷ broke 1 ∷ []
 abbrev pub ends-before : List StoreCall
 ends-before =
     save 1 0 1 ++ save 1 1 16
-    ++ openRun 0 (0 ∷ 17 ∷ 0 ∷ 1 ∷ 8 ∷ 0 ∷ 1 ∷ 6 ∷ 0 ∷ []) ∷ step 0 0
+    ++ openRun 0 (0 ∷ 17 ∷ 0 ∷ 1 ∷ 8 ∷ 0 ∷ 1 ∷ 6 ∷ 0 ∷ []) ∷ step 0 0 0
     ∷ (save 1 2 2 ++ save 1 3 4 ++ edit 1 0 6 4 8 ++ edit 1 0 16 1 18 ++ edit 1 0 1 0 5)
 
 abbrev pub ends-calls : List StoreCall
-ends-calls = ask (explain 0 1) ∷ ask (explain 0 2) ∷ step 0 1 ∷ []
+ends-calls = ask (explain 0 1 0) ∷ ask (explain 0 2 0) ∷ step 0 1 0 ∷ []
 
 abbrev pub ends-answers : List (List ℕ)
 ends-answers = path (3 ∷ 1 ∷ 4 ∷ []) ∷ path (1 ∷ 4 ∷ []) ∷ broke 17 ∷ []
@@ -83,11 +84,11 @@ ends-answers = path (3 ∷ 1 ∷ 4 ∷ []) ∷ path (1 ∷ 4 ∷ []) ∷ broke 1
 
 abbrev pub longer-before : List StoreCall
 longer-before =
-    save 1 0 1 ++ openRun 0 (0 ∷ 1 ∷ 0 ∷ 1 ∷ 12 ∷ 0 ∷ 1 ∷ 2 ∷ 0 ∷ []) ∷ step 0 0
+    save 1 0 1 ++ openRun 0 (0 ∷ 1 ∷ 0 ∷ 1 ∷ 12 ∷ 0 ∷ 1 ∷ 2 ∷ 0 ∷ []) ∷ step 0 0 0
     ∷ (save 1 1 2 ++ edit 1 0 2 2 4 ++ edit 1 0 1 3 3 ++ edit 1 0 1 4 9)
 
 abbrev pub longer-calls : List StoreCall
-longer-calls = ask (explain 0 1) ∷ []
+longer-calls = ask (explain 0 1 0) ∷ []
 
 abbrev pub longer-answers : List (List ℕ)
 longer-answers = path (3 ∷ 0 ∷ []) ∷ []
@@ -96,11 +97,11 @@ longer-answers = path (3 ∷ 0 ∷ []) ∷ []
 
 abbrev pub met-before : List StoreCall
 met-before =
-    save 1 0 1 ++ openRun 0 (0 ∷ 1 ∷ 0 ∷ 1 ∷ 4 ∷ 0 ∷ 1 ∷ 2 ∷ 0 ∷ []) ∷ step 0 0
+    save 1 0 1 ++ openRun 0 (0 ∷ 1 ∷ 0 ∷ 1 ∷ 4 ∷ 0 ∷ 1 ∷ 2 ∷ 0 ∷ []) ∷ step 0 0 0
     ∷ (save 1 1 2 ++ edit 1 0 3 2 4 ++ edit 1 0 1 3 3)
 
 abbrev pub met-calls : List StoreCall
-met-calls = ask (explain 0 1) ∷ step 0 1 ∷ []
+met-calls = ask (explain 0 1 0) ∷ step 0 1 0 ∷ []
 
 abbrev pub met-answers : List (List ℕ)
 met-answers = path (2 ∷ 1 ∷ 0 ∷ []) ∷ broke 1 ∷ []
@@ -111,18 +112,18 @@ met-answers = path (2 ∷ 1 ∷ 0 ∷ []) ∷ broke 1 ∷ []
 abbrev pub carried-before : List ℕ → List StoreCall
 carried-before jobs =
     save 1 0 1 ++ save 1 1 2 ++ edit 1 0 2 2 8
-    ++ openRun 0 jobs ∷ step 0 0 ∷ step 0 1
+    ++ openRun 0 jobs ∷ step 0 0 0 ∷ step 0 1 0
     ∷ (save 1 1 2 ++ edit 1 1 2 3 4 ++ edit 1 0 1 4 3 ++ fetch 1 1 ∷ [])
 
 abbrev pub carried-calls : List StoreCall
-carried-calls = ask (explain 0 2) ∷ ask (explain 0 3) ∷ step 0 3 ∷ []
+carried-calls = ask (explain 0 2 0) ∷ ask (explain 0 3 0) ∷ step 0 3 0 ∷ []
 
 abbrev pub carried-answers : List (List ℕ)
 carried-answers = path (2 ∷ 1 ∷ 0 ∷ []) ∷ clear ∷ ok₃ 2 0 0 ∷ []
 
 -- Where job 2 reads that key too, it isn't the first: the card doesn't lack it.
 abbrev pub old-read-calls : List StoreCall
-old-read-calls = ask (explain 0 2) ∷ step 0 2 ∷ []
+old-read-calls = ask (explain 0 2 0) ∷ step 0 2 0 ∷ []
 
 abbrev pub old-read-answers : List (List ℕ)
 old-read-answers = path (2 ∷ 1 ∷ 0 ∷ []) ∷ broke 1 ∷ []
@@ -131,11 +132,11 @@ old-read-answers = path (2 ∷ 1 ∷ 0 ∷ []) ∷ broke 1 ∷ []
 
 abbrev pub refusing-calls : List StoreCall
 refusing-calls =
-    ask (explain 0 7) ∷ ask (explain 0 8) ∷ ask (explain 2 0)
-    ∷ openRun 0 (0 ∷ 1 ∷ 0 ∷ 0 ∷ 2 ∷ 1 ∷ []) ∷ ask (explain 0 0) ∷ ask (explain 0 1)
-    ∷ ask (explain 0 2)
-    ∷ openRun 1 (0 ∷ 0 ∷ 0 ∷ []) ∷ ask (explain 1 0) ∷ step 1 0 ∷ issue 1 0 1 ∷ ask (explain 0 0)
-    ∷ step 0 0 ∷ ask (explain 0 0) ∷ ask (explain 0 1) ∷ []
+    ask (explain 0 7 0) ∷ ask (explain 0 8 0) ∷ ask (explain 2 0 0)
+    ∷ openRun 0 (0 ∷ 1 ∷ 0 ∷ 0 ∷ 2 ∷ 1 ∷ []) ∷ ask (explain 0 0 0) ∷ ask (explain 0 1 0)
+    ∷ ask (explain 0 2 0)
+    ∷ openRun 1 (0 ∷ 0 ∷ 0 ∷ []) ∷ ask (explain 1 0 0) ∷ step 1 0 0 ∷ issue 1 0 1
+    ∷ ask (explain 0 0 0) ∷ step 0 0 0 ∷ ask (explain 0 0 0) ∷ ask (explain 0 1 0) ∷ []
 
 abbrev pub refusing-answers : List (List ℕ)
 refusing-answers =

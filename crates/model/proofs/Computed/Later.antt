@@ -1,4 +1,4 @@
--- The scripts and stores of change requests 6 to 9 computed by the definitions.
+-- The scripts and stores of change requests 6 to 10 computed by the definitions.
 -- Assumes nothing.
 use mathlib.Core.Path.{_≡_, refl}
 use mathlib.Core.Bool.{true, false}
@@ -17,16 +17,16 @@ use Rattle.model.specs.Algebra.{lacking, needsMet, causalCut, overlappin
 use Rattle.model.specs.Version.{held, dependency, supersedes, leadsOn, mergedLeaders, larger, merge}
 use Rattle.model.specs.Sets.{draws, drawSet, fetchSet, fetched, unfetchable, evictSet, evicted, pullSet, pulled}
 use Rattle.model.specs.Store.{fresh, planned, doneReads, siteWith, withMarks, withMaster, withLast, withSites, withCache, withCaches, withWriter, withRun, withState, withSnapshot, withJobDone, withTail}
-use Rattle.model.specs.Form.{zeroRows, zeroVersion, leadersFormed, versionFormed, placeFormed, validJob, zeroJob, freeFormed, jobsFormed, masksFormed, snapshotFormed, runFormed, siteFormed, rightsFormed, tailFormed, wellFormed}
+use Rattle.model.specs.Form.{zeroRows, zeroVersion, leadersFormed, versionFormed, placeFormed, validJob, zeroJob, zeroBranch, freeFormed, jobsFormed, masksFormed, markFormed, snapshotFormed, branchesFormed, runFormed, siteFormed, rightsFormed, tailFormed, wellFormed}
 use Rattle.model.specs.Marks.{isStale, staleMask}
 use Rattle.model.specs.Allowance.{heldCount, over}
 use Rattle.model.specs.Calls.Allow.{allowCause, allowDone, allowRule}
-use Rattle.model.specs.Calls.Admit.{everyPlace, everyVersion, everyPast, causalCuts, overlappingCuts, masterCovers, countsWithin, numberWithin, admissible, admitCause, admitReply}
+use Rattle.model.specs.Calls.Admit.{eachBranch, everyPlace, everyVersion, everyPast, causalCuts, overlappingCuts, masterCovers, countsWithin, numberWithin, admissible, admitCause, admitReply}
 use Rattle.model.specs.Outcome.{answer, refuse, unless, replied, allowed, runCause}
 use Rattle.model.specs.Caches.{fetchCause, fetchDone, fetchRule, evictCause, evictDone, evictRule}
 use Rattle.model.specs.Runs.{listedJob, listedCount, listedJobs, listValid, openCause, openedRun, openDone, openRule, dropCause, dropDone, dropRule}
 use Rattle.model.specs.Prepare.{jobStart, fetchReads, preparedCaches, unentitled, unpreparable, usesSite, sitesMerged, siteCaches, anyOver, prepareCause, prepareCaches, prepareSnapshot, prepareDone, prepareRule}
-use Rattle.model.specs.Step.{readStart, stepSite, stepReads, stepStart, stepFetch, stepCache, stepPlan, stepPull, stepSnapshot, stepMoved, stepBarred, jobLimit, notReady, jobCause, stepCause, stepBroken, stepDone, stepRule}
+use Rattle.model.specs.Step.{readStart, stepSite, stepReads, stepStart, stepFetch, stepCache, stepPlan, stepPull, stepSnapshot, stepMoved, stepBarred, jobLimit, notReady, offBranch, jobCause, stepCause, stepBroken, stepDone, stepRule}
 use Rattle.model.specs.Issue.{raiseCause, issueCause, takenIn, rowsSet, newPast, newVersion, issuedMaster, issuedWriter, savedStore, issuedStore, issuedNumber, issueDone, issueRule}
 use Rattle.model.specs.Calls.Look.{lookPlace, lookLimit, lookCause, rowNumbers, lookStanding, lookNumbers, lookReply}
 use Rattle.model.specs.Calls.Explain.{explainStart, explainEdge, explainGoal, explainPath, breaks, explainReply}
@@ -34,12 +34,16 @@ use Rattle.model.specs.Tail.{barred}
 use Rattle.model.specs.Calls.Rights.{takenAway, rightCause, mayholdCache, mayholdDone, mayholdRule, maysaveRule}
 use Rattle.model.specs.Calls.Stale.{staleCause, staleReply}
 use Rattle.model.specs.Calls.Pick.{ready, waiting, readyJob, pickTurn, pickedRun, pickDone, pickRule}
+use Rattle.model.specs.Stays.{sameVersion, stays, staysOther, movedKeys, movedSet}
+use Rattle.model.specs.Calls.Fork.{forkedRun, forkCause, forkDone, forkRule, joinedPlace, joinedBranch, joinedRun, joinMoved, joinCause, joinDone, joinBroken, joinRule}
 use Rattle.model.specs.Calls.{replyOf, ruleOf}
 use Rattle.model.proofs.Scripts.{answers}
 use Rattle.model.proofs.Computed.Admit as admits
 use Rattle.model.proofs.Computed.Allow as allows
 use Rattle.model.proofs.Computed.Pick as picks
 use Rattle.model.proofs.Computed.Rights as rights
+use Rattle.model.proofs.Computed.Explain.{toldAfter}
+use Rattle.model.proofs.Computed.Fork as forks
 
 -- Each script is answered as it should be, answer by answer.
 pub record Later : Type 0 where
@@ -86,29 +90,29 @@ pub record Later : Type 0 where
 
 pub later : Later
 unfolding needsMet causalCut overlappingCut concurrent doneReads zeroRows zeroVersion
-    leadersFormed versionFormed placeFormed zeroJob freeFormed jobsFormed masksFormed
-    snapshotFormed runFormed siteFormed rightsFormed tailFormed wellFormed isStale staleMask
-    siteWith withMarks staleCause staleReply
-    when countBelow heldCount over anyOver allowCause allowDone allowRule
-    anyBelow allBelow only foldBelow putAt upto blocks testBit withBit withIf maskBelow closure
-    rounds round exceeds standing dominates present join between lacking held dependency
-    supersedes leadsOn mergedLeaders larger merge draws drawSet fetchSet fetched unfetchable
-    evictSet evicted pullSet pulled fresh planned withMaster withLast withSites withCache
-    withCaches withWriter withRun withState withSnapshot withJobDone withTail validJob answer
-    refuse unless allowed runCause fetchCause fetchDone fetchRule evictCause evictDone evictRule
-    listedJob listedCount listedJobs listValid openCause openedRun openDone openRule dropCause
-    dropDone dropRule jobStart fetchReads preparedCaches unpreparable usesSite sitesMerged
-    siteCaches unentitled prepareCause prepareCaches prepareSnapshot prepareDone prepareRule
-    readStart stepSite stepReads stepStart stepFetch stepCache stepPlan stepPull stepSnapshot
-    stepMoved stepBarred barred jobLimit notReady jobCause stepCause stepBroken stepDone
-    stepRule raiseCause issueCause takenIn rowsSet newPast newVersion issuedMaster issuedWriter
-    savedStore issuedStore issuedNumber issueDone issueRule lookPlace lookLimit lookCause
-    rowNumbers lookStanding lookNumbers lookReply explainStart explainEdge explainGoal
-    explainPath breaks explainReply lowest near distance nearest pathBy shortestPath everyPlace
-    everyVersion everyPast causalCuts overlappingCuts masterCovers countsWithin numberWithin
-    admissible admitCause admitReply replied replyOf firstBelow turn ready waiting readyJob
-    pickTurn pickedRun pickDone pickRule takenAway rightCause mayholdCache mayholdDone
-    mayholdRule maysaveRule ruleOf
+    leadersFormed versionFormed placeFormed zeroJob zeroBranch freeFormed jobsFormed masksFormed
+    markFormed snapshotFormed branchesFormed runFormed siteFormed rightsFormed tailFormed
+    wellFormed isStale staleMask siteWith withMarks staleCause staleReply when countBelow
+    heldCount over anyOver allowCause allowDone allowRule anyBelow allBelow only foldBelow putAt
+    upto blocks testBit withBit withIf maskBelow closure rounds round exceeds standing dominates
+    present join between lacking held dependency supersedes leadsOn mergedLeaders larger merge
+    draws drawSet fetchSet fetched unfetchable evictSet evicted pullSet pulled fresh planned
+    withMaster withLast withSites withCache withCaches withWriter withRun withState withSnapshot
+    withJobDone withTail validJob answer refuse unless allowed runCause fetchCause fetchDone
+    fetchRule evictCause evictDone evictRule listedJob listedCount listedJobs listValid
+    openCause openedRun openDone openRule dropCause dropDone dropRule jobStart fetchReads
+    preparedCaches unpreparable usesSite sitesMerged siteCaches unentitled prepareCause
+    prepareCaches prepareSnapshot prepareDone prepareRule readStart stepSite stepReads stepStart
+    stepFetch stepCache stepPlan stepPull stepSnapshot stepMoved stepBarred barred jobLimit
+    notReady offBranch jobCause stepCause stepBroken stepDone stepRule raiseCause issueCause
+    takenIn rowsSet newPast newVersion issuedMaster issuedWriter savedStore issuedStore
+    issuedNumber issueDone issueRule lookPlace lookLimit lookCause rowNumbers lookStanding
+    lookNumbers lookReply explainStart explainEdge explainGoal explainPath breaks explainReply
+    lowest near distance nearest pathBy shortestPath eachBranch everyPlace everyVersion
+    everyPast causalCuts overlappingCuts masterCovers countsWithin numberWithin admissible
+    admitCause admitReply replied replyOf firstBelow turn ready waiting readyJob pickTurn
+    pickedRun pickDone pickRule takenAway rightCause mayholdCache mayholdDone mayholdRule
+    maysaveRule ruleOf
 later = record {
   admitted = refl;
   not-admitted = refl;
@@ -145,4 +149,67 @@ later = record {
   no-cut = refl;
   rights-formed = refl;
   rights-words = refl;
+}
+
+-- Two lines of a run (CR 10): the same, and what words a run has after calls.
+pub record Lines : Type 0 where
+  pub joined-lines : toldAfter forks.joins-before forks.joins-calls (fresh (countsOf 2 2 2 1))
+      ≡ forks.joins-answers
+  pub mark-refusals : toldAfter forks.joins-before forks.marks-calls (fresh (countsOf 2 2 2 1))
+      ≡ forks.marks-answers
+  pub read-twice : toldAfter forks.twice-before forks.twice-calls (fresh (countsOf 2 1 2 2))
+      ≡ forks.twice-answers
+  pub join-rule : toldAfter forks.rule-before forks.rule-calls (fresh (countsOf 2 1 2 1))
+      ≡ forks.rule-answers
+  pub unforked : toldAfter forks.rule-before forks.unforked-calls (fresh (countsOf 2 1 2 1))
+      ≡ forks.unforked-answers
+  pub own-reads : toldAfter forks.own-before forks.own-calls (fresh (countsOf 3 1 2 1))
+      ≡ forks.own-answers
+  pub own-cards : toldAfter forks.own-before forks.cards-calls (fresh (countsOf 3 1 2 1))
+      ≡ forks.cards-answers
+  pub fork-orders : answers forks.orders-calls (fresh (countsOf 2 2 2 2)) ≡ forks.orders-answers
+  pub first-looked : answers forks.looks-script (fresh (countsOf 1 1 1 1)) ≡ forks.looks-answers
+  pub lines-kept : forks.kept ≡ replicate 5 true
+  pub lines-formed : forks.unkept ≡ replicate 6 true
+  pub lent-leaders : forks.leaders ≡ replicate 3 true
+  pub lent-lines : forks.lines ≡ replicate 5 true
+
+pub lines : Lines
+unfolding needsMet causalCut overlappingCut doneReads zeroRows zeroVersion leadersFormed
+    versionFormed placeFormed zeroJob zeroBranch freeFormed jobsFormed masksFormed markFormed
+    snapshotFormed branchesFormed runFormed siteFormed rightsFormed tailFormed wellFormed
+    isStale staleMask siteWith withMarks when countBelow heldCount over anyOver anyBelow
+    allBelow only foldBelow putAt upto blocks testBit withBit withIf maskBelow closure rounds
+    round exceeds standing dominates present join between lacking held dependency supersedes
+    leadsOn mergedLeaders larger merge draws drawSet fetchSet fetched unfetchable pullSet pulled
+    fresh planned withMaster withLast withSites withCache withCaches withWriter withRun
+    withState withSnapshot withJobDone withTail validJob answer refuse unless allowed runCause
+    fetchCause fetchDone fetchRule listedJob listedCount listedJobs listValid openCause
+    openedRun openDone openRule dropCause dropDone dropRule jobStart fetchReads preparedCaches
+    unpreparable usesSite sitesMerged siteCaches unentitled prepareCause prepareCaches
+    prepareSnapshot prepareDone prepareRule readStart stepSite stepReads stepStart stepFetch
+    stepCache stepPlan stepPull stepSnapshot stepMoved stepBarred barred jobLimit notReady
+    offBranch jobCause stepCause stepBroken stepDone stepRule raiseCause issueCause takenIn
+    rowsSet newPast newVersion issuedMaster issuedWriter savedStore issuedStore issuedNumber
+    issueDone issueRule lookPlace lookLimit lookCause rowNumbers lookStanding lookNumbers
+    lookReply explainStart explainEdge explainGoal explainPath breaks explainReply lowest near
+    distance nearest pathBy shortestPath eachBranch everyPlace everyVersion everyPast causalCuts
+    overlappingCuts masterCovers countsWithin numberWithin admissible admitCause admitReply
+    replied replyOf firstBelow turn ready waiting readyJob pickTurn pickedRun pickDone pickRule
+    sameVersion stays staysOther movedKeys movedSet forkedRun forkCause forkDone forkRule
+    joinedPlace joinedBranch joinedRun joinMoved joinCause joinDone joinBroken joinRule ruleOf
+lines = record {
+  joined-lines = refl;
+  mark-refusals = refl;
+  read-twice = refl;
+  join-rule = refl;
+  unforked = refl;
+  own-reads = refl;
+  own-cards = refl;
+  fork-orders = refl;
+  first-looked = refl;
+  lines-kept = refl;
+  lines-formed = refl;
+  lent-leaders = refl;
+  lent-lines = refl;
 }

@@ -24,7 +24,7 @@ use Rattle.model.proofs.FormedPlaces.{PlaceFormed, version-row, version
 use Rattle.model.proofs.Formed.{well-out}
 use Rattle.model.proofs.Plans.{run-place}
 use Rattle.model.proofs.Scripts.{seen}
-use Rattle.model.proofs.Readings.{led, version, place, jobs, answered, zero-zero, zero-one, one-one, two-zero}
+use Rattle.model.proofs.Readings.{led, version, place, unforked, jobs, answered, zero-zero, zero-one, one-one, two-zero}
 
 pub look-master : (s : Store) (i k : ℕ) → lookNumbers s 0 i k
     ≡ s .master k .issue ∷ s .master k .leaders
@@ -42,7 +42,7 @@ module _ (s : Store) (F : So (wellFormed s)) (p i : ℕ) (h : i < lookLimit (s .
       test (eqb p 0) (λ y. rw y (G .master)) (λ n.
       test (eqb p 1)
       (λ y. rw (n, y) (G .cache i (rw (n, y) at h)))
-      (λ m. rw (n, m) (run-place (s .counts) (s .run i) (G .run i (rw (n, m) at h)))))
+      (λ m. rw (n, m) (run-place (s .counts) (s .run i) (G .run i (rw (n, m) at h)) 0)))
 
   -- Its own row isn't all zero, and the master's is.
   pub look-lacking : (k : ℕ) → k < s .counts .keys → So (held (lookPlace s p i k))
@@ -74,13 +74,7 @@ abbrev wide : ℕ → List ℕ → Place Version
 wide n own = place (unheld ∷ version n ((1 ∷ 1 ∷ 1 ∷ []) ∷ own ∷ []) ∷ [])
 
 abbrev carrying : Place Version → Run
-carrying p = record {
-  state = 1;
-  jobs = 2;
-  done = 0;
-  job = jobs;
-  branch = record { read = 0; snapshot = p };
-}
+carrying p = unforked 1 2 0 jobs (record { read = 0; snapshot = p })
 
 abbrev lent-wide : Store
 lent-wide =

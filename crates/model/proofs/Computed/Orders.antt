@@ -14,7 +14,7 @@ use Rattle.model.specs.Store.{Store, noJobs, fresh, withLast, withWriter
 use Rattle.model.specs.Form.{wellFormed}
 use Rattle.model.specs.Calls.{StoreCall, openRun, fetch, prepare, step, issue, dropRun, ask, look, explain}
 use Rattle.model.proofs.Scripts.{answers, ok₁, ok₃, seen, not-taken}
-use Rattle.model.proofs.Readings.{version, clock, place}
+use Rattle.model.proofs.Readings.{version, clock, place, unforked}
 use Rattle.model.proofs.Computed.Explain.{edit, save, path, toldAfter}
 
 -- ---- after `new 2 2 2 2`: 3 before 4, 4 before 6, 6 before 7
@@ -24,7 +24,7 @@ abbrev pub orders-script : List StoreCall
 orders-script =
     prepare 2 ∷ issue 2 0 1 ∷ issue 0 2 1 ∷ issue 0 0 5 ∷ prepare 0 ∷ issue 0 0 1
     ∷ openRun 0 (0 ∷ 0 ∷ 0 ∷ 0 ∷ 1 ∷ 0 ∷ []) ∷ prepare 0 ∷ issue 0 0 5 ∷ issue 0 2 1
-    ∷ step 0 0 ∷ prepare 0 ∷ issue 0 0 1 ∷ issue 0 0 0 ∷ ask (look 0 0 2) ∷ ask (look 0 0 1) ∷ []
+    ∷ step 0 0 0 ∷ prepare 0 ∷ issue 0 0 1 ∷ issue 0 0 0 ∷ ask (look 0 0 2) ∷ ask (look 0 0 1) ∷ []
 
 abbrev pub orders-answers : List (List ℕ)
 orders-answers =
@@ -36,8 +36,8 @@ orders-answers =
 
 abbrev pub upstream-script : List StoreCall
 upstream-script =
-    openRun 0 (0 ∷ 0 ∷ 0 ∷ 0 ∷ 0 ∷ 0 ∷ 0 ∷ 0 ∷ 0 ∷ 0 ∷ 0 ∷ 4 ∷ []) ∷ step 0 3 ∷ step 0 0
-    ∷ step 0 1 ∷ step 0 3 ∷ step 0 2 ∷ step 0 3 ∷ []
+    openRun 0 (0 ∷ 0 ∷ 0 ∷ 0 ∷ 0 ∷ 0 ∷ 0 ∷ 0 ∷ 0 ∷ 0 ∷ 0 ∷ 4 ∷ []) ∷ step 0 3 0 ∷ step 0 0 0
+    ∷ step 0 1 0 ∷ step 0 3 0 ∷ step 0 2 0 ∷ step 0 3 0 ∷ []
 
 abbrev pub upstream-answers : List (List ℕ)
 upstream-answers =
@@ -47,7 +47,7 @@ upstream-answers =
 
 abbrev pub prepares-script : List StoreCall
 prepares-script =
-    save 1 0 1 ++ openRun 0 (0 ∷ 1 ∷ 0 ∷ 0 ∷ 0 ∷ 0 ∷ []) ∷ step 0 1 ∷ prepare 0 ∷ dropRun 0
+    save 1 0 1 ++ openRun 0 (0 ∷ 1 ∷ 0 ∷ 0 ∷ 0 ∷ 0 ∷ []) ∷ step 0 1 0 ∷ prepare 0 ∷ dropRun 0
     ∷ openRun 0 (0 ∷ 1 ∷ 0 ∷ 1 ∷ 2 ∷ 0 ∷ []) ∷ prepare 0 ∷ ask (look 1 0 0)
     ∷ openRun 1 (0 ∷ 1 ∷ 0 ∷ []) ∷ prepare 1 ∷ []
 
@@ -74,11 +74,11 @@ fifth-answers =
 
 abbrev pub shelf-before : List StoreCall
 shelf-before =
-    save 1 0 1 ++ openRun 0 (0 ∷ 1 ∷ 0 ∷ 1 ∷ 4 ∷ 0 ∷ 1 ∷ 2 ∷ 0 ∷ []) ∷ step 0 0
+    save 1 0 1 ++ openRun 0 (0 ∷ 1 ∷ 0 ∷ 1 ∷ 4 ∷ 0 ∷ 1 ∷ 2 ∷ 0 ∷ []) ∷ step 0 0 0
     ∷ (save 1 1 2 ++ edit 1 0 2 2 4 ++ edit 1 0 1 3 3 ++ fetch 1 2 ∷ edit 1 0 1 3 4)
 
 abbrev pub shelf-calls : List StoreCall
-shelf-calls = ask (explain 0 1) ∷ fetch 1 2 ∷ ask (explain 0 1) ∷ []
+shelf-calls = ask (explain 0 1 0) ∷ fetch 1 2 ∷ ask (explain 0 1 0) ∷ []
 
 abbrev pub shelf-answers : List (List ℕ)
 shelf-answers = path (2 ∷ 1 ∷ 0 ∷ []) ∷ ok₁ 4 ∷ path (2 ∷ 0 ∷ []) ∷ []
@@ -91,7 +91,7 @@ full last count =
     (record { count = count; past = λ d. clock [] })
 
 abbrev full-calls : List StoreCall
-full-calls = openRun 0 (0 ∷ 0 ∷ 0 ∷ []) ∷ issue 0 0 1 ∷ step 0 0 ∷ issue 0 0 1 ∷ []
+full-calls = openRun 0 (0 ∷ 0 ∷ 0 ∷ []) ∷ issue 0 0 1 ∷ step 0 0 0 ∷ issue 0 0 1 ∷ []
 
 abbrev pub full-told : List (List (List ℕ))
 full-told =
@@ -107,13 +107,9 @@ full-answers =
 -- Its one job reads sheet 0. m: the done and the read mask.
 abbrev broken : ℕ → List Version → Bool
 broken m card =
-    wellFormed (withRun (fresh (countsOf 2 1 1 1)) 0 (record {
-      state = 2;
-      jobs = 1;
-      done = m;
-      job = putAt noJobs 0 (record { site = 0; reads = 1; upstream = 0 });
-      branch = record { read = m; snapshot = place card };
-    }))
+    let job = putAt noJobs 0 (record { site = 0; reads = 1; upstream = 0 }) in
+    wellFormed (withRun (fresh (countsOf 2 1 1 1)) 0
+    (unforked 2 1 m job (record { read = m; snapshot = place card })))
 
 abbrev pub cards : List Bool
 cards =

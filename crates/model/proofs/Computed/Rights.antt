@@ -45,7 +45,7 @@ taken-answers =
 abbrev pub first-script : List StoreCall
 first-script =
     mayhold 0 2 ∷ fetch 0 0 ∷ fetch 0 1 ∷ fetch 0 2 ∷ openRun 0 (0 ∷ 2 ∷ 0 ∷ 0 ∷ 1 ∷ 0 ∷ [])
-    ∷ prepare 0 ∷ step 0 0 ∷ step 0 1 ∷ dropRun 0 ∷ allow 0 0
+    ∷ prepare 0 ∷ step 0 0 0 ∷ step 0 1 0 ∷ dropRun 0 ∷ allow 0 0
     ∷ (save 0 0 3 ++ fetch 0 1 ∷ mayhold 0 3 ∷ fetch 0 1 ∷ allow 0 2 ∷ fetch 0 1 ∷ [])
 
 abbrev pub first-answers : List (List ℕ)
@@ -58,8 +58,8 @@ first-answers =
 -- made, and an issue asks none of an office; 4 before 13.
 abbrev pub order-script : List StoreCall
 order-script =
-    save 0 0 1 ++ openRun 0 (0 ∷ 1 ∷ 0 ∷ []) ∷ step 0 0 ∷ mayhold 0 0 ∷ step 0 0 ∷ prepare 0
-    ∷ issue 0 0 1 ∷ step 0 0 ∷ prepare 0 ∷ []
+    save 0 0 1 ++ openRun 0 (0 ∷ 1 ∷ 0 ∷ []) ∷ step 0 0 0 ∷ mayhold 0 0 ∷ step 0 0 0 ∷ prepare 0
+    ∷ issue 0 0 1 ∷ step 0 0 0 ∷ prepare 0 ∷ []
 
 abbrev pub order-answers : List (List ℕ)
 order-answers =
@@ -98,8 +98,8 @@ second-answers =
 -- After `new 3 1 1 1`: the master lacks a read, another draws in a barred sheet outside the plan.
 abbrev pub lacked-script : List StoreCall
 lacked-script =
-    save 0 0 6 ++ mayhold 0 3 ∷ openRun 0 (0 ∷ 3 ∷ 0 ∷ []) ∷ step 0 0 ∷ prepare 0
-    ∷ mayhold 0 7 ∷ step 0 0 ∷ prepare 0 ∷ []
+    save 0 0 6 ++ mayhold 0 3 ∷ openRun 0 (0 ∷ 3 ∷ 0 ∷ []) ∷ step 0 0 0 ∷ prepare 0
+    ∷ mayhold 0 7 ∷ step 0 0 0 ∷ prepare 0 ∷ []
 
 abbrev pub lacked-answers : List (List ℕ)
 lacked-answers =
@@ -109,8 +109,8 @@ lacked-answers =
 -- After `new 2 1 2 1`: a sheet on the card, barred at the office of the next job that reads it.
 abbrev pub carried-script : List StoreCall
 carried-script =
-    save 0 0 1 ++ openRun 0 (0 ∷ 1 ∷ 0 ∷ 1 ∷ 1 ∷ 0 ∷ []) ∷ step 0 0 ∷ mayhold 1 2
-    ∷ ask (look 2 0 0) ∷ ask (explain 0 1) ∷ step 0 1 ∷ mayhold 1 1 ∷ step 0 1 ∷ []
+    save 0 0 1 ++ openRun 0 (0 ∷ 1 ∷ 0 ∷ 1 ∷ 1 ∷ 0 ∷ []) ∷ step 0 0 0 ∷ mayhold 1 2
+    ∷ ask (look 2 0 0) ∷ ask (explain 0 1 0) ∷ step 0 1 0 ∷ mayhold 1 1 ∷ step 0 1 0 ∷ []
 
 abbrev pub carried-answers : List (List ℕ)
 carried-answers =
@@ -121,7 +121,7 @@ carried-answers =
 -- save.
 abbrev pub saved-script : List StoreCall
 saved-script =
-    maysave 0 2 ∷ maysave 2 0 ∷ maysave 0 4 ∷ openRun 0 (0 ∷ 0 ∷ 0 ∷ []) ∷ issue 0 0 1 ∷ step 0 0
+    maysave 0 2 ∷ maysave 2 0 ∷ maysave 0 4 ∷ openRun 0 (0 ∷ 0 ∷ 0 ∷ []) ∷ issue 0 0 1 ∷ step 0 0 0
     ∷ issue 0 0 1 ∷ issue 0 0 3 ∷ issue 0 0 0 ∷ (save 0 1 1 ++ edit 0 0 1 0 2)
 
 abbrev pub saved-answers : List (List ℕ)

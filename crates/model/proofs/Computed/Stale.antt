@@ -12,13 +12,13 @@ use Rattle.model.specs.Store.{Store, noBranch, noJobs, fresh, siteCached
 use Rattle.model.specs.Form.{wellFormed}
 use Rattle.model.specs.Calls.{StoreCall, openRun, fetch, evict, prepare, step, issue, ask, explain, stale}
 use Rattle.model.proofs.Scripts.{answers, ok₁, ok₃, broke, not-taken}
-use Rattle.model.proofs.Readings.{led, version, clock, place, answered}
+use Rattle.model.proofs.Readings.{led, version, clock, place, unforked, answered}
 
 -- ---- scripts
 
 -- Run r at office o reads the sheets of m, and writer w saves those of S from it.
 abbrev edits : ℕ → ℕ → ℕ → ℕ → ℕ → List StoreCall
-edits r o m w S = openRun r (o ∷ m ∷ 0 ∷ []) ∷ step r 0 ∷ issue r w S ∷ []
+edits r o m w S = openRun r (o ∷ m ∷ 0 ∷ []) ∷ step r 0 0 ∷ issue r w S ∷ []
 
 -- After `new 3 2 2 2`: an issue makes copies stale, evict and fetch clear the mark; prepare
 -- doesn't
@@ -40,8 +40,8 @@ kept-answers =
 -- After `new 2 2 2 2`: a broken step leaves the mark, which its fetch would have cleared.
 abbrev pub broken-script : List StoreCall
 broken-script =
-    edits 1 0 0 0 1 ++ fetch 1 0 ∷ openRun 0 (0 ∷ 1 ∷ 0 ∷ 1 ∷ 2 ∷ 0 ∷ []) ∷ step 0 0
-    ∷ (edits 1 0 1 1 3 ++ ask (stale 1) ∷ ask (explain 0 1) ∷ step 0 1 ∷ ask (stale 1)
+    edits 1 0 0 0 1 ++ fetch 1 0 ∷ openRun 0 (0 ∷ 1 ∷ 0 ∷ 1 ∷ 2 ∷ 0 ∷ []) ∷ step 0 0 0
+    ∷ (edits 1 0 1 1 3 ++ ask (stale 1) ∷ ask (explain 0 1 0) ∷ step 0 1 0 ∷ ask (stale 1)
     ∷ fetch 1 1 ∷ ask (stale 1) ∷ [])
 
 abbrev pub broken-answers : List (List ℕ)
@@ -53,7 +53,7 @@ broken-answers =
 abbrev pub stepped-script : List StoreCall
 stepped-script =
     edits 1 0 0 0 1 ++ fetch 0 0 ∷ (edits 1 0 1 1 3 ++ ask (stale 0)
-    ∷ openRun 0 (0 ∷ 2 ∷ 0 ∷ []) ∷ step 0 0 ∷ ask (stale 0) ∷ [])
+    ∷ openRun 0 (0 ∷ 2 ∷ 0 ∷ []) ∷ step 0 0 0 ∷ ask (stale 0) ∷ [])
 
 abbrev pub stepped-answers : List (List ℕ)
 stepped-answers =
@@ -67,7 +67,7 @@ abbrev pub others-script : List StoreCall
 others-script =
     edits 0 0 0 0 1 ++ (edits 0 0 0 1 2 ++ fetch 1 0 ∷ fetch 1 1 ∷ fetch 0 1
     ∷ (edits 0 0 0 0 1 ++ (edits 0 0 0 1 2 ++ ask (stale 1) ∷ ask (stale 0)
-    ∷ (edits 0 0 0 1 4 ++ openRun 0 (1 ∷ 4 ∷ 0 ∷ []) ∷ step 0 0 ∷ ask (stale 1) ∷ ask (stale 0)
+    ∷ (edits 0 0 0 1 4 ++ openRun 0 (1 ∷ 4 ∷ 0 ∷ []) ∷ step 0 0 0 ∷ ask (stale 1) ∷ ask (stale 0)
     ∷ evict 1 1 ∷ ask (stale 1) ∷ fetch 1 1 ∷ ask (stale 1)
     ∷ (edits 1 0 0 1 6 ++ ask (stale 1) ∷ openRun 1 (1 ∷ 4 ∷ 0 ∷ []) ∷ prepare 1
     ∷ ask (stale 1) ∷ ask (stale 0) ∷ [])))))
@@ -91,13 +91,8 @@ ahead =
     let s = withLast (fresh (countsOf 1 2 1 1)) 5 in
     let t = withCache (withMaster s (place (version 1 (one ∷ []) ∷ []))) 0
     (place (version 2 (two ∷ []) ∷ [])) in
-    withRun (withWriter t 0 (record { count = 1; past = λ d. clock one })) 0 (record {
-      state = 1;
-      jobs = 1;
-      done = 1;
-      job = noJobs;
-      branch = noBranch;
-    })
+    withRun (withWriter t 0 (record { count = 1; past = λ d. clock one })) 0
+    (unforked 1 1 1 noJobs noBranch)
 
 abbrev pub lent-ahead : List (List ℕ)
 lent-ahead = answers (ask (stale 0) ∷ issue 0 0 1 ∷ ask (stale 0) ∷ []) ahead

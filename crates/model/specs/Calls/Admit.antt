@@ -10,16 +10,21 @@ use Rattle.words.specs.Tests.{allBelow}
 use Rattle.clock.specs.Clock.{Clock, dominates}
 use Rattle.model.specs.Algebra.{Place, causalCut, overlappingCut}
 use Rattle.model.specs.Version.{Version, versions}
-use Rattle.model.specs.Store.{Store, planned}
+use Rattle.model.specs.Store.{Branch, Run, Store, planned}
 use Rattle.model.specs.Outcome.{Reply, refuse}
 
+-- A test of both branches of a run.
+unfoldable pub eachBranch : Run → (Branch → Bool) → Bool
+eachBranch a p = p (a .branch) && p (a .second)
+
 module _ (s : Store) where
-  -- A test of every place: the master, each cache ("shelf"), each run's snapshot ("card").
+  -- A test of every place: the master, each cache ("shelf"), each run's snapshots ("cards").
+  -- CR 10: "explaining and admission treat each line as a card with its own reads".
   unfoldable pub everyPlace : (Place Version → Bool) → Bool
   everyPlace p =
       p (s .master)
       && (allBelow (s .counts .sites) (λ o. p (s .site o .cache))
-      && allBelow (s .counts .runs) (λ r. p (s .run r .branch .snapshot)))
+      && allBelow (s .counts .runs) (λ r. eachBranch (s .run r) (λ b. p (b .snapshot))))
 
   -- A test of every version on the store.
   unfoldable pub everyVersion : (Version → Bool) → Bool
@@ -41,9 +46,9 @@ module _ (s : Store) where
   -- "each card is a keyset-overlapping cut for its plan"
   unfoldable pub overlappingCuts : Bool
   overlappingCuts =
-      allBelow (s .counts .runs) (λ r.
+      allBelow (s .counts .runs) (λ r. eachBranch (s .run r) (λ b.
       overlappingCut (versions (s .counts .writers)) (s .counts .keys)
-      (planned (s .run r .jobs) (s .run r .job)) (s .run r .branch .snapshot))
+      (planned (s .run r .jobs) (s .run r .job)) (b .snapshot)))
 
   -- "the master's own row of a sheet covers every row kept for that sheet"
   unfoldable pub masterCovers : (ℕ → Clock) → Bool

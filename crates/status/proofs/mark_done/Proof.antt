@@ -13,9 +13,9 @@ returns c =
     let f = p .before .before in
     let a = f .before .before .before .before .args in
     p .put-status .ensures
-    ∙ ap (putStatus (a .words .now) (a .at))
+    ∙ ap (putStatus (a .words .now) (a .at) (a .read))
     (f .marked .ensures
-    ∙ ap (λ (s : RunStatus). marked s (a .done) (a .read)) (f .before .status-at .ensures))
+    ∙ ap (λ (s : RunStatus). marked s (a .done) (a .reads)) (f .before .status-at .ensures))
 
 pub mark-done-spec : {M : Type 1} → statement M
 mark-done-spec =

@@ -34,7 +34,6 @@ put-status-spec =
     (λ c. search needs)
     slice-write-words-3
     (λ c. search needs)
-    (λ c. search needs)
     slice-write-words-4
     (λ c. search needs)
     returns)

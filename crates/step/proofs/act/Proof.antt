@@ -39,8 +39,8 @@ returns c =
     let s = n .before .before in
     let a = s .args in
     let l = a .words .now in
-    step-broken l (a .z) (a .r) (a .job) (a .visit) (a .trial) (s .pre) (b .mark-broken .last .0)
-    (i .if1 .taken)
+    step-broken l (a .z) (a .r) (a .job) (a .n) (a .visit) (a .trial) (s .pre)
+    (b .mark-broken .last .0) (i .if1 .taken)
     (b .mark-broken .ensures ∙ spoiled-words l (n .run-at .result)
     ∙ ap (λ (at : ℕ). set l at brokenState) (n .run-at .ensures))
 
@@ -54,7 +54,7 @@ returns-2 c =
     let s = i .before .before .before .before .before in
     let a = s .args in
     rw (c .divided .ensures)
-    (step-done (a .words .now) (a .z) (a .r) (a .job) (a .visit) (a .trial) (s .pre)
+    (step-done (a .words .now) (a .z) (a .r) (a .job) (a .n) (a .visit) (a .trial) (s .pre)
     (f .finish .last .0) (i .if1 .left) (f .finish .ensures))
 
 pub act-spec : {M : Type 1} → statement M

@@ -19,7 +19,7 @@ act-requires c κs =
     let n = t .before .before in
     let s = n .before .before .before in
     let a = s .args in
-    let f = found-as _ (a .run) (a .job) 0 _ _ _
+    let f = found-as _ (a .run) (a .job) (a .line) _ _ _
     (sym (k .tried2 .given .1) ∙ t .try-job .ensures) in
     record {
       form = record { form = s .pre; counts = n .counts .ensures };
@@ -36,9 +36,9 @@ returns c =
     let n = t .before .before in
     let s = n .before .before .before in
     let a = s .args in
-    let f = refused-as _ (a .run) (a .job) 0 _ _
+    let f = refused-as _ (a .run) (a .job) (a .line) _ _
     (sym (k .tried .given .1) ∙ t .try-job .ensures) in
-    step-refused (a .words .now) (a .run) (a .job) _ (s .pre) (f .0) (f .1)
+    step-refused (a .words .now) (a .run) (a .job) (a .line) _ (s .pre) (f .0) (f .1)
 
 pub step-spec : {M : Type 1} → statement M
 step-spec =

@@ -1,12 +1,13 @@
 -- `try_at` tests the causes of the run, finds what is to be fetched and T, tests it, and finds C.
 -- Assumes nothing.
-use mathlib.Core.Path.{_≡_, sym, ap, _∙_}
+use mathlib.Core.Path.{_≡_, sym, _∙_}
 use Prim.Native.Nat.{_<_, _^_}
 use borrow.Author.Needs.{needs}
 use native.Mathlib.Omega.{arith}
 use lib.Bits.{or-lt}
 use Rattle.words.proofs.Bools.{ne-eqb}
 use Rattle.masks.proofs.Sets.{mask-lt}
+use Rattle.sizes.specs.Bounds.{readAt}
 use Rattle.model.specs.Step.{jobCause, stepCause}
 use Rattle.model.proofs.Steps.{step-below}
 use Rattle.layout.specs.Reading.{storeOf}
@@ -14,7 +15,7 @@ use Rattle.form.proofs.Known.{form-counts}
 use Rattle.trial.specs.Jobs.{UsedRun}
 use Rattle.trial.proofs.Known.{job-ready}
 use Rattle.trial.proofs.Cases.{tried-no, tried-yes}
-use Rattle.trial.proofs.Trials.{VisitKnown, visit-known, taken-read, cause-last, trial-found}
+use Rattle.trial.proofs.Trials.{BranchAt, branch-at, VisitKnown, visit-known, taken-read, cause-last, trial-found}
 use Rattle.trial.proofs.try_at.Statement.{statement}
 use Rattle.trial.proofs.try_at.Tie as tie
 
@@ -26,18 +27,18 @@ returns c =
     let s = n .before .before in
     let a = s .args in
     let early = n .job-cause .result in
-    let cause : stepCause (storeOf (a .words .now)) (a .r) (a .j) 0 ≡ early =
+    let cause : stepCause (storeOf (a .words .now)) (a .r) (a .j) (a .n) ≡ early =
     rw (
-      step-below (storeOf (a .words .now)) (a .r) (a .j) 0
+      step-below (storeOf (a .words .now)) (a .r) (a .j) (a .n)
           (rw (form-counts (a .words .now) (a .z) (s .pre .0 .0)) (s .pre .0 .1)),
       ← n .job-cause .ensures,
       ne-eqb early 0 (c .if1 .taken),
     ) in
-    tried-no _ (a .r) (a .j) 0 _ early cause (c .if1 .taken)
+    tried-no _ (a .r) (a .j) (a .n) _ early cause (c .if1 .taken)
 
 -- None of them holds.
 free : (c : tie.Else1) → let a = c .before .before .before .args in
-    jobCause (storeOf (a .words .now) .run (a .r)) (a .j) 0 ≡ 0
+    jobCause (storeOf (a .words .now) .run (a .r)) (a .j) (a .n) 0 ≡ 0
 free c = sym (c .before .job-cause .ensures) ∙ c .if1 .left
 
 ready : (c : tie.Else1) → let a = c .before .before .before .args in
@@ -45,10 +46,18 @@ ready : (c : tie.Else1) → let a = c .before .before .before .args in
 ready c =
     let s = c .before .before .before in
     let a = s .args in
-    job-ready (a .words .now) (a .z) (a .r) (a .j) (s .pre .0 .0) (s .pre .0 .1) (free c)
+    job-ready (a .words .now) (a .z) (a .r) (a .j) (s .pre .0 .0) (s .pre .0 .1) (a .n) (free c)
 
 visit-of-requires : tie.Need-visit-of-requires
-visit-of-requires c κs = (ready c, c .before .before .before .pre .1)
+visit-of-requires c κs = ready c
+
+-- The branch stands at the snapshot's index and at that of its read mask.
+own : (s : tie.Start) → let a = s .args in
+    BranchAt (a .words .now) (a .z) (a .r) (a .n) (a .snapshot) (readAt (a .z) (a .r) (a .n))
+own s =
+    let a = s .args in
+    branch-at (a .words .now) (a .z) (a .r) (a .n) (s .pre .0 .0) (s .pre .0 .1) (a .snapshot)
+    (s .pre .1)
 
 -- ---- what is to be fetched
 
@@ -57,11 +66,11 @@ known : (c : tie.After-visit-of) → let a = c .before .before .before .before .
 known c =
     let e = c .before in
     let a = e .before .before .before .args in
-    visit-known (a .words .now) (a .z) (a .r) (a .j) 0 (a .snapshot) (ready e .0) (ready e .1) _
-    (c .visit-of .ensures)
+    visit-known (a .words .now) (a .z) (a .r) (a .j) (a .n) (a .snapshot) (ready e .0)
+    (ready e .1) _ (c .visit-of .ensures)
 
 lacking-requires : tie.Need-lacking-requires
-lacking-requires c κs = (c .before .before .before .before .pre .1 .area, known c .reads)
+lacking-requires c κs = (own (c .before .before .before .before) .area, known c .reads)
 
 wanted-low : (c : tie.After-lacking)
     → c .lacking .result < 2 ^ c .before .before .before .before .before .args .z .keys
@@ -97,7 +106,7 @@ taking-cause-requires c κs =
 -- What is left where the causes before it do not hold.
 tested : (c : tie.After-taking-cause)
     → let a = c .before .before .before .before .before .before .before .before .before .args in
-    stepCause (storeOf (a .words .now)) (a .r) (a .j) 0 ≡ c .taking-cause .result
+    stepCause (storeOf (a .words .now)) (a .r) (a .j) (a .n) ≡ c .taking-cause .result
 tested c =
     let t = c .before .before in
     let n = t .before in
@@ -106,9 +115,9 @@ tested c =
     let e = v .before in
     let s = e .before .before .before in
     let a = s .args in
-    cause-last (a .words .now) (a .z) (a .r) (a .j) 0 (a .snapshot) (ready e .0) (ready e .1)
-    (v .visit-of .result) (v .visit-of .ensures) (a .read) (s .pre .1) (w .lacking .result)
-    (n .lacking2 .result) (w .lacking .ensures) (n .lacking2 .ensures)
+    cause-last (a .words .now) (a .z) (a .r) (a .j) (a .n) (a .snapshot) (ready e .0) (ready e .1)
+    (v .visit-of .result) (v .visit-of .ensures) (readAt (a .z) (a .r) (a .n)) (own s)
+    (w .lacking .result) (n .lacking2 .result) (w .lacking .ensures) (n .lacking2 .ensures)
     (t .find-taken .result) (free e) (t .find-taken .ensures)
     ∙ sym (c .taking-cause .ensures)
 
@@ -116,7 +125,7 @@ returns-2 : tie.Need-returns-2
 returns-2 c =
     let u = c .before in
     let a = u .before .before .before .before .before .before .before .before .before .args in
-    tried-no _ (a .r) (a .j) 0 _ _ (tested u) (c .if2 .taken)
+    tried-no _ (a .r) (a .j) (a .n) _ _ (tested u) (c .if2 .taken)
 
 -- ---- C
 
@@ -125,7 +134,7 @@ draw-set-requires c κs =
     let w = c .before .before .before .before .before in
     let v = w .before in
     let K = known v in
-    let L = v .before .before .before .before .pre .1 in
+    let L = own (v .before .before .before .before) in
     (record { target-in = L .area; first-in = K .master; second-in = K .cache }, wanted-low w)
 
 returns-3 : tie.Need-returns-3
@@ -139,15 +148,15 @@ returns-3 c =
     let e = v .before in
     let s = e .before .before .before in
     let a = s .args in
-    let found = taken-read (a .words .now) (a .z) (a .r) (a .j) 0 (a .snapshot) (ready e .0)
-    (ready e .1) (v .visit-of .result) (v .visit-of .ensures) (a .read) (s .pre .1)
+    let found = taken-read (a .words .now) (a .z) (a .r) (a .j) (a .n) (a .snapshot) (ready e .0)
+    (ready e .1) (v .visit-of .result) (v .visit-of .ensures) (readAt (a .z) (a .r) (a .n)) (own s)
     (w .lacking .result) (n .lacking2 .result) (w .lacking .ensures) (n .lacking2 .ensures)
     (t .find-taken .result) (t .find-taken .ensures) in
-    tried-yes _ (a .r) (a .j) 0 _ _ _
+    tried-yes _ (a .r) (a .j) (a .n) _ _ _
     (tested u ∙ i .if2 .left) (v .visit-of .ensures)
-    (trial-found (a .words .now) (a .z) (a .r) (a .j) 0 (a .snapshot) (ready e .0) (ready e .1)
-    (v .visit-of .result) (v .visit-of .ensures) (a .read) (s .pre .1) (w .lacking .result)
-    (n .lacking2 .result) (w .lacking .ensures) (n .lacking2 .ensures)
+    (trial-found (a .words .now) (a .z) (a .r) (a .j) (a .n) (a .snapshot) (ready e .0)
+    (ready e .1) (v .visit-of .result) (v .visit-of .ensures) (readAt (a .z) (a .r) (a .n)) (own s)
+    (w .lacking .result) (n .lacking2 .result) (w .lacking .ensures) (n .lacking2 .ensures)
     (t .find-taken .result) (c .draw-set .result) found (c .draw-set .ensures))
 
 pub try-at-spec : {M : Type 1} → statement M

@@ -1,16 +1,19 @@
--- `is_empty` finds a place in form that holds nothing.
+-- `is_empty` tests the place as one run of words.
 -- Assumes nothing.
 use borrow.Author.Needs.{needs}
-use Rattle.layout.specs.Reading.{readPlace}
-use Rattle.form.proofs.Snapshots.{empty-test}
+use Rattle.form.proofs.Flat.{flat-place}
 use Rattle.form.proofs.run.is_empty.Statement.{statement}
 use Rattle.form.proofs.run.is_empty.Tie as tie
 
+present-requires : tie.Need-present-requires
+present-requires c κs = rw (c .place-size .ensures) (c .before .before .pre .fits)
+
 returns : tie.Need-returns
 returns c =
-    let a = c .before .before .before .args in
-    rw (c .before .place-formed .ensures, c .held-mask .ensures)
-    (empty-test (a .z) (readPlace (a .z) (a .words .now) (a .at)))
+    let p = c .before in
+    let a = p .before .before .args in
+    rw (c .present .ensures, p .place-size .ensures)
+    (flat-place (a .z) (a .words .now) (a .at))
 
 pub is-empty-spec : {M : Type 1} → statement M
-is-empty-spec = tie.close (tie.spec (λ c κs. search needs) (λ c κs. search needs) returns)
+is-empty-spec = tie.close (tie.spec (λ c κs. search needs) present-requires returns)

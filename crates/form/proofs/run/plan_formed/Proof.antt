@@ -1,12 +1,18 @@
--- `plan_formed` tests jobs, masks and snapshot, in this order.
+-- `plan_formed` tests jobs, masks and branches, in this order.
 -- Assumes nothing.
 use mathlib.Core.Path.{sym, _∙_}
 use mathlib.Core.Bool.{So}
+use native.Mathlib.Omega.{arith}
 use borrow.Author.Needs.{needs}
 use borrow.Author.Tests.{not-true, not-false}
+use Rattle.sizes.specs.Bounds.{runSize}
 use Rattle.model.specs.Form.{jobsFormed, masksFormed}
 use Rattle.model.specs.Store.{Run}
+use Rattle.model.proofs.Plans.{masks-out}
 use Rattle.layout.specs.Reading.{readRun}
+use Rattle.form.proofs.Masks.{read-low}
+use Rattle.form.proofs.Runs.{first-area}
+use Rattle.form.proofs.Snapshots.{branches-test}
 use Rattle.form.proofs.run.plan_formed.Statement.{statement}
 use Rattle.form.proofs.run.plan_formed.Tie as tie
 
@@ -34,13 +40,30 @@ returns-2 c =
     rw (jobs (c .before .before), no)
 
 snapshot-formed-requires : tie.Need-snapshot-formed-requires
+unfolding readRun runSize
 snapshot-formed-requires c κs =
     let m = c .before .before in
-    (m .before .before .before .pre, (jobs m, masks c))
+    let s = m .before .before .before in
+    let M = masks-out (s .args .z) (theRun s) (masks c) in
+    let low = read-low (s .args .z) (theRun s) M 0 in (
+      (s .pre, first-area _ _ _ (s .pre)),
+      (jobs m, (omega (arith, s .pre .fits), low)),
+    )
+
+second-formed-requires : tie.Need-second-formed-requires
+second-formed-requires c κs =
+    let e = c .before in
+    let m = e .before .before in
+    (m .before .before .before .pre, (jobs m, masks e))
 
 returns-3 : tie.Need-returns-3
+unfolding readRun
 returns-3 c =
-    rw (jobs (c .before .before .before), masks (c .before)) (c .snapshot-formed .ensures)
+    let e = c .before .before in
+    let m = e .before .before in
+    let a = m .before .before .before .args in
+    rw (c .before .snapshot-formed .ensures, c .second-formed .ensures, jobs m, masks e)
+    (branches-test (a .z) (a .words .now) (a .at))
 
 pub plan-formed-spec : {M : Type 1} → statement M
 plan-formed-spec =
@@ -50,5 +73,8 @@ plan-formed-spec =
     returns
     masks-formed-requires
     returns-2
+    (λ c. search needs)
+    (λ c. search needs)
     snapshot-formed-requires
+    second-formed-requires
     returns-3)

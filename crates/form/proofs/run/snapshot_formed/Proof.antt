@@ -12,8 +12,10 @@ reads-of-requires : tie.Need-reads-of-requires
 unfolding runSize
 reads-of-requires c κs =
     let s = c .before .before .before in
-    let a = s .args in
-    (omega arith, jobs-most (a .z) (a .words .now) (a .at) (s .pre .1 .0))
+    let a = s .args in (
+      omega (arith, s .pre .0 .0 .fits),
+      jobs-most (a .z) (a .words .now) (a .at) (s .pre .1 .0),
+    )
 
 returns : tie.Need-returns
 returns c =
@@ -30,7 +32,8 @@ returns c =
       r .reads-of .ensures,
       h .held-mask .ensures,
     )
-    (snapshot-test (a .z) (a .words .now) (a .at) (s .pre .1 .0) (s .pre .1 .1))
+    (snapshot-test (a .z) (a .words .now) (a .at) (a .read) (a .card) (s .pre .1 .0)
+    (s .pre .1 .1 .1))
 
 pub snapshot-formed-spec : {M : Type 1} → statement M
 unfolding runSize
@@ -43,11 +46,8 @@ snapshot-formed-spec =
     (λ c. search needs)
     (λ c. search needs)
     (λ c. search needs)
-    (λ c. search needs)
     reads-of-requires
-    (λ c. search needs)
     (λ c κs. search needs)
-    (λ c. search needs)
     (λ c κs. search needs)
     (λ c κs. search needs)
     (λ c κs. search needs)

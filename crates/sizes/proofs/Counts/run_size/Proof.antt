@@ -13,9 +13,22 @@ add-result c =
     let s = c .before in
     rw (c .place-size .ensures) (omega (arith, largest (s .args .self) (s .pre) .run))
 
+add-result-2 : tie.Need-add-result-2
+unfolding runSize
+add-result-2 c =
+    let s = c .before in
+    rw (c .place-size .ensures) (omega (arith, largest (s .args .self) (s .pre) .run))
+
+add-result-3 : tie.Need-add-result-3
+unfolding runSize
+add-result-3 c =
+    let s = c .before in
+    rw (c .place-size .ensures) (omega (arith, largest (s .args .self) (s .pre) .run))
+
 returns : tie.Need-returns
 unfolding runSize
 returns c = omega (arith, c .place-size .ensures)
 
 pub run-size-spec : {M : Type 1} → statement M
-run-size-spec = tie.close (tie.spec (λ c κs. search needs) add-result returns)
+run-size-spec =
+    tie.close (tie.spec (λ c κs. search needs) add-result add-result-2 add-result-3 returns)

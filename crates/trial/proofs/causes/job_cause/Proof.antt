@@ -1,11 +1,12 @@
--- `job_cause` tests the job's range, the state and the jobs done, in the table's order.
+-- `job_cause` tests the job's range, the state, the branch and the jobs done, in this order.
 -- Assumes nothing.
 use mathlib.Core.Path.{_≡_, sym, _∙_}
+use mathlib.Core.Bool.{true, false}
 use Prim.Native.Nat.{_+_, _≤_, _<_}
 use borrow.Author.Needs.{needs}
 use borrow.Author.Tests.{not-true, not-false}
 use native.Mathlib.Omega.{arith}
-use lib.ListN.{length}
+use lib.ListN.{length, getD}
 use Rattle.words.proofs.Bools.{le-leb, gt-leb}
 use Rattle.sizes.specs.Bounds.{runSize}
 use Rattle.model.specs.Outcome.{refuse, allowed, stepRow}
@@ -14,7 +15,7 @@ use Rattle.layout.specs.Reading.{storeOf}
 use Rattle.form.proofs.Known.{form-area}
 use Rattle.status.proofs.Known.{RunKnown, run-known}
 use Rattle.trial.specs.Jobs.{UsedRun}
-use Rattle.trial.proofs.Known.{limit-in, state-in, done-in, job-low, upstream-low, job-open}
+use Rattle.trial.proofs.Known.{limit-in, state-in, done-in, mark-found, job-low, upstream-low, job-open}
 use Rattle.trial.proofs.causes.job_cause.Statement.{statement}
 use Rattle.trial.proofs.causes.job_cause.Tie as tie
 
@@ -78,6 +79,24 @@ returns-2 c =
       not-true (t .is-allowed .result) (c .if2 .taken),
     )
 
+-- ---- the branch
+
+mark-at-requires : tie.Need-mark-at-requires
+mark-at-requires c κs =
+    let s = c .before .before .before .before .before .before .before .before .before in
+    (form-area _ _ (s .pre .0) .ranged, s .pre .1)
+
+marked : (c : tie.After-mark-at)
+    → let s = c .before .before .before .before .before .before .before .before .before .before in
+    (c .mark-at .result < length (s .args .words .now))
+    × (storeOf (s .args .words .now) .run (s .args .r) .mark
+    ≡ getD (s .args .words .now) (c .mark-at .result) 0)
+marked c =
+    let s = c .before .before .before .before .before .before .before .before .before .before in
+    let a = s .args in
+    rw (c .mark-at .ensures)
+    (mark-found (a .words .now) (a .z) (a .r) (s .pre .0) (s .pre .1))
+
 -- ---- the jobs done
 
 -- A job in range of a run that isn't free.
@@ -95,13 +114,14 @@ ready c =
     (stated t ∙ not-false (t .is-allowed .result) (c .if2 .left))
 
 job-of-requires : tie.Need-job-of-requires
-job-of-requires c κs = ready c
+job-of-requires c κs = ready (c .before .before .before)
 
 low : (c : tie.After-job-of)
-    → let n = c .before .before .before .before .before .before .before .before in
+    → let e = c .before .before .before .before in
+    let n = e .before .before .before .before .before .before .before in
     (n .before .before .args .j < 8) × (c .job-of .result .upstream < 256)
 low c =
-    let e = c .before in
+    let e = c .before .before .before .before in
     let n = e .before .before .before .before .before .before .before in
     let a = n .before .before .args in
     let U = ready e in (
@@ -113,15 +133,21 @@ low c =
 is-unready-requires : tie.Need-is-unready-requires
 is-unready-requires c κs = low c
 
--- What is left where the causes before it do not hold.
+-- ---- the rows that are left
+
 tested : (c : tie.After-is-unready)
-    → let n = c .before .before .before .before .before .before .before .before .before in
+    → let b = c .before .before in
+    let n = b .before .before .before .before .before .before .before .before .before .before in
     let a = n .before .before .args in
-    jobCause (storeOf (a .words .now) .run (a .r)) (a .j) 0 ≡ refuse (c .is-unready .result) 6 0
+    jobCause (storeOf (a .words .now) .run (a .r)) (a .j) (a .n) 0
+    ≡ refuse (b .is-off-branch .result) 14 (refuse (c .is-unready .result) 6 0)
 unfolding jobCause refuse
 tested c =
     let j = c .before in
-    let t = j .before .before in
+    let b = j .before in
+    let m = b .before .before in
+    let o = m .before in
+    let t = o .before in
     let e = t .before in
     let n = e .before .before .before .before .before in
     let a = n .before .before .args in
@@ -129,7 +155,9 @@ tested c =
       limited (e .before),
       gt-leb _ _ (e .if1 .left),
       stated t,
-      not-false (t .is-allowed .result) (j .before .if2 .left),
+      not-false (t .is-allowed .result) (o .if2 .left),
+      marked m .1,
+      b .is-off-branch .ensures,
       done-in (a .words .now) (a .z) (a .r) (known n) _ (n .run-at .ensures),
       c .is-unready .ensures,
       j .job-of .ensures,
@@ -137,11 +165,23 @@ tested c =
 
 returns-3 : tie.Need-returns-3
 unfolding refuse
-returns-3 c = rw (tested (c .before), c .if3 .taken)
+returns-3 c =
+    let u = c .before in
+    let off : u .before .before .is-off-branch .result ≡ true = c .if3 .taken in
+    rw (tested u, off)
 
 returns-4 : tie.Need-returns-4
 unfolding refuse
-returns-4 c = rw (tested (c .before), c .if3 .left)
+returns-4 c =
+    let e = c .before in
+    let u = e .before in
+    let on : u .before .before .is-off-branch .result ≡ false = e .if3 .left in
+    rw (tested u, on, c .if4 .taken)
+
+returns-5 : tie.Need-returns-5
+unfolding refuse
+returns-5 c =
+    let e = c .before in rw (tested (e .before), e .if3 .left, c .if4 .left)
 
 pub job-cause-spec : {M : Type 1} → statement M
 job-cause-spec =
@@ -160,8 +200,13 @@ job-cause-spec =
     returns
     is-allowed-requires
     returns-2
+    mark-at-requires
+    (λ c. omega (arith, marked c .0))
+    (λ c. omega (arith, marked (c .before) .0))
+    (λ c κs. search needs)
     job-of-requires
     (λ c. omega (arith, low c))
     is-unready-requires
     returns-3
-    returns-4)
+    returns-4
+    returns-5)
