@@ -1,10 +1,12 @@
 //! Prints a script of calls for a seed: `generate SEED LINES [--count]`.
 //!
 //! It keeps a desk of its own, so that it can steer towards merges of rivals, evictions,
-//! prepares, breaks and paths behind breaks. With `--count` it says on standard error what the
-//! script meets.
+//! prepares, breaks, paths behind breaks and prepared runs that go through. With `--count` it says
+//! on standard error what the script meets.
 #![allow(dead_code)]
 
+#[path = "generate/booked.rs"]
+mod booked;
 #[path = "generate/branches.rs"]
 mod branches;
 #[path = "generate/chains.rs"]
@@ -20,6 +22,7 @@ mod forked;
 mod odd;
 #[path = "generate/plots.rs"]
 mod plots;
+mod prepared;
 #[path = "generate/random.rs"]
 mod random;
 #[path = "generate/rights.rs"]
@@ -30,6 +33,8 @@ mod rivals;
 mod rounds;
 #[path = "generate/small.rs"]
 mod small;
+#[path = "generate/spared.rs"]
+mod spared;
 #[path = "generate/teller.rs"]
 mod teller;
 mod text;

@@ -1,7 +1,7 @@
 //! Checks on lent buffers: the paper's numbers, the ten marked readings, the form, refusals
 //! 9 and 10, how clocks stand, paths behind a break, leading writers, stale marks, admission,
-//! allowances, picks, rights, two lines, other layouts, what stands behind a save, and random
-//! buffers. Panics at the first check that fails.
+//! allowances, picks, rights, two lines, prepared runs, other layouts, what stands behind a save,
+//! and random buffers. Panics at the first check that fails.
 #![allow(dead_code)]
 
 #[path = "selftest/admitted.rs"]
@@ -34,6 +34,9 @@ mod marked;
 mod paths;
 #[path = "selftest/picked.rs"]
 mod picked;
+#[path = "selftest/plotter.rs"]
+mod plotter;
+mod prepared;
 #[path = "selftest/random.rs"]
 mod random;
 #[path = "selftest/rights.rs"]
@@ -148,4 +151,12 @@ fn of_lines() {
     forked::asked_by_form();
     forked::written_back();
     forked::in_all_words();
+    of_prepared_runs();
+}
+
+/// "A prepared run goes through."
+fn of_prepared_runs() {
+    plotter::beside_a_twin();
+    plotter::with_a_right();
+    plotter::two_of_them();
 }

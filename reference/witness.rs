@@ -1,16 +1,19 @@
 //! Runs a script through the desk and the book, and tests demand 3 after each call, that no copy
 //! is ahead of the master, whom each version names as leading writers, the shelves' marks, who may
-//! hold and save, and that the desk would be admitted. From each admission on a second book is kept
-//! that began there. Ends with 1, and prints the script up to there, if a claim fails.
+//! hold and save, that prepared runs go through, and that the desk would be admitted. From each
+//! admission on a second book is kept that began there. Ends with 1, and prints the script up to
+//! there, if a claim fails.
 #![allow(dead_code)]
 
 mod book;
 mod desk;
+mod prepared;
 mod text;
 
 use book::follow::Seen;
 use book::Book;
 use desk::Answer;
+use prepared::Prepared;
 use std::io::{self, Read, Write};
 use text::Call;
 
@@ -19,14 +22,19 @@ fn main() {
     io::stdin().lock().read_to_end(&mut script).expect("standard input can be read");
     let mut words = vec![0u32; text::LENT];
     let mut books = Vec::new();
-    let mut seen = Seen::default();
+    let (mut prepared, mut seen) = (Prepared::default(), Seen::default());
     let mut read = 0;
     for line in script.split_inclusive(|byte| *byte == b'\n') {
         read += line.len();
         let Some(call) = text::read_line(text::without_end(line)) else {
             continue;
         };
-        if let Err(claim) = one_call(&mut words, &mut books, &call, &mut seen) {
+        let before = words.clone();
+        let answer = text::run(&mut words, &call);
+        let followed = prepared.follow(&before, &call, &answer, &words);
+        let tested = followed
+            .and_then(|()| one_call(before, &mut words, &mut books, (&call, answer), &mut seen));
+        if let Err(claim) = tested {
             let _ = io::stdout().write_all(&script[..read]);
             eprintln!("a claim fails after the script's last line: {claim}");
             std::process::exit(1);
@@ -34,26 +42,26 @@ fn main() {
     }
     println!(
         "{} calls held against a book, {} steps tried against all choices, {} broken, {} pairs of finished jobs, \
-         {} paths, {} joins, {} broken ones",
+         {} paths, {} joins, {} broken ones, {}",
         seen.calls,
         seen.tried,
         seen.broken,
         seen.snapshots,
         seen.paths,
         seen.joins,
-        seen.joins_broken
+        seen.joins_broken,
+        prepared.tested.print()
     );
 }
 
-/// One call on the desk and in the books, then every test.
+/// A call, its answer and the desk before and behind it: into the books, then every test.
 fn one_call(
+    before: Vec<u32>,
     words: &mut [u32],
     books: &mut Vec<Book>,
-    call: &Call,
+    (call, answer): (&Call, Answer),
     seen: &mut Seen,
 ) -> Result<(), String> {
-    let before = words.to_vec();
-    let answer = text::run(words, call);
     let refused = matches!(answer, Answer::Refused(_));
     if (refused || call.only_answers()) && before != words {
         return Err("a call that is refused or only answers changed the desk".into());

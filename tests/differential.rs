@@ -17,6 +17,7 @@ mod library;
 mod reference {
     pub mod book;
     pub mod desk;
+    pub mod prepared;
     pub mod text;
 }
 
@@ -24,6 +25,7 @@ mod reference {
 #[path = "../reference/generate"]
 mod generate {
     pub mod bent;
+    pub mod booked;
     pub mod branches;
     pub mod chains;
     pub mod counts;
@@ -36,6 +38,7 @@ mod generate {
     pub mod rivals;
     pub mod rounds;
     pub mod small;
+    pub mod spared;
     pub mod teller;
 }
 
@@ -53,10 +56,10 @@ mod parts {
     pub mod stories;
 }
 
-use generate::{bent, branches, chains, counts, everyday, forked, odd, plots};
-use generate::{rights, rivals, rounds, small, teller};
+use generate::{bent, booked, branches, chains, counts, everyday, forked, odd, plots};
+use generate::{rights, rivals, rounds, small, spared, teller};
 use parts::{admitted, arguments, built, clocks, damaged, met, pair, random, script, stories};
-use reference::{book, desk, text};
+use reference::{book, desk, prepared, text};
 
 use met::Met;
 use random::Random;

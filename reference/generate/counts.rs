@@ -7,6 +7,7 @@ use crate::desk::version::{covers, held, row};
 use crate::desk::{in_form, Answer};
 use crate::forked;
 use crate::rights;
+use crate::spared;
 use crate::text::{run, Call};
 
 #[derive(Default)]
@@ -39,6 +40,7 @@ pub struct Counts {
     carried_paths: u64,
     rights: rights::Met,
     forked: forked::Met,
+    spared: spared::Met,
     refused: [u64; 15],
 }
 
@@ -75,6 +77,7 @@ impl Counts {
         ];
         names.extend(self.rights.names());
         names.extend(self.forked.names());
+        names.extend(self.spared.names());
         let refused = (1..=8).chain([12, 13, 14]);
         names.extend(refused.map(|number| (format!("refused-{number}"), self.refused[number])));
         names.iter().map(|(name, count)| format!("{name} {count}")).collect::<Vec<_>>().join(" ")
@@ -84,6 +87,7 @@ impl Counts {
     pub fn enter(&mut self, before: &[u32], after: &[u32], call: &Call, answer: &Answer) {
         self.rights.enter(before, after, call, answer);
         self.forked.enter(before, call, answer);
+        self.spared.enter(before, call, answer);
         match (call, answer) {
             (_, Answer::Ok(numbers)) => self.enter_ok(before, after, call, numbers),
             (_, Answer::Refused(number)) => {

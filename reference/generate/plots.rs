@@ -1,5 +1,6 @@
 //! Plots that steer: each is a short list of calls with a likely end.
 
+use crate::booked;
 use crate::branches;
 use crate::chains;
 use crate::desk::layout::has;
@@ -21,7 +22,8 @@ pub fn of_runs(t: &mut Teller, number: usize) {
         22..=24 => chains::explain_a_break(t),
         25..=36 => rivals::issue_rivals(t),
         37..=41 => rivals::rounds_of_rivals(t),
-        21 | 42..=48 => everyday::prepared_run(t),
+        21 | 42..=45 => everyday::prepared_run(t),
+        46..=48 => booked::book_the_plotter(t),
         53..=55 => everyday::prepare_again(t),
         _ => everyday::plain_run(t),
     }

@@ -3,6 +3,7 @@
 use crate::book::follow::Seen;
 use crate::book::Book;
 use crate::desk::{in_form, Answer};
+use crate::prepared::Prepared;
 use crate::text::{print, read_line, run, Call, LENT};
 
 /// Works lines on words of the program's number, all zero.
@@ -26,8 +27,10 @@ pub fn works_admitted(words: &mut [u32], lines: &[&str]) {
     });
 }
 
-/// Works lines; `after` is told each call with its answer and the words that it left.
+/// Works lines; `after` is told each call with its answer and the words that it left. Runs that
+/// they prepare go through.
 fn work(words: &mut [u32], lines: &[&str], mut after: impl FnMut(&Call, &Answer, &[u32])) {
+    let mut prepared = Prepared::default();
     for line in lines {
         let (call, due) = line.split_once(" -> ").unwrap_or((line, "ok"));
         for call in spelled(call) {
@@ -37,6 +40,7 @@ fn work(words: &mut [u32], lines: &[&str], mut after: impl FnMut(&Call, &Answer,
             let told = print(&answer);
             assert!(told == due || due == "ok" && told.starts_with("ok "), "{call}: {told}");
             assert!(!known.only_answers() || words == before, "{call}");
+            prepared.follow(&before, &known, &answer, words).unwrap();
             after(&known, &answer, words);
         }
     }

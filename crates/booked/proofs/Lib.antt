@@ -1,0 +1,9 @@
+pub mod Holding
+pub mod Idle
+pub mod Offices
+pub mod Carried
+pub mod Through
+pub mod Independent
+pub mod Stays
+pub mod Examples
+pub mod Used
