@@ -1,5 +1,5 @@
 # make                      proves and builds the program and the libraries (needs rt and a C compiler; rustc for --replay,
-#                           --shrink and --page, which are left out without it)
+#                           --page, --desk and the like, which are left out without it)
 # make install PREFIX=..    puts them in their places below PREFIX (/usr/local), and below DESTDIR where that is set
 # make uninstall PREFIX=..  takes them away again
 # make test                 ./test

@@ -13,11 +13,11 @@
  * unless all calls on it are ones that only answer (whose desk is const). Calls on different
  * buffers may run at the same time. The words hold no pointer: they may be copied, moved, and
  * saved to a file, SHEETDESK_WORDS of them, in the machine's byte order (little-endian on x86-64;
- * swap the bytes of each word elsewhere); sheetdesk_admit takes them back. Nothing in the words
- * says which layout they have, so save SHEETDESK_LAYOUT with them. Whoever lends words of another
- * layout gets a refusal, SHEETDESK_NOT_IN_FORM, from every call but new, for their offsets and
- * total don't follow from their counts: no two layouts agree in them for any counts. No word is
- * changed.
+ * swap the bytes of each word elsewhere); sheetdesk_admit takes them back, and sheetdesk_file.h
+ * does all of that. Nothing in the words says which layout they have, so save SHEETDESK_LAYOUT
+ * with them. Whoever lends words of another layout gets a refusal, SHEETDESK_NOT_IN_FORM, from
+ * every call but new, for their offsets and total don't follow from their counts: no two layouts
+ * agree in them for any counts. No word is changed.
  *
  * Every call writes its answer's words and returns how many it wrote:
  *   0 and the answer's numbers (ok), 1 and a mask (broken, step and join), 2 and a number (refused),

@@ -49,6 +49,27 @@ due="sheetdesk $(defined VERSION), layout $(defined LAYOUT), toolchain fake-kit"
 sheetdesk --man | grep -q "^REFUSALS" || bad "the installed command has no page"
 sheetdesk --page scripts/case-a.txt 2>"$work/log" | grep -q "<title>Sheet desk: case-a.txt" || bad "the installed command makes no page of a script"
 
+# A desk is saved, checked and gone on with, by the command, in C and by the store; and the service shows its page.
+sheetdesk --desk "$work/tower.desk" scripts/case-a.txt 2>"$work/log" | cmp -s - scripts/case-a.out || bad "the installed command has no --desk"
+[ "$(sheetdesk --check "$work/tower.desk" | tail -n 1)" = admitted ] || bad "the installed command doesn't check a desk"
+gcc -I "$prefix/include" -o "$work/desk_c" -x c - -L "$prefix/lib" -l:libsheetdesk_c.a >"$work/log" 2>&1 <<'END' || bad "sheetdesk_file.h as installed"
+#include <sheetdesk_file.h>
+int main(int count, char **words) {
+    static uint32_t desk[SHEETDESK_MOST_WORDS];
+    char message[SHEETDESK_MESSAGE_BYTES];
+    return count != 2 || sheetdesk_load(words[1], desk, SHEETDESK_MOST_WORDS, message) || sheetdesk_save(words[1], desk, SHEETDESK_MOST_WORDS, message);
+}
+END
+"$work/desk_c" "$work/tower.desk" || bad "sheetdesk_file.h as installed doesn't load and save a desk"
+PYTHONDONTWRITEBYTECODE=1 PYTHONPATH=$prefix/share/sheetdesk python3 - "$work/tower.desk" "$work/desks.db" >"$work/log" 2>&1 <<'END' || bad "the store as installed"
+import sys, service, sheetdesk_file, sheetdesk_store
+store = sheetdesk_store.Store(sys.argv[2])
+store.call("tower", open("scripts/case-a.txt").read().split("\n")[:-1])
+assert store.content("tower") == open(sys.argv[1], "rb").read()
+assert sheetdesk_file.load(sys.argv[1]).admit().outcome == "ok"
+assert b"<title>Sheet desk" in service.page(store.log("tower"))[1]
+END
+
 # link WORD EXAMPLE: README's line that starts with the word, on the example, which must answer case A.
 link() {
   local line

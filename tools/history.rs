@@ -4,7 +4,8 @@
 //! `history MODE NAME [LINE]` reads a script or a log from standard input; NAME is what messages
 //! and the page call it. MODE is replay, shrink, page, whole (the page of all calls), breaks, set
 //! (both also with -json behind them), or at: that one reads the log from descriptor 3, and then
-//! answers the calls on standard input. `./sheetdesk --replay` and so on run it.
+//! answers the calls on standard input. `./sheetdesk --replay` and so on run it. `history desk
+//! FILE` and `history check FILE` are about a desk in a file (history/saved.rs).
 //! Exit status: 0 done; 1 replay: an answer isn't the log's; 2 something is wrong with the input,
 //! and standard error says what, with its line. What can be done all the same is done.
 #![allow(dead_code)]
@@ -13,6 +14,14 @@
 mod embed;
 #[path = "../embed/library.rs"]
 mod library;
+#[path = "../embed/sheetdesk_file.rs"]
+mod sheetdesk_file;
+#[path = "../embed/sheetdesk_format.rs"]
+mod sheetdesk_format;
+#[path = "../embed/sheetdesk_places.rs"]
+mod sheetdesk_places;
+#[path = "../embed/sheetdesk_why.rs"]
+mod sheetdesk_why;
 #[path = "../reference"]
 mod reference {
     pub mod desk;
@@ -40,6 +49,7 @@ mod parts {
     pub mod route;
     pub mod rows;
     pub mod said;
+    pub mod saved;
     pub mod shrink;
     pub mod story;
     pub mod tickets;
@@ -49,6 +59,8 @@ mod parts {
     pub mod words;
 }
 
+// What those files call it.
+use embed as sheetdesk;
 use parts::bill;
 use parts::had::{fail, History};
 use parts::head::Head;
@@ -68,6 +80,9 @@ const USAGE: &str = "usage: history MODE NAME [LINE]; see tools/history.rs";
 fn main() {
     let arguments = std::env::args().skip(1).collect::<Vec<String>>();
     let (mode, name, line) = match arguments.as_slice() {
+        [mode, file, rest @ ..] if mode == "desk" || mode == "check" => {
+            parts::saved::main(mode, file, rest)
+        }
         [mode, name] => (mode, name, None),
         [mode, name, line] => (mode, name, Some(line)),
         _ => fail(USAGE),

@@ -4,7 +4,7 @@ history_tool=$top/target/tools/history
 
 # What target/tools/history.built must say of a tool that is built from these files and this library.
 history_state() {
-  (cd "$top" && find tools/history.rs tools/history reference embed/sheetdesk.rs embed/library.rs embed/sheetdesk_reason.h \
+  (cd "$top" && find tools/history.rs tools/history reference embed/sheetdesk*.rs embed/library.rs embed/sheetdesk_reason.h \
     target/staticlib/libsheetdesk_c.a -type f -print0 2>/dev/null | LC_ALL=C sort -z | xargs -0 sha256sum | sha256sum)
 }
 
@@ -25,7 +25,7 @@ compile_history() {
 }
 
 build_history() {
-  command -v rustc >/dev/null || fail "rustc is not on the PATH: it builds what --replay, --page and the like run"
+  command -v rustc >/dev/null || fail "rustc is not on the PATH: it builds what --replay, --page, --desk and the like run"
   mkdir -p "$top/target" 2>/dev/null
   lock || fail "$top/target can't be written, and what --$mode runs has to be built"
   if ! history_is_current; then
@@ -36,13 +36,18 @@ build_history() {
   exec 9>&-
 }
 
-have_again() {
-  local name=$file
-  [ "$file" != - ] || name="standard input"
+# Builds the tool in a checkout whose sources have changed.
+current_history() {
   if [ -d "$top/crates" ]; then
     . "$top/tools/build.sh" || exit 2
     history_is_current || build_history
   fi
   [ -x "$history_tool" ] || fail "--$mode isn't installed: there was no rustc when sheetdesk was"
+}
+
+have_again() {
+  local name=$file
+  [ "$file" != - ] || name="standard input"
+  current_history
   exec "$history_tool" "$mode" "${name##*/}" ${line:+"$line"}
 }

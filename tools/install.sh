@@ -7,8 +7,9 @@
 #   PREFIX/lib/sheetdesk/                   the command with its program, its page and its tools
 #   PREFIX/lib/libsheetdesk_c.a, .so        the libraries; the shared one has the version of the calls in its name
 #   PREFIX/lib/pkgconfig/sheetdesk.pc       for pkg-config
-#   PREFIX/include/sheetdesk.h              the header for C and C++; sheetdesk_record.h, to record calls; sheetdesk_reason.h, refusals in words
-#   PREFIX/share/sheetdesk/                 the wrappers for Rust and Python, the examples, their page
+#   PREFIX/include/sheetdesk.h              the header for C and C++; sheetdesk_record.h, to record calls; sheetdesk_reason.h, refusals in words;
+#                                           sheetdesk_file.h, desks in files, with those that it includes
+#   PREFIX/share/sheetdesk/                 the wrappers for Rust and Python, with those for files, the store, the examples, their pages
 set -u
 unset CDPATH
 cd "$(dirname -- "${BASH_SOURCE[0]}")/.." || exit 2
@@ -34,7 +35,7 @@ build() {
   build_library
   sh tools/shared.sh || fail "the shared library can't be made"
   if ! command -v rustc >/dev/null; then
-    echo "install: there is no rustc: the command goes without --replay, --shrink and --page" >&2
+    echo "install: there is no rustc: the command goes without --replay, --page, --desk and the like" >&2
     rm -f "$history_tool"
   elif ! history_is_current; then
     compile_history || fail "the build of tools/history.rs failed"
@@ -64,11 +65,11 @@ place() {
   mkdir -p "$at/bin" "$at/lib/pkgconfig" "$at/include" "$at/share/sheetdesk" || exit 2
   mkdir -p "$at/lib/sheetdesk/"{target/bin,target/tools,tools,docs,embed} || exit 2
   install -m 755 sheetdesk "$at/lib/sheetdesk/" && install -m 755 "$program" "$at/lib/sheetdesk/target/bin/" &&
-    install -m 644 tools/run.sh tools/words.sh tools/words.awk tools/history.sh "$at/lib/sheetdesk/tools/" &&
+    install -m 644 tools/run.sh tools/words.sh tools/words.awk tools/history.sh tools/saved.sh "$at/lib/sheetdesk/tools/" &&
     install -m 644 docs/USER.md docs/page.png "$at/lib/sheetdesk/docs/" &&
-    install -m 644 embed/sheetdesk.h embed/sheetdesk_record.h embed/sheetdesk_reason.h "$at/include/" &&
+    install -m 644 "${headers[@]/#/embed/}" "$at/include/" &&
     install -m 644 "$library" "$at/lib/" && install -m 755 "target/shared/$shared" "$at/lib/" &&
-    install -m 644 embed/{README.md,sheetdesk.rs,sheetdesk.py,example.c,example.rs,example.py} "$at/share/sheetdesk/" || exit 2
+    install -m 644 embed/README.md docs/FORMAT.md embed/sheetdesk*.{rs,py} embed/example.{c,rs,py} embed/service.py "$at/share/sheetdesk/" || exit 2
   [ ! -x target/tools/history ] || install -m 755 target/tools/history "$at/lib/sheetdesk/target/tools/" || exit 2
   [ ! -r target/sheetdesk.built ] || install -m 644 target/sheetdesk.built "$at/lib/sheetdesk/target/" || exit 2
   ln -sfn ../lib/sheetdesk/sheetdesk "$at/bin/sheetdesk" && ln -sfn "$shared" "$at/lib/libsheetdesk_c.so" &&
@@ -81,10 +82,10 @@ place() {
 remove() {
   local at=$dest$prefix
   rm -rf "$at/lib/sheetdesk" "$at/share/sheetdesk" "$at/bin/sheetdesk" "$at/lib/libsheetdesk_c.a" "$at/lib/libsheetdesk_c.so" \
-    "$at/lib/$shared" "$at/lib/pkgconfig/sheetdesk.pc" "$at/include/sheetdesk.h" "$at/include/sheetdesk_record.h" \
-    "$at/include/sheetdesk_reason.h"
+    "$at/lib/$shared" "$at/lib/pkgconfig/sheetdesk.pc" "${headers[@]/#/$at/include/}"
 }
 
+headers=(sheetdesk.h sheetdesk_record.h sheetdesk_reason.h sheetdesk_file.h sheetdesk_format.h sheetdesk_why.h sheetdesk_places.h)
 prefix=${2:-/usr/local}
 dest=${3:-}
 version=$(defined VERSION)

@@ -24,7 +24,7 @@ pub struct Chain {
     /// The line of the step that had read it.
     pub read_at: usize,
     pub run: usize,
-    /// The office of the job that breaks the run.
+    /// The office of the job that breaks the run; 0 of a join.
     pub office: usize,
     pub sentence: String,
     /// Where what the run had read came from.
@@ -51,11 +51,11 @@ pub struct Broken {
 /// The path that explain gave for the job, on the desk's copies before the step, and one like it
 /// for each other sheet that the step would move.
 pub fn chains(told: &Told, run: usize, step: Stepped, path: &[u32], would: bool) -> Vec<Chain> {
-    let found = told.book.find_step(run, step.job, step.line);
+    let found = told.book.find_step(run, step.job, step.branch);
     let path = path.iter().map(|k| *k as usize).collect::<Vec<usize>>();
-    let moved = sheets(found.set & told.book.runs[run].branches[step.line].read);
+    let moved = sheets(found.set & told.book.runs[run].branches[step.branch].read);
     let others = moved.filter(|k| path.last() != Some(k));
-    let others = others.filter_map(|k| path_to(told, run, step.line, &found, k)).collect();
+    let others = others.filter_map(|k| path_to(told, run, step.branch, &found, k)).collect();
     let chain = |path: &Vec<usize>| chain(told, run, step, &found.shelf, path, would);
     [vec![path], others].concat().iter().filter_map(chain).collect()
 }
@@ -65,12 +65,12 @@ pub fn chains(told: &Told, run: usize, step: Stepped, path: &[u32], would: bool)
 fn path_to(
     told: &Told,
     run: usize,
-    line: usize,
+    branch: usize,
     found: &StepFound,
     last: usize,
 ) -> Option<Vec<usize>> {
     let (book, run) = (&told.book, &told.book.runs[run]);
-    let (plan, card) = (run.plan(), &run.branches[line].card);
+    let (plan, card) = (run.plan(), &run.branches[branch].card);
     let leads = |c: usize, d: usize| c != d && leads(plan, card, &found.shelf, c, d);
     let mut far = vec![None; book.k];
     far[last] = Some(0);
@@ -100,7 +100,7 @@ fn chain(
     path: &[usize],
     would: bool,
 ) -> Option<Chain> {
-    let card = &told.book.runs[run].branches[step.line].card;
+    let card = &told.book.runs[run].branches[step.branch].card;
     let version = |k: usize, copy: &Saves| told.issues.version(k, copy);
     let mut links = Vec::new();
     for pair in path.windows(2) {
@@ -112,14 +112,14 @@ fn chain(
     }
     let last = *path.last()?;
     let read = version(last, &card[last]);
-    let had = &told.had[run][step.line];
+    let had = &told.had[run][step.branch];
     let (read_at, brought) = (had.read_at(last).unwrap_or(0), had.brought(last));
     let link = links.last()?;
     let sentence = words::sentence(&format!(
         "{} needs {}; {} had read {}, {}.",
         words::version(&link.from),
         words::version(&link.needs),
-        told.who(run, step.line),
+        told.who(run, step.branch),
         against(told, &read, &link.needs),
         sources(&brought)
     ));
@@ -131,22 +131,22 @@ fn chain(
 /// move.
 pub fn parted(told: &Told, run: usize, sheet: usize) -> Option<Chain> {
     let branches = &told.book.runs[run].branches;
-    let copy = |line: usize| &branches[line].card[sheet];
-    let moves = |line: &usize| {
-        let other = copy(1 - line);
-        branches[*line].read >> sheet & 1 == 1 && !copy(*line).meets(sheet, other.row(sheet))
+    let copy = |at: usize| &branches[at].card[sheet];
+    let moves = |at: &usize| {
+        let other = copy(1 - at);
+        branches[*at].read >> sheet & 1 == 1 && !copy(*at).meets(sheet, other.row(sheet))
     };
-    let line = (0..2).find(moves)?;
-    let version = |line: usize| told.issues.version(sheet, copy(line));
-    let (had, read) = (&told.had[run][line], version(line));
-    let other = Other { version: version(1 - line), brought: told.had[run][1 - line].brought(sheet) };
+    let at = (0..2).find(moves)?;
+    let version = |at: usize| told.issues.version(sheet, copy(at));
+    let (had, read) = (&told.had[run][at], version(at));
+    let other = Other { version: version(1 - at), brought: told.had[run][1 - at].brought(sheet) };
     let (read_at, brought) = (had.read_at(sheet).unwrap_or(0), had.brought(sheet));
     let sentence = words::sentence(&format!(
         "{} has {}, {}; {} had read {}, {}.",
-        told.who(run, 1 - line),
+        told.who(run, 1 - at),
         words::version(&other.version),
         sources(&other.brought),
-        told.who(run, line),
+        told.who(run, at),
         against(told, &read, &other.version),
         sources(&brought)
     ));

@@ -121,9 +121,9 @@ impl Book {
             let jobs = words[JOB_LIST..].chunks(3).take(words[JOBS] as usize);
             run.jobs = jobs.map(|job| Job { office: job[0] as usize, reads: job[1] }).collect();
             run.is_forked = desk[s.mark_at(number)] == FORKED;
-            for (line, branch) in run.branches.iter_mut().enumerate() {
-                branch.read = desk[s.read_at(number, line)];
-                take(desk, s, &mut branch.card, s.line_card_at(number, line, 0));
+            for (at, branch) in run.branches.iter_mut().enumerate() {
+                branch.read = desk[s.read_at(number, at)];
+                take(desk, s, &mut branch.card, s.line_card_at(number, at, 0));
             }
         }
     }
@@ -156,9 +156,9 @@ impl Book {
     }
 
     /// What a step of the job on a line would find; nothing is changed.
-    pub fn find_step(&self, run: usize, job: usize, line: usize) -> StepFound {
+    pub fn find_step(&self, run: usize, job: usize, branch: usize) -> StepFound {
         let (run, job) = (&self.runs[run], &self.runs[run].jobs[job]);
-        let card = &run.branches[line].card;
+        let card = &run.branches[branch].card;
         let lacking = |copies: &[Saves], of: u32| of & mask(self.k, |k| copies[k].is_empty());
         let off_card = lacking(card, job.reads);
         let mut shelf = self.shelves[job.office].clone();

@@ -94,11 +94,11 @@ impl Told {
     }
 
     pub fn step(&mut self, row: &mut Row, call: &Call, run: usize, step: Stepped, from: &[u32]) {
-        let (office, line) = (step.office, step.line);
-        let found = self.book.find_step(run, step.job, line);
+        let (office, branch) = (step.office, step.branch);
+        let found = self.book.find_step(run, step.job, branch);
         self.book.feed(call, true);
         let reads = from.iter().fold(0, |all, sheets| all | sheets);
-        let had = &mut self.had[run][line];
+        let had = &mut self.had[run][branch];
         for k in sheets(reads) {
             if had.read_at(k).is_none() {
                 had.reads.push((k, row.line));
@@ -115,7 +115,7 @@ impl Told {
             let (lane, sheets) = (Lane::Run(run), from[0]);
             row.arrows.push(Arrow { kind: Kind::Card, from: lane, to: lane, sheets });
         }
-        let card = &self.book.runs[run].branches[line].card;
+        let card = &self.book.runs[run].branches[branch].card;
         row.versions = self.versions(card, reads);
         let job = self.job(run, step);
         row.words = match reads {

@@ -72,7 +72,7 @@ pub fn text(history: &History, parts: &[Part]) -> String {
 fn breaker(broken: &Broken) -> String {
     let run = broken.run;
     match &broken.step {
-        Some(step) if step.line == 0 => {
+        Some(step) if step.branch == 0 => {
             format!("job {} of run {run}, at office {},", step.job, step.office)
         }
         Some(step) => {
@@ -180,7 +180,7 @@ fn break_json((row, broken, issues): Break) -> Json {
         members.extend([
             ("job", Json::Number(step.job)),
             ("office", Json::Number(step.office)),
-            ("line_of_run", Json::Number(step.line)),
+            ("line_of_run", Json::Number(step.branch)),
         ]);
     }
     members.extend([

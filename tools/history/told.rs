@@ -43,7 +43,7 @@ impl Had {
 pub struct Stepped {
     pub job: usize,
     pub office: usize,
-    pub line: usize,
+    pub branch: usize,
 }
 
 /// A sheet that was put on a card.
@@ -108,30 +108,30 @@ impl Told {
 
     /// The run and the job that a call steps or explains, if it isn't refused.
     fn stepped(&self, call: &Call, answer: &Answer) -> Option<(usize, Stepped)> {
-        let (Call::Step(run, job, line) | Call::Explain(run, job, line)) = call else {
+        let (Call::Step(run, job, branch) | Call::Explain(run, job, branch)) = call else {
             return None;
         };
         if matches!(answer, Answer::Refused(_)) {
             return None;
         }
-        let (run, job, line) = (*run as usize, *job as usize, *line as usize);
+        let (run, job, branch) = (*run as usize, *job as usize, *branch as usize);
         let office = self.book.runs[run].jobs[job].office;
-        Some((run, Stepped { job, office, line }))
+        Some((run, Stepped { job, office, branch }))
     }
 
     /// A run's line in words: the run alone, unless it is forked.
-    pub fn who(&self, run: usize, line: usize) -> String {
+    pub fn who(&self, run: usize, branch: usize) -> String {
         match self.book.runs[run].is_forked {
-            true => format!("line {line} of run {run}"),
+            true => format!("line {branch} of run {run}"),
             false => format!("run {run}"),
         }
     }
 
     /// A job as a sentence begins with it.
     pub fn job(&self, run: usize, step: Stepped) -> String {
-        let (job, line) = (step.job, step.line);
+        let (job, branch) = (step.job, step.branch);
         match self.book.runs[run].is_forked {
-            true => format!("Job {job} of run {run}, on line {line},"),
+            true => format!("Job {job} of run {run}, on line {branch},"),
             false => format!("Job {job} of run {run}"),
         }
     }
@@ -221,7 +221,7 @@ impl Told {
     }
 
     fn broken(&mut self, row: &mut Row, call: &Call, run: usize, step: Stepped, mask: u32) {
-        let sheets = self.book.find_step(run, step.job, step.line).off_card;
+        let sheets = self.book.find_step(run, step.job, step.branch).off_card;
         self.runs[run] = State::Broken;
         self.book.feed(call, false);
         let remedy = remedy::remedy(&self.book, run, mask);
