@@ -166,7 +166,7 @@ trial_script() {
 trial_remedies() {
   grep -q 'for every office of the run' docs/USER.md || bad "the page doesn't say for which offices to fetch"
   build_generate
-  for seed in {1..150}; do target/reference/generate "$seed" 250 >"$work/$seed.script"; done 2>"$work/err"
+  for seed in {1..200}; do target/reference/generate "$seed" 250 >"$work/$seed.script"; done 2>"$work/err"
   python3 tests/remedies.py "$program" "$work"/*.script || bad "tests/remedies.py"
 }
 
