@@ -17,7 +17,7 @@ use Rattle.model.specs.Store.{Run, Store, withJobDone}
 use Rattle.model.specs.Outcome.{unless}
 use Rattle.model.specs.Calls.{openRun, fetch, evict, prepare, step, issue, dropRun, allow, pick, mayhold, maysave, fork, join, ask}
 use Rattle.layout.specs.Reading.{storeOf}
-use Rattle.layout.specs.Calls.{Call, new, on, callOn, leaves, isOk}
+use Rattle.layout.specs.Calls.{Call, new, audit, on, callOn, leaves, isOk}
 use Rattle.booked.specs.Prepared.{disturbs, untouched, bookedCause, ranOn, prepared, Read, readOff, stepsOf, noted, readBy, leftOut, without, Booked, Independent}
 use Rattle.booked.proofs.Offices.{mayHoldAfter}
 use Rattle.booked.proofs.Carried.{causeBy, runAfter}
@@ -32,6 +32,7 @@ pub data Steps : Call → Type 0 where
 pub steps-view : (c : Call) → Steps c
 unfolding stepsOf
 steps-view (new k w n q) = noStep (λ p. refl)
+steps-view (audit v) = noStep (λ p. refl)
 steps-view (on (openRun q l)) = noStep (λ p. refl)
 steps-view (on (fetch o k)) = noStep (λ p. refl)
 steps-view (on (evict o k)) = noStep (λ p. refl)

@@ -22,9 +22,9 @@ use Rattle.model.specs.Calls.{StoreCall, prepare, step, ruleOf}
 use Rattle.model.proofs.Outcomes.{unless-cases}
 use Rattle.layout.specs.Reading.{storeOf}
 use Rattle.layout.specs.Buffer.{inForm}
-use Rattle.layout.specs.Calls.{Call, new, on, newCause, newOn, callOn, leaves, isOk, after}
+use Rattle.layout.specs.Calls.{Call, new, audit, on, newCause, newOn, callOn, leaves, isOk, after}
 use Rattle.layout.proofs.Follow.{form-fine}
-use Rattle.layout.proofs.Forms.{form-rule, form-kept, left-store}
+use Rattle.layout.proofs.Forms.{form-rule, form-kept, left-store, audit-leaves}
 use Rattle.layout.proofs.Rules.{rule-kept}
 use Rattle.consistency.specs.Trace.{follow}
 use Rattle.consistency.proofs.Theorem.{began-consistent}
@@ -51,6 +51,7 @@ new-refused k w n p l =
 -- What offices may hold after a call that doesn't begin the desk anew.
 unfoldable pub mayHoldBy : Counts → Call → (ℕ → ℕ) → ℕ → ℕ
 mayHoldBy z (new k w n p) right = right
+mayHoldBy z (audit v) right = right
 mayHoldBy z (on c) right = mayHoldAfter z c right
 
 module _ (r : ℕ) (l : List ℕ) (R : CarriedAt r l) where
@@ -69,6 +70,7 @@ module _ (r : ℕ) (l : List ℕ) (R : CarriedAt r l) where
       ≡ runAfter (s .counts) r (s .tail .mayHold) (stepsOf r c) (s .run r)
   unfolding disturbs stepsOf runAfter
   call-run (new k w n p) e = rw (new-refused k w n p l e) refl
+  call-run (audit v) e = rw (audit-leaves v l) refl
   call-run (on c) e =
       rw (left-store c l (R .formed))
       (rule-run r (storeOf l) (form-fine l (R .formed)) (R .carried) c (rule-quiet c e))
@@ -78,12 +80,14 @@ module _ (r : ℕ) (l : List ℕ) (R : CarriedAt r l) where
       ≡ mayHoldBy (s .counts) c (s .tail .mayHold)
   unfolding disturbs mayHoldBy
   call-mayhold (new k w n p) e = rw (new-refused k w n p l e) refl
+  call-mayhold (audit v) e = rw (audit-leaves v l) refl
   call-mayhold (on c) e = rw (left-store c l (R .formed)) (rule-mayhold c (storeOf l))
 
   pub call-counts : (c : Call) → Quiet c
       → storeOf (leaves (callOn c l) l) .counts ≡ storeOf l .counts
   unfolding disturbs
   call-counts (new k w n p) e = rw (new-refused k w n p l e) refl
+  call-counts (audit v) e = rw (audit-leaves v l) refl
   call-counts (on c) e =
       rw (left-store c l (R .formed))
       (rule-kept c (storeOf l) (form-fine l (R .formed)) .counts)
@@ -91,6 +95,7 @@ module _ (r : ℕ) (l : List ℕ) (R : CarriedAt r l) where
   pub call-carried : (c : Call) → Quiet c → CarriedAt r (leaves (callOn c l) l)
   unfolding disturbs
   call-carried (new k w n p) e = rw (new-refused k w n p l e) R
+  call-carried (audit v) e = rw (audit-leaves v l) R
   call-carried (on c) e = record {
     formed = form-kept c l (R .formed);
     carried = rw (left-store c l (R .formed))

@@ -22,7 +22,7 @@ use Rattle.model.specs.Step.{jobCause}
 use Rattle.model.specs.Calls.{StoreCall, openRun, fetch, evict, prepare, step, issue, dropRun, allow, pick, mayhold, maysave, fork, join, ask}
 use Rattle.layout.specs.Reading.{storeOf}
 use Rattle.layout.specs.Buffer.{inForm}
-use Rattle.layout.specs.Calls.{Call, new, on, callOn, leaves, isOk, after}
+use Rattle.layout.specs.Calls.{Call, new, audit, on, callOn, leaves, isOk, after}
 use Rattle.consistency.specs.Trace.{Trace, follow}
 use Rattle.consistency.specs.Claim.{Began}
 
@@ -50,6 +50,7 @@ unsettles r (ask q) = false
 -- Or begins the desk anew.
 unfoldable pub disturbs : ℕ → Call → Bool
 disturbs r (new k w n p) = true
+disturbs r (audit v) = false
 disturbs r (on c) = unsettles r c
 
 -- No call of the list that disturbs run r is accepted; refused ones may stand in it.
@@ -141,6 +142,7 @@ readOff a j n = record {
 -- The job of run p, and the line, that a call steps, if it does.
 unfoldable pub stepsOf : ℕ → Call → Option (ℕ × ℕ)
 stepsOf p (new k w n q) = none
+stepsOf p (audit v) = none
 stepsOf p (on (openRun q l)) = none
 stepsOf p (on (fetch o k)) = none
 stepsOf p (on (evict o k)) = none

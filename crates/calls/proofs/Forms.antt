@@ -19,13 +19,13 @@ use Rattle.answers.specs.Answers.{maxAnswer, answerRoom, over, Lays, answeredWo
 use Rattle.model.specs.Outcome.{Outcome, refused, broken, done, told, answer}
 use Rattle.model.specs.Calls.{StoreCall, Query, openRun, ask}
 use Rattle.layout.specs.Buffer.{inForm}
-use Rattle.layout.specs.Calls.{Call, new, on, newCause, callOn, leaves, isOk}
+use Rattle.layout.specs.Calls.{Call, new, audit, on, newCause, callOn, leaves, isNew, isOk}
 use Rattle.layout.proofs.Follow.{fine-form}
-use Rattle.layout.proofs.Forms.{no-form, form-kept, ask-leaves}
+use Rattle.layout.proofs.Forms.{no-form, form-kept, audit-leaves, ask-leaves}
 use Rattle.layout.proofs.Rules.{new-fine, new-done, new-refused}
 use Rattle.command.specs.declared.Command.{Command}
 use Rattle.command.specs.Commands.{spelled}
-use Rattle.calls.specs.Performs.{Does, Exported, TurnedDown, Made, MadeOf}
+use Rattle.calls.specs.Performs.{asksNew, Does, Exported, TurnedDown, Made, MadeOf}
 
 -- ---- one call
 
@@ -134,8 +134,9 @@ pub ruleset exports = (
 -- ---- the form of the buffer after a call
 
 pub call-form : (c : Call) (l : List ℕ)
-    → inForm l || isOk (callOn c l) ≡ inForm (leaves (callOn c l) l)
-unfolding leaves isOk callOn
+    → inForm l || (isNew c && isOk (callOn c l)) ≡ inForm (leaves (callOn c l) l)
+unfolding leaves isOk isNew callOn
+call-form (audit v) l = rw (audit-leaves v l) (or-false-right (inForm l))
 call-form (on c) l =
     test (inForm l) (λ yes. rw yes (sym (form-kept c l yes)))
     (λ no. rw (no-form c l no) (or-false-right (inForm l)))
@@ -157,9 +158,9 @@ first-ok (done b s) a = rw (lt-ltb 0 (suc (length b)) (omega arith))
 first-ok (told w b) a = rw (lt-ltb 0 (suc (length b)) (omega arith))
 
 pub made-form : (o : Option Call) (l m a b : List ℕ) (n : ℕ) → Made o l m a b n
-    → inForm l || (ltb 0 n && eqb (getD b 0 0) 0) ≡ inForm m
-unfolding Made
-made-form none l m a b n (e, f, g) = rw (g, e) (or-false-right (inForm l))
+    → inForm l || (asksNew o && (ltb 0 n && eqb (getD b 0 0) 0)) ≡ inForm m
+unfolding Made asksNew
+made-form none l m a b n (e, f, g) = rw e (or-false-right (inForm l))
 made-form (some c) l m a b n d =
     rw (d .changes, d .answers .count, d .answers .laid, first-ok (callOn c l) a)
     (call-form c l)

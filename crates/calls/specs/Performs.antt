@@ -1,8 +1,9 @@
 -- A call that is made: the words of its answer, the buffer after it, and whether that is in form.
--- Does, Exported: one call. TurnedDown: one that isn't made. Made, Performs: what a command asks
--- for, which may be no call.
+-- Does, Exported: one call. TurnedDown: one that isn't made. asksNew, TellsNew: whether it is new.
+-- Made, Performs: what a command asks for, which may be no call.
 -- Assumes nothing.
 use mathlib.Core.Path.{_≡_}
+use mathlib.Core.Bool.{Bool, false}
 use mathlib.Core.List.{List, [], _∷_}
 use mathlib.Core.Option.{Option, none, some}
 use Prim.Native.Nat.{ℕ, _≤_, _<_}
@@ -10,7 +11,7 @@ use lib.ListN.{length}
 use Rattle.answers.specs.Answers.{maxAnswer, answerRoom, Lays}
 use Rattle.model.specs.Outcome.{answer}
 use Rattle.layout.specs.Buffer.{inForm}
-use Rattle.layout.specs.Calls.{Call, callOn, leaves}
+use Rattle.layout.specs.Calls.{Call, callOn, leaves, isNew}
 use Rattle.command.specs.declared.Command.{Command}
 use Rattle.command.specs.Commands.{spelled}
 use Rattle.calls.specs.declared.Performed.{Performed}
@@ -31,6 +32,15 @@ pub record Exported (c : Call) (l m a b : List ℕ) (n : ℕ) : Type 0 where
 pub record TurnedDown (a b : List ℕ) (n : ℕ) : Type 0 where
   pub laid : answerRoom ≤ length a → Lays (2 ∷ 1 ∷ []) a b n
   pub short : length a < answerRoom → (n ≡ 0) × (b ≡ a)
+
+-- What is asked for is new.
+unfoldable pub asksNew : Option Call → Bool
+asksNew none = false
+asksNew (some c) = isNew c
+
+-- b says whether command k asks for new, whatever its numbers.
+abbrev pub TellsNew : Command → Bool → Type 0
+TellsNew k b = (ws : List ℕ) → b ≡ asksNew (spelled k ws)
 
 -- No call: nothing is changed, and there are no words.
 unfoldable pub Made : Option Call → List ℕ → List ℕ → List ℕ → List ℕ → ℕ → Type 0

@@ -30,7 +30,7 @@ ghost use lib.ListN.{length};
 ghost use Rattle.answers.specs.Answers.{answerRoom};
 ghost use Rattle.layout.specs.Buffer.{inForm};
 ghost use Rattle.command.specs.Commands.{spelled, numbersEnd};
-ghost use Rattle.calls.specs.Performs.{MadeOf, Performs};
+ghost use Rattle.calls.specs.Performs.{TellsNew, MadeOf, Performs};
 
 // Whether the buffer is in form after a call, and how many words its answer has.
 pub struct Performed {
@@ -69,8 +69,18 @@ fn make(store: &mut [u32], ready: bool, command: Command, numbers: &[u32], out: 
     }
 }
 
+// Whether a command is new.
+fn is_new(command: Command) -> bool
+    ensures { λ b. ⌜ TellsNew command b ⌝ }
+{
+    match command {
+        Command::New(_, _, _, _) => true,
+        _ => false,
+    }
+}
+
 // Makes the call of a command on a buffer of which it is known whether it is in form: this is the
-// program's way, which tests no buffer. An accepted call leaves a buffer in form.
+// program's way, which tests no buffer. New alone makes a buffer in form of one that isn't.
 pub fn perform(
     store: &mut [u32],
     ready: bool,
@@ -87,7 +97,7 @@ pub fn perform(
     let count = wide(make(store, ready, command, numbers, answer));
     let accepted = (0 < count) & (answer[0] == 0);
     Performed {
-        ready: ready | accepted,
+        ready: ready | (is_new(command) & accepted),
         count,
     }
 }

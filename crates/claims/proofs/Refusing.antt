@@ -22,11 +22,12 @@ use Rattle.model.specs.Calls.Pick.{pickTurn, pickedRun, pickDone, pickRule}
 use Rattle.model.specs.Calls.Look.{lookCause, lookReply}
 use Rattle.model.specs.Calls.Explain.{explainReply}
 use Rattle.model.specs.Calls.Stale.{staleCause, staleReply}
+use Rattle.model.specs.Calls.Audit.{unreadable, judged, auditReply}
 use Rattle.model.specs.Calls.Admit.{admitCause, admitReply}
 use Rattle.model.specs.Calls.{Query, look, explain, stale, admit, StoreCall, openRun, fetch, evict, prepare, step, issue, dropRun, allow, pick, mayhold, maysave, fork, join, ask, replyOf, ruleOf}
 use Rattle.layout.specs.Reading.{storeOf}
 use Rattle.layout.specs.Buffer.{inForm}
-use Rattle.layout.specs.Calls.{Call, new, on, newCause, newOn, onStore, callOn}
+use Rattle.layout.specs.Calls.{Call, new, audit, on, newCause, newOn, onStore, callOn}
 use Rattle.claims.specs.Refusals.{isOneOf, askedRefusals, storeRefusals, refusalsOf, RefusedAsListed, ElevenAlone}
 
 -- ---- rows of the refusal table
@@ -173,10 +174,13 @@ rule-listed (ask q) s n e = by-cause _ n _ _ (taken _ refl) (asked q s) e
 -- ---- on any buffer
 
 pub refused-as-listed : RefusedAsListed
-unfolding callOn newOn newCause onStore refusalsOf
+unfolding callOn auditReply replied unless newOn newCause onStore refusalsOf
 refused-as-listed (new k w n p) l m e =
     by-cause _ m _ (2 ∷ 1 ∷ []) (taken _ refl)
     (row _ _ _ refl (row _ _ _ refl none)) e .is
+refused-as-listed (audit unreadable) l m e =
+    subst (λ (i : ℕ). So (isOneOf i (15 ∷ []))) (ap number e) refl
+refused-as-listed (audit (judged n)) l m e = absurd (taken _ refl m e)
 refused-as-listed (on c) l m e =
     test (inForm l)
     (λ y. or-right (eqb m 1) (rule-listed c (storeOf l) m
@@ -187,6 +191,7 @@ refused-as-listed (on c) l m e =
 pub eleven-alone : ElevenAlone
 unfolding refusalsOf storeRefusals askedRefusals
 eleven-alone (new k w n p) l e = clash (refused-as-listed (new k w n p) l 11 e) refl
+eleven-alone (audit v) l e = clash (refused-as-listed (audit v) l 11 e) refl
 eleven-alone (on (openRun r j)) l e = clash (refused-as-listed (on (openRun r j)) l 11 e) refl
 eleven-alone (on (fetch o k)) l e = clash (refused-as-listed (on (fetch o k)) l 11 e) refl
 eleven-alone (on (evict o k)) l e = clash (refused-as-listed (on (evict o k)) l 11 e) refl

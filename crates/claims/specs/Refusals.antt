@@ -9,7 +9,7 @@ use Prim.Native.Nat.{ℕ}
 use lib.Dec.{eqb}
 use Rattle.model.specs.Outcome.{refused}
 use Rattle.model.specs.Calls.{Query, look, explain, stale, admit, StoreCall, openRun, fetch, evict, prepare, step, issue, dropRun, allow, pick, mayhold, maysave, fork, join, ask}
-use Rattle.layout.specs.Calls.{Call, new, on, callOn}
+use Rattle.layout.specs.Calls.{Call, new, audit, on, callOn}
 use Rattle.consistency.specs.Roles.{prepares, finishes, forks, joins, Role, opening, working, freeing, elsewhere, roleOf}
 use Rattle.consistency.specs.Claim.{isBroken}
 
@@ -42,6 +42,7 @@ storeRefusals (ask q) = askedRefusals q
 
 unfoldable pub refusalsOf : Call → List ℕ
 refusalsOf (new k w n p) = 2 ∷ 1 ∷ []
+refusalsOf (audit v) = 15 ∷ []
 refusalsOf (on c) = 1 ∷ storeRefusals c
 
 abbrev pub RefusedAsListed : Type 0

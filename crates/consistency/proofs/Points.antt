@@ -10,14 +10,15 @@ use Rattle.words.proofs.Bools.{and-left}
 use Rattle.sizes.specs.Bounds.{countsOf}
 use Rattle.sizes.specs.declared.Counts.{Counts}
 use Rattle.model.specs.Store.{Store, fresh}
-use Rattle.model.specs.Outcome.{Outcome, refused, broken, done, told}
+use Rattle.model.specs.Outcome.{Outcome, refused, broken, done, told, unless, replied}
 use Rattle.model.specs.Form.{wellFormed}
+use Rattle.model.specs.Calls.Audit.{Verdict, unreadable, judged, auditReply}
 use Rattle.model.specs.Calls.{StoreCall, admit, ask, ruleOf}
 use Rattle.model.proofs.Outcomes.{nextStore}
 use Rattle.model.proofs.Admits.{admissible-out}
 use Rattle.layout.specs.Reading.{storeOf}
 use Rattle.layout.specs.Buffer.{written, shaped, inForm}
-use Rattle.layout.specs.Calls.{Call, new, on, newCause, newOn, callOn, leaves, isOk}
+use Rattle.layout.specs.Calls.{Call, new, audit, on, newCause, newOn, callOn, leaves, isOk}
 use Rattle.layout.proofs.Whole.{store-kept, store-back}
 use Rattle.layout.proofs.Follow.{Fine, fine-rule, fine-leaves, form-fine}
 use Rattle.layout.proofs.Rules.{rule-kept, new-fine, new-done, new-refused}
@@ -86,6 +87,24 @@ again-at k w n p t A =
       | no e ↦ rw (new-refused (t .buffer) z e) A
     ]
 
+-- An audit changes nothing.
+audit-at : (v : Verdict) (t : Trace) → At t → At (advance (audit v) t)
+unfolding advance callOn auditReply replied unless bookStep bookOk isOk leaves finish
+audit-at unreadable t A = record {
+  store = A .store;
+  base = A .base;
+  holds = A .holds;
+  fine = A .fine;
+  inv = A .inv;
+}
+audit-at (judged n) t A = record {
+  store = A .store;
+  base = A .base;
+  holds = A .holds;
+  fine = A .fine;
+  inv = A .inv;
+}
+
 -- ---- lists
 
 pub start-at : (z : Counts) (l : List ℕ) → So (isOk (newOn l z)) → At (start z l)
@@ -113,6 +132,7 @@ admitted-at l ok =
 
 pub advance-at : (c : Call) (t : Trace) → At t → At (advance c t)
 advance-at (new k w n p) t A = again-at k w n p t A
+advance-at (audit v) t A = audit-at v t A
 advance-at (on c) t A = call-at c t (A .store) (A .base) (A .holds) (A .fine) (A .inv)
 
 pub follow-at : (cs : List Call) (t : Trace) → At t → At (follow cs t)

@@ -15,7 +15,7 @@ use Rattle.model.specs.Algebra.{Place}
 use Rattle.model.specs.Version.{Version}
 use Rattle.model.specs.Store.{Branch, forkedMark, branchOf, Store}
 use Rattle.layout.specs.Reading.{storeOf}
-use Rattle.layout.specs.Calls.{Call, new, on, callOn, leaves, isOk, newOn}
+use Rattle.layout.specs.Calls.{Call, new, audit, on, callOn, leaves, isOk, newOn}
 use Rattle.history.specs.Listing.{BookCopy}
 use Rattle.history.specs.Book.{bookBranch, Book, freshBook, bookStep}
 use Rattle.history.specs.Admission.{admittedPlace, admittedBook}
@@ -101,6 +101,7 @@ finishBy elsewhere s b f = f
 
 unfoldable pub finish : Call → Store → Book → (ℕ → List ReadSet) → ℕ → List ReadSet
 finish (new k w n p) s b f = λ r. []
+finish (audit v) s b f = f
 finish (on c) s b f = finishBy (roleOf c) s b f
 
 -- One call. The book gets the call, and whether it was answered ok.

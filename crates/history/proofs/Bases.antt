@@ -6,7 +6,7 @@ use mathlib.Core.Bool.{Bool, true, false}
 use lib.Dec.{eqb}
 use Rattle.words.proofs.Bools.{test}
 use Rattle.model.specs.Calls.{StoreCall, openRun, fetch, evict, prepare, step, issue, dropRun, allow, pick, mayhold, maysave, fork, join, ask}
-use Rattle.layout.specs.Calls.{Call, new, on}
+use Rattle.layout.specs.Calls.{Call, new, audit, on}
 use Rattle.history.specs.Listing.{noBase}
 use Rattle.history.specs.Book.{Book, freshBook, withBookCaches, withBookRun, bookOpen, bookFetch, bookEvict, bookMayhold, bookPrepare, bookStepJob, bookFork, bookJoin, bookIssue, bookIssued, bookRule, bookOk, bookStep}
 
@@ -33,4 +33,5 @@ pub step-base : (c : Call) (ok : Bool) (b : Book) → b .base ≡ noBase
 unfolding bookStep bookOk freshBook
 step-base c false b e = e
 step-base (new k w n p) true b e = refl
+step-base (audit v) true b e = e
 step-base (on c) true b e = rule-base c b ∙ e

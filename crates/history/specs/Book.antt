@@ -21,7 +21,7 @@ use Rattle.model.specs.Step.{readStart}
 use Rattle.model.specs.Calls.Rights.{takenAway}
 use Rattle.model.specs.Calls.Fork.{joinedPlace}
 use Rattle.model.specs.Calls.{StoreCall, openRun, fetch, evict, prepare, step, issue, dropRun, allow, pick, mayhold, maysave, fork, join, ask}
-use Rattle.layout.specs.Calls.{Call, new, on}
+use Rattle.layout.specs.Calls.{Call, new, audit, on}
 use Rattle.history.specs.History.{Issue, History, inPast}
 use Rattle.history.specs.Listing.{Base, noBase, BookCopy, plainCopy, mergeBook, bookCopies, readCopy}
 use Rattle.history.specs.Lists.{listOf}
@@ -228,6 +228,7 @@ bookRule (ask q) b = b
 
 unfoldable pub bookOk : Call → Book → Book
 bookOk (new k w n p) b = freshBook (countsOf k w n p)
+bookOk (audit v) b = b
 bookOk (on c) b = bookRule c b
 
 -- "Not ok, or look: nothing changes."

@@ -11,10 +11,11 @@ use Prim.Native.Nat.{ℕ}
 use Rattle.words.proofs.Bools.{test, ne-eqb}
 use Rattle.model.specs.Store.{Store}
 use Rattle.model.specs.Outcome.{Outcome, refused, broken, done, told, unless, Reply, replied}
+use Rattle.model.specs.Calls.Audit.{Verdict, auditReply}
 use Rattle.model.specs.Calls.{StoreCall, Query, ask, replyOf, ruleOf}
 use Rattle.layout.specs.Reading.{storeOf}
 use Rattle.layout.specs.Buffer.{inForm}
-use Rattle.layout.specs.Calls.{on, onStore, callOn, leaves}
+use Rattle.layout.specs.Calls.{audit, on, onStore, callOn, leaves}
 use Rattle.model.proofs.Outcomes.{nextStore, replied-cases, replied-told, replied-refused}
 use Rattle.layout.proofs.Whole.{store-back}
 use Rattle.layout.proofs.Follow.{Fine, fine-form, form-fine}
@@ -75,6 +76,11 @@ module _ (c : StoreCall) (l : List ℕ) where
 pub replied-leaves : (a : Reply) (l : List ℕ) → leaves (replied a) l ≡ l
 unfolding leaves
 replied-leaves a l = replied-cases (λ x. leaves x l ≡ l) a refl refl
+
+-- An audit leaves any buffer.
+pub audit-leaves : (v : Verdict) (l : List ℕ) → leaves (callOn (audit v) l) l ≡ l
+unfolding callOn
+audit-leaves v l = replied-leaves (auditReply v) l
 
 module _ (q : Query) (l : List ℕ) where
   ask-rule : So (inForm l) → callOn (on (ask q)) l ≡ replied (replyOf q (storeOf l))

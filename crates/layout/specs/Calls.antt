@@ -9,13 +9,15 @@ use lib.ListN.{length}
 use Rattle.sizes.specs.Bounds.{ranged, countsOf, totalOf}
 use Rattle.sizes.specs.declared.Counts.{Counts}
 use Rattle.model.specs.Store.{Store, fresh}
-use Rattle.model.specs.Outcome.{Outcome, refused, broken, done, told, refuse, unless}
+use Rattle.model.specs.Outcome.{Outcome, refused, broken, done, told, refuse, unless, replied}
+use Rattle.model.specs.Calls.Audit.{Verdict, auditReply}
 use Rattle.model.specs.Calls.{StoreCall, ruleOf}
 use Rattle.layout.specs.Reading.{storeOf}
 use Rattle.layout.specs.Buffer.{written, inForm}
 
 pub data Call : Type 0 where
   new : ℕ → ℕ → ℕ → ℕ → Call  -- K, W, N, P
+  audit : Verdict → Call  -- what its record is found to be (CR 14): it needs no desk
   on : StoreCall → Call  -- any other
 
 -- "New tests 2 before 1."
@@ -36,6 +38,7 @@ onStore l rule = cond (inForm l) (rule (storeOf l)) (refused 1)
 
 unfoldable pub callOn : Call → List ℕ → Outcome
 callOn (new k w n p) l = newOn l (countsOf k w n p)
+callOn (audit v) l = replied (auditReply v)
 callOn (on c) l = onStore l (ruleOf c)
 
 -- The buffer after it: a refusal leaves every word, and so does a call that only answers.
@@ -44,6 +47,12 @@ leaves (refused n) l = l
 leaves (broken m s) l = written s l
 leaves (done a s) l = written s l
 leaves (told w a) l = l
+
+-- The call is new, which alone makes a buffer in form of one that isn't.
+unfoldable pub isNew : Call → Bool
+isNew (new k w n p) = true
+isNew (audit v) = false
+isNew (on c) = false
 
 -- Answered `ok`.
 unfoldable pub isOk : Outcome → Bool

@@ -1,6 +1,6 @@
 -- The calls of documents 01 and 02 with their arguments, and the rule of each on a store.
 -- Query, replyOf: those that only answer. StoreCall, ruleOf: all on a store.
--- New alone needs no store: crate layout has it, and the calls on a buffer.
+-- New and audit need no store: they come with the calls on a buffer, in crate layout.
 -- Assumes nothing.
 pub mod Look
 pub mod Explain
@@ -10,6 +10,7 @@ pub mod Allow
 pub mod Pick
 pub mod Rights
 pub mod Fork
+pub mod Audit
 use mathlib.Core.List.{List}
 use Prim.Native.Nat.{ℕ}
 use Rattle.model.specs.Store.{Store}

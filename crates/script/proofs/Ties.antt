@@ -14,8 +14,8 @@ use Rattle.words.proofs.Bools.{test}
 use Rattle.sizes.specs.Bounds.{countsOf, between, ranged}
 use Rattle.layout.specs.Reading.{countsIn}
 use Rattle.layout.specs.Buffer.{shaped, inForm}
-use Rattle.layout.specs.Calls.{Call, new, on, newCause, newOn, callOn, leaves, isOk, after}
-use Rattle.layout.proofs.Forms.{no-form}
+use Rattle.layout.specs.Calls.{Call, new, audit, on, newCause, newOn, callOn, leaves, isOk, after}
+use Rattle.layout.proofs.Forms.{no-form, audit-leaves}
 use Rattle.layout.proofs.Rules.{new-done, new-refused}
 use Rattle.consistency.specs.Trace.{start}
 use Rattle.consistency.proofs.Rows.{after-append, follow-buffer}
@@ -36,6 +36,9 @@ begun-after l bad [] = unchanged refl refl
 begun-after l bad (on c ∷ ds) =
     rw (no-form c l bad)
     (begun-more l (on c) ds (after ds l) (rw (no-form c l bad)) (begun-after l bad ds))
+begun-after l bad (audit v ∷ ds) =
+    rw (audit-leaves v l)
+    (begun-more l (audit v) ds (after ds l) (audit-leaves v l) (begun-after l bad ds))
 begun-after l bad (new k w n p ∷ ds) =
     let z = countsOf k w n p in
     elim (ℕ-discrete (newCause l z) 0) [

@@ -1,4 +1,4 @@
--- `perform` makes the command; an accepted call leaves a buffer in form.
+-- `perform` makes the command; an accepted new leaves a buffer in form.
 -- Assumes nothing.
 use borrow.Author.Needs.{needs}
 use Rattle.calls.specs.Performs.{MadeOf}
@@ -9,10 +9,11 @@ use Rattle.calls.proofs.perform.Tie as tie
 returns : tie.Need-returns
 unfolding MadeOf
 returns c =
-    let m = c .before .before .before .before .before .before in
+    let m = c .before .before .before .before .before .before .before in
     let s = m .before .before .before .before .before .before in
     let e = m .make .ensures in
-    rw (c .before .wide .ensures) (e, rw (← s .pre .0) at (made-form _ _ _ _ _ _ e))
+    rw (c .before .before .wide .ensures, c .is-new .ensures (s .args .numbers .now))
+    (e, rw (← s .pre .0) at (made-form _ _ _ _ _ _ e))
 
 pub perform-spec : {M : Type 1} → statement M
 perform-spec =
@@ -20,6 +21,7 @@ perform-spec =
     (tie.spec
     (λ c κs. search needs)
     (λ c κs. search needs)
+    (λ c. search needs)
     (λ c. search needs)
     (λ c. search needs)
     (λ c. search needs)
