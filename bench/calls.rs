@@ -1,9 +1,9 @@
-//! What each of the calls costs: the static library against the reference, on the same
-//! desks, in one run, in turns.
+//! What each of the calls costs, and eight steps beside their forecast: the static library against
+//! the reference, on the same desks, in one run, in turns.
 //!
 //! `calls`: a row for each call and size: median nanoseconds of both, and the ratio's least,
 //! median and largest of all rounds; then how the library's cost grows with K, W, N and P.
-//! `calls --count K W N P`: each call once on each side, inside `counted_library` and
+//! `calls --count K W N P`: each case once on each side, inside `counted_library` and
 //! `counted_reference`, for a tool that counts instructions.
 #![allow(dead_code)]
 
@@ -82,9 +82,9 @@ fn count(sizes: [u32; 4]) {
     for case in desks::cases(sizes) {
         rounds::check(&case);
         let (mut mine, mut theirs) = (case.words.clone(), case.words.clone());
-        let mut answer = [0; 40];
-        counted_library(&mut mine, &case.call, &mut answer);
-        counted_reference(&mut theirs, &case.call);
+        let mut lent = rounds::Lent::beside(&mine);
+        counted_library(&mut mine, &case, &mut lent);
+        counted_reference(&mut theirs, &case, &mut lent);
         assert!(mine == theirs, "{}: the two differ", case.name());
         println!("{}", case.name());
     }
@@ -92,12 +92,16 @@ fn count(sizes: [u32; 4]) {
 
 #[inline(never)]
 #[no_mangle]
-fn counted_library(words: &mut [u32], call: &text::Call, answer: &mut [u32]) -> u32 {
-    library::call(words, call, answer)
+fn counted_library(words: &mut [u32], case: &desks::Case, lent: &mut rounds::Lent) -> u32 {
+    rounds::by_library(words, case, lent)
 }
 
 #[inline(never)]
 #[no_mangle]
-fn counted_reference(words: &mut [u32], call: &text::Call) -> desk::Answer {
-    text::run(words, call)
+fn counted_reference(
+    words: &mut [u32],
+    case: &desks::Case,
+    lent: &mut rounds::Lent,
+) -> desk::Answer {
+    rounds::by_reference(words, case, lent)
 }

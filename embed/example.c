@@ -1,5 +1,6 @@
-/* Case A of the specification, an explained break with stale marks, rival saves, rights, two lines
- * and a desk that is read back through the C header; ends with 1 if an answer is not as written. */
+/* Case A of the specification, an explained break with stale marks, rival saves, rights, two lines,
+ * a forecast and a desk that is read back through the C header; ends with 1 if an answer is not as
+ * written. */
 #include <stdio.h>
 #include <string.h>
 
@@ -192,6 +193,41 @@ static void lines(void)
     DUE("issue 0 0 2", sheetdesk_issue(OTHER, 0, 0, 2, ANSWER), SHEETDESK_OK, 3);
 }
 
+/* Office 0 has an older sheet 0 than the one that sheet 1 needs, so a run that reads both would break,
+ * or find no room; once office 0 has fetched again it goes through, and leaves what was foretold. */
+static void foretold(void)
+{
+    static uint32_t other[SHEETDESK_WORDS(2, 1, 2, 1)], scratch[LEN(other)];
+    static const uint32_t empty[] = {0, 0, 0};
+    static const uint32_t two[] = {0, 1, 0, 1, 2, 0};
+    uint32_t save;
+
+    sheetdesk_new(OTHER, 2, 1, 2, 1, ANSWER);
+    for (save = 1; save <= 3; save += 2) {
+        sheetdesk_open(OTHER, 0, empty, LEN(empty), ANSWER);
+        sheetdesk_step(OTHER, 0, 0, ANSWER);
+        sheetdesk_issue(OTHER, 0, 0, save, ANSWER);
+        if (save == 1)
+            sheetdesk_fetch(OTHER, 0, 0, ANSWER);
+    }
+    DUE("forecast of a free run", sheetdesk_forecast(OTHER, scratch, LEN(scratch), 0, ANSWER),
+        SHEETDESK_REFUSED, SHEETDESK_WRONG_STATE);
+    sheetdesk_open(OTHER, 0, two, LEN(two), ANSWER);
+    DUE("forecast, too short", sheetdesk_forecast(OTHER, scratch, LEN(scratch) - 1, 0, ANSWER),
+        SHEETDESK_REFUSED, SHEETDESK_NOT_IN_FORM);
+    DUE("forecast 0", sheetdesk_forecast(OTHER, scratch, LEN(scratch), 0, ANSWER),
+        SHEETDESK_BREAKS, 1, 1);
+    sheetdesk_allow(OTHER, 1, 1, ANSWER);
+    DUE("forecast 0", sheetdesk_forecast(OTHER, scratch, LEN(scratch), 0, ANSWER),
+        SHEETDESK_TURNED, 1, SHEETDESK_OVER_ALLOWANCE);
+    sheetdesk_fetch(OTHER, 0, 0, ANSWER);
+    DUE("forecast 0", sheetdesk_forecast(OTHER, scratch, LEN(scratch), 0, ANSWER),
+        SHEETDESK_THROUGH);
+    DUE("step 0 0", sheetdesk_step(OTHER, 0, 0, ANSWER), SHEETDESK_OK, 0, 1, 0);
+    DUE("step 0 1", sheetdesk_step(OTHER, 0, 1, ANSWER), SHEETDESK_OK, 2, 0, 0);
+    wrong |= memcmp(other, scratch, sizeof other) != 0;
+}
+
 /* A desk that is copied, as to a file and back, is admitted; one whose last issue number is behind
  * isn't, though it is in form and other calls work on it. */
 static void read_back(void)
@@ -219,6 +255,7 @@ int main(void)
     rivals();
     rights();
     lines();
+    foretold();
     puts(wrong ? "example.c: wrong answers" : "example.c: case A answered as written");
     return wrong;
 }

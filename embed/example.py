@@ -1,5 +1,5 @@
-"""Case A of the specification, an explained break with stale marks, rival saves, rights and two lines through the Python
-module; ends with 1 if an answer is not as written."""
+"""Case A of the specification, an explained break with stale marks, rival saves, rights, two lines and a forecast through the
+Python module; ends with 1 if an answer is not as written."""
 import sys
 
 import sheetdesk
@@ -138,6 +138,33 @@ def lines(desk):
     ]
 
 
+def foretold(desk, scratch):
+    """Office 0 has an older sheet 0 than the one that sheet 1 needs, so a run that reads both would break, or find no room; once
+    office 0 has fetched again it goes through."""
+    first = [
+        (desk.new(2, 1, 2, 1), "ok 91"),
+        (desk.open(0, [Job(0, 0, 0)]), "ok 1"),
+        (desk.step(0, 0), "ok 0 0 0"),
+        (desk.issue(0, 0, 1), "ok 1"),
+        (desk.fetch(0, 0), "ok 1"),
+        (desk.open(0, [Job(0, 0, 0)]), "ok 1"),
+        (desk.step(0, 0), "ok 0 0 0"),
+        (desk.issue(0, 0, 3), "ok 2"),
+    ]
+    return first + [
+        (desk.forecast(0), "refused 4"),
+        (desk.open(0, [Job(0, 1, 0), Job(1, 2, 0)]), "ok 2"),
+        (desk.forecast_into(Desk(90), 0), "refused 1"),
+        (desk.forecast(0), "breaks 1 1"),
+        (desk.allow(1, 1), "ok 0"),
+        (desk.forecast(0), "turned 1 12"),
+        (desk.fetch(0, 0), "ok 3"),
+        (desk.forecast_into(scratch, 0), "through"),
+        (desk.step(0, 0), "ok 0 1 0"),
+        (desk.step(0, 1), "ok 2 0 0"),
+    ]
+
+
 def refuses(error, call, *arguments):
     """Whether the module refuses the arguments itself."""
     try:
@@ -152,6 +179,10 @@ def main():
     good = desk.look(MASTER, 0).refusal is Refusal.NOT_IN_FORM
     scripts = case_a(desk) + explained(Desk(words(2, 2, 2, 2))) + rivals(Desk(words(1, 2, 1, 1)))
     scripts += rights(Desk(words(2, 1, 1, 1))) + lines(Desk(words(2, 1, 2, 2)))
+    stepped, scratch = Desk(words(2, 1, 2, 1)), Desk(words(2, 1, 2, 1))
+    scripts += foretold(stepped, scratch)
+    # The steps left what was foretold.
+    good &= stepped.words() == scratch.words() and refuses(ValueError, stepped.forecast_into, stepped, 0)
     for answer, due in scripts:
         if str(answer) != due:
             print("wrong: %s for %s" % (answer, due))

@@ -1,5 +1,5 @@
-//! Case A of the specification, an explained break with stale marks, rival saves, rights and two
-//! lines through the Rust wrapper; ends with 1 if an answer is not as written.
+//! Case A of the specification, an explained break with stale marks, rival saves, rights, two lines
+//! and a forecast through the Rust wrapper; ends with 1 if an answer is not as written.
 
 mod sheetdesk;
 
@@ -146,6 +146,37 @@ fn lines(desk: &mut Desk) -> Vec<(Answer, &'static str)> {
     ]
 }
 
+/// Office 0 has an older sheet 0 than the one that sheet 1 needs.
+fn behind(desk: &mut Desk) -> Vec<(Answer, &'static str)> {
+    vec![
+        (desk.new(2, 1, 2, 1), "ok 91"),
+        (desk.open(0, &[job(0, 0, 0)]), "ok 1"),
+        (desk.step(0, 0), "ok 0 0 0"),
+        (desk.issue(0, 0, 1), "ok 1"),
+        (desk.fetch(0, 0), "ok 1"),
+        (desk.open(0, &[job(0, 0, 0)]), "ok 1"),
+        (desk.step(0, 0), "ok 0 0 0"),
+        (desk.issue(0, 0, 3), "ok 2"),
+    ]
+}
+
+/// So a run that reads both would break, or find no room; once office 0 has fetched again it goes
+/// through.
+fn foretold(desk: &mut Desk, scratch: &mut [u32]) -> Vec<(Answer, &'static str)> {
+    vec![
+        (desk.forecast(0, scratch), "refused 4"),
+        (desk.open(0, &[job(0, 1, 0), job(1, 2, 0)]), "ok 2"),
+        (desk.forecast(0, &mut scratch[1..]), "refused 1"),
+        (desk.forecast(0, scratch), "breaks 1 1"),
+        (desk.allow(1, 1), "ok 0"),
+        (desk.forecast(0, scratch), "turned 1 12"),
+        (desk.fetch(0, 0), "ok 3"),
+        (desk.forecast(0, scratch), "through"),
+        (desk.step(0, 0), "ok 0 1 0"),
+        (desk.step(0, 1), "ok 2 0 0"),
+    ]
+}
+
 /// Rows (2,0) and (1,3) are rivals, and their merge is (2,3), which is newer than (1,3).
 fn clocks() -> bool {
     let mut target = [2, 0];
@@ -194,6 +225,11 @@ fn main() {
     let mut third = [0; words(2, 1, 2, 2)];
     let mut forked = Desk::lend(&mut third);
     good &= as_written(two_versions(&mut forked)) && as_written(lines(&mut forked));
+    let (mut fourth, mut scratch) = ([0; words(2, 1, 2, 1)], [0; words(2, 1, 2, 1)]);
+    let mut stepped = Desk::lend(&mut fourth);
+    good &= as_written(behind(&mut stepped)) && as_written(foretold(&mut stepped, &mut scratch));
+    // The steps left what was foretold.
+    good &= stepped.words() == scratch;
     println!("example.rs: {}", if good { "case A answered as written" } else { "wrong answers" });
     std::process::exit(if good { 0 } else { 1 });
 }

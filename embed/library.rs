@@ -51,6 +51,11 @@ pub fn call(desk: &mut [u32], call: &Call, answer: &mut [u32]) -> u32 {
             }
             Call::Fork(run) => sheetdesk_fork(d, dn, *run, a, an),
             Call::Join(run) => sheetdesk_join(d, dn, *run, a, an),
+            // As many words again are lent as a scratch.
+            Call::Forecast(run) => {
+                let mut scratch = vec![0; dn];
+                sheetdesk_forecast(d, dn, scratch.as_mut_ptr(), dn, *run, a, an)
+            }
             Call::Stale(office) => sheetdesk_stale(d, dn, *office, a, an),
             Call::Admit => sheetdesk_admit(d, dn, a, an),
             Call::Allow(office, number) => sheetdesk_allow(d, dn, *office, *number, a, an),
@@ -62,6 +67,13 @@ pub fn call(desk: &mut [u32], call: &Call, answer: &mut [u32]) -> u32 {
             }
         }
     }
+}
+
+/// A forecast with a scratch of any length.
+pub fn forecast(desk: &[u32], scratch: &mut [u32], run: u32, answer: &mut [u32]) -> u32 {
+    let (d, dn) = (desk.as_ptr(), desk.len());
+    let (s, sn) = (scratch.as_mut_ptr(), scratch.len());
+    unsafe { sheetdesk_forecast(d, dn, s, sn, run, answer.as_mut_ptr(), answer.len()) }
 }
 
 /// How clock p stands against clock q.

@@ -4,12 +4,12 @@
  *
  * A slice is a pointer and a length in words. The pointer must be valid for so many words and
  * aligned to 4 bytes; it may not be null, even with length 0; the slices of a call (`desk`,
- * `answer` and open's `jobs`; `target` and `source`) may not overlap. Any content and any numbers
- * are fine: what a call can't work on it refuses. No call reads or writes outside its slices, or
- * allocates.
+ * `answer`, open's `jobs` and forecast's `scratch`; `target` and `source`) may not overlap. Any
+ * content and any numbers are fine: what a call can't work on it refuses. No call reads or writes
+ * outside its slices, or allocates.
  *
- * Whose memory it is: the caller owns both buffers, desk and answer, always; a call borrows them
- * and keeps no pointer. During a call nobody else may write the desk, and nobody may read it
+ * Whose memory it is: the caller owns all buffers, desk, answer and scratch, always; a call borrows
+ * them and keeps no pointer. During a call nobody else may write the desk, and nobody may read it
  * unless all calls on it are ones that only answer (whose desk is const). Calls on different
  * buffers may run at the same time. The words hold no pointer: they may be copied, moved, and
  * saved to a file, SHEETDESK_WORDS of them, in the machine's byte order (little-endian on x86-64;
@@ -21,7 +21,8 @@
  *
  * Every call writes its answer's words and returns how many it wrote:
  *   0 and the answer's numbers (ok), 1 and a mask (broken, step and join), 2 and a number (refused),
- *   3 (clear) or 4 and sheets (path), explain alone; 5 (nothing to do), pick alone.
+ *   3 (clear) or 4 and sheets (path), explain alone; 5 (nothing to do), pick alone;
+ *   6 (through), 7, a job and a mask (breaks) or 8, a job and a number (turned), forecast alone.
  * An answer_len below SHEETDESK_ANSWER_WORDS returns 0, and nothing is changed. Words of the
  * answer's slice behind the written ones stay as they were. A refused call leaves every word of
  * the desk; words past the desk's total are never touched.
@@ -39,7 +40,7 @@ extern "C" {
 #endif
 
 /* The version of the calls: rises when one is added or changes what it takes, does or answers. */
-#define SHEETDESK_VERSION 10
+#define SHEETDESK_VERSION 11
 /* The version of the desk's words: rises when a desk of the same counts has other words. */
 #define SHEETDESK_LAYOUT 7
 /* The same two of the library that is linked: compare them with these. */
@@ -72,12 +73,15 @@ enum sheetdesk_outcome {
     SHEETDESK_REFUSED = 2,
     SHEETDESK_CLEAR = 3,
     SHEETDESK_PATH = 4,
-    SHEETDESK_NOTHING = 5
+    SHEETDESK_NOTHING = 5,
+    SHEETDESK_THROUGH = 6,
+    SHEETDESK_BREAKS = 7,
+    SHEETDESK_TURNED = 8
 };
 
 /* The second word of a refusal. */
 enum sheetdesk_refusal {
-    SHEETDESK_NOT_IN_FORM = 1,   /* buffer too short, or its desk is not in form */
+    SHEETDESK_NOT_IN_FORM = 1,   /* buffer or scratch too short, or the desk is not in form */
     SHEETDESK_BAD_COUNT = 2,     /* a count of new is out of range */
     SHEETDESK_OUT_OF_RANGE = 3,  /* office, sheet, writer, run, place, job or mask */
     SHEETDESK_WRONG_STATE = 4,   /* the run is not in the state needed */
@@ -225,6 +229,19 @@ uint32_t sheetdesk_step_on(uint32_t *desk, size_t desk_len, uint32_t run, uint32
 /* sheetdesk_explain on a line, as sheetdesk_step_on takes it. */
 uint32_t sheetdesk_explain_on(const uint32_t *desk, size_t desk_len, uint32_t run, uint32_t job,
                               uint32_t line, uint32_t *answer, size_t answer_len);
+
+/* Foretells what stepping the jobs of an open run that aren't done would come to: on line 0, the
+ * lowest job first, with no call in between. Through: each would be ok, or no job is left; returns
+ * 1 word. Breaks: the first job that would break the run, and the mask of the sheets that it would
+ * move; returns 3 words. Turned: the first job that would be refused, and the number (13, 7 or 12);
+ * returns 3 words. It stops at whichever comes first. The desk isn't written. The first words of
+ * the scratch, as many as the desk's total, become the desk as those steps would leave it, broken
+ * if one breaks; its further words stay, and what it held before doesn't matter. Refused with 1 if
+ * the desk isn't in form or the scratch is shorter than its total, with 3, 4, and with 14 if the
+ * run is forked; then every word of the scratch stays. Returns 2 words. */
+uint32_t sheetdesk_forecast(const uint32_t *desk, size_t desk_len, uint32_t *scratch,
+                            size_t scratch_len, uint32_t run, uint32_t *answer,
+                            size_t answer_len);
 
 /* How clock p stands against clock q. Returns an enum sheetdesk_standing; two empty clocks (both
  * lengths 0) are equal. */

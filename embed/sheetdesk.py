@@ -16,7 +16,7 @@ import enum
 import os
 from typing import NamedTuple
 
-VERSION = 10
+VERSION = 11
 LAYOUT = 7
 ANSWER_WORDS = 40
 MOST_WORDS = 419699
@@ -61,18 +61,19 @@ class Look(NamedTuple):
 
 
 class Answer(NamedTuple):
-    """What a call gives back: outcome "ok", "broken" or "refused", of explain "clear" or "path", of pick "nothing"; and
-    its numbers."""
+    """What a call gives back: outcome "ok", "broken" or "refused", of explain "clear" or "path", of pick "nothing", of forecast
+    "through", "breaks" (job and mask) or "turned" (job and number); and its numbers."""
 
     outcome: str
     numbers: tuple
 
     @property
     def refusal(self):
-        """The Refusal, or the bare number if this module has no name for it; None if the call wasn't refused."""
-        if self.outcome != "refused":
+        """The Refusal, or the bare number if this module has no name for it; of "turned", the job's. None of any other
+        answer."""
+        if self.outcome not in ("refused", "turned"):
             return None
-        number = self.numbers[0]
+        number = self.numbers[-1]
         return Refusal(number) if number in set(Refusal) else number
 
     @property
@@ -103,7 +104,7 @@ class Job(NamedTuple):
 MASTER = (0, 0)
 
 # By an answer's first word.
-_OUTCOMES = ("ok", "broken", "refused", "clear", "path", "nothing")
+_OUTCOMES = ("ok", "broken", "refused", "clear", "path", "nothing", "through", "breaks", "turned")
 
 
 def shelf(office):
@@ -188,7 +189,7 @@ def _library():
     # PyDLL keeps Python's lock during a call: two threads never work on one desk's words at once.
     library = ctypes.PyDLL(path)
     calls = "new open fetch evict prepare step explain issue drop look stale admit allow pick mayhold maysave"
-    calls += " fork join step_on explain_on compare covers merge version layout"
+    calls += " fork join step_on explain_on forecast compare covers merge version layout"
     for call in calls.split():
         getattr(library, "sheetdesk_" + call).restype = ctypes.c_uint32
     if (library.sheetdesk_version(), library.sheetdesk_layout()) != (VERSION, LAYOUT):
@@ -206,6 +207,7 @@ class Desk:
     Each call is handed to `record`, if that is set, with its answer, as the program's own two lines of text
     ("fetch 0 1\\nok 3\\n"), so that what is written down replays: ./sheetdesk --replay. One log is for one desk, from its new on:
     the words of a desk that was read back aren't in it. If `record` raises, the call raises Unrecorded, which has its answer.
+    A forecast that is refused with 1 isn't handed over: a replay's scratch has room.
 
     Threads may share a Desk: each call is made whole before the next one. What several calls do together is theirs to guard.
     """
@@ -224,7 +226,7 @@ class Desk:
         call = getattr(_calls, "sheetdesk_" + name)
         count = call(self._words, self._len, *checked, answer, ctypes.c_size_t(ANSWER_WORDS))
         made = Answer(_OUTCOMES[answer[0]], tuple(answer[1:count]))
-        if self.record is not None:
+        if self.record is not None and not (name == "forecast" and made.refusal is Refusal.NOT_IN_FORM):
             try:
                 self.record("%s\n%s\n" % (_line(name, arguments), made))
             except Exception as error:
@@ -305,6 +307,20 @@ class Desk:
     def join(self, run):
         """Makes the run's two lines one, or breaks it, with the sheets that were read and would become another version."""
         return self._call("join", run)
+
+    def forecast(self, run):
+        """What stepping the run's jobs that aren't done would come to, lowest first: through, or the first job that breaks the
+        run or is refused. On a scratch of its own."""
+        total = self._words[9] if self._len.value > 9 else 0
+        return self._call("forecast", *_array([0] * min(total, self._len.value)), run)
+
+    def forecast_into(self, scratch, run):
+        """The same on a scratch, another Desk, which becomes this one as those steps would leave it; its words past this one's
+        total stay, and all of them if it is refused. A ValueError if the two have words in common."""
+        first, last = sorted((ctypes.addressof(d._words), 4 * d._len.value) for d in (self, scratch))
+        if first[0] + first[1] > last[0]:
+            raise ValueError("a desk and its scratch have words in common")
+        return self._call("forecast", scratch._words, scratch._len, run)
 
 
 def compare(p, q):

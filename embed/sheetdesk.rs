@@ -9,7 +9,7 @@
 use std::fmt::{self, Write};
 
 /// The version of the calls: `SHEETDESK_VERSION` of the header.
-pub const VERSION: u32 = 10;
+pub const VERSION: u32 = 11;
 
 /// The version of the desk's words: `SHEETDESK_LAYOUT` of the header. Save it with the words.
 pub const LAYOUT: u32 = 7;
@@ -72,6 +72,10 @@ pub mod exports {
             desk: *mut u32, desk_len: usize, run: u32, jobs: *const u32, jobs_len: usize,
             answer: *mut u32, answer_len: usize,
         ) -> u32;
+        pub fn sheetdesk_forecast(
+            desk: *const u32, desk_len: usize, scratch: *mut u32, scratch_len: usize, run: u32,
+            answer: *mut u32, answer_len: usize,
+        ) -> u32;
         pub fn sheetdesk_compare(p: *const u32, p_len: usize, q: *const u32, q_len: usize) -> u32;
         pub fn sheetdesk_covers(p: *const u32, p_len: usize, q: *const u32, q_len: usize) -> u32;
         pub fn sheetdesk_merge(
@@ -112,13 +116,19 @@ pub enum Answer {
     Path(Numbers),
     /// Pick alone: no open run has a job that could be stepped.
     Nothing,
+    /// Forecast alone: each step would be ok.
+    Through,
+    /// Forecast alone: this job would be the first to break the run, with these sheets.
+    Breaks { job: u32, mask: u32 },
+    /// Forecast alone: this job would be the first to be refused; why.
+    Turned { job: u32, refusal: Refusal },
 }
 
 /// Why a call is refused, by the header's names.
 #[derive(Clone, Copy, PartialEq, Eq, Debug)]
 #[non_exhaustive]
 pub enum Refusal {
-    /// 1: the words are too few, or hold no desk in form.
+    /// 1: the words or the scratch's are too few, or hold no desk in form.
     NotInForm,
     /// 2: a count of new is out of range.
     BadCount,
@@ -248,6 +258,9 @@ impl fmt::Display for Answer {
             Answer::Clear => out.write_str("clear"),
             Answer::Path(sheets) => write!(out, "path{sheets}"),
             Answer::Nothing => out.write_str("nothing"),
+            Answer::Through => out.write_str("through"),
+            Answer::Breaks { job, mask } => write!(out, "breaks {job} {mask}"),
+            Answer::Turned { job, refusal } => write!(out, "turned {job} {}", refusal.number()),
         }
     }
 }
@@ -330,6 +343,9 @@ fn answer(call: impl FnOnce(*mut u32, usize) -> u32) -> Answer {
         [3, ..] => Answer::Clear,
         [4, ..] => Answer::Path(Numbers { words, count }),
         [5, ..] => Answer::Nothing,
+        [6, ..] => Answer::Through,
+        [7, job, mask, ..] => Answer::Breaks { job, mask },
+        [8, job, number, ..] => Answer::Turned { job, refusal: Refusal::of(number) },
         [_, number, ..] => Answer::Refused(Refusal::of(number)),
     }
 }
@@ -369,7 +385,8 @@ impl<'a> Desk<'a> {
     /// Hands each call from now on to `take`, with its answer, as the program's own two lines of
     /// text ("fetch 0 1\nok 3\n"), so that what is written down replays: `./sheetdesk --replay`.
     /// `None` ends it. One log is for one desk, from its new on: the words of a desk that was read
-    /// back aren't in it.
+    /// back aren't in it. A forecast that is refused with 1 isn't handed over: a replay's scratch
+    /// has room.
     pub fn record(&mut self, take: Option<Take<'a>>) {
         self.record = take;
     }
@@ -442,6 +459,21 @@ impl<'a> Desk<'a> {
         let (list, count) = (jobs.as_ptr().cast::<u32>(), 3 * jobs.len());
         let made = answer(|a, n| unsafe { sheetdesk_open(desk, len, run, list, count, a, n) });
         self.hand(made, "open", &[run], jobs)
+    }
+
+    /// What stepping the run's jobs that aren't done would come to, lowest first: through, or the
+    /// first job that breaks the run or is refused. The scratch has at least the desk's total of
+    /// words; its first ones become the desk as those steps would leave it, and can be lent in
+    /// turn. Those past the total stay, and all of them if the forecast is refused.
+    pub fn forecast(&self, run: u32, scratch: &mut [u32]) -> Answer {
+        let (desk, len) = (self.words.as_ptr(), self.words.len());
+        let (to, room) = (scratch.as_mut_ptr(), scratch.len());
+        let made =
+            answer(|a, n| unsafe { sheetdesk_forecast(desk, len, to, room, run, a, n) });
+        match made {
+            Answer::Refused(Refusal::NotInForm) => made,
+            _ => self.hand(made, "forecast", &[run], &[]),
+        }
     }
 
     /// The issue number, the leading writers, the own clock, and the standing against the

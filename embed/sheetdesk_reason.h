@@ -57,7 +57,7 @@ static inline const char *sheetdesk_reason(const char *call, uint32_t number)
         {3, "step,explain", "there is no such run or job"},
         {3, "issue", "there is no such run or writer, or the mask names a sheet that there isn't"},
         {3, "look", "there is no such place, number or sheet (the master's number is 0)"},
-        {3, "open,prepare,drop,fork,join", "there is no such run"},
+        {3, "open,prepare,drop,fork,join,forecast", "there is no such run"},
         {3, "", "there is no such office, sheet, writer, run, place or job"},
         {4, "open", "the run is not free"},
         {4, "drop", "the run is free: nothing to do"},
@@ -86,7 +86,7 @@ static inline const char *sheetdesk_reason(const char *call, uint32_t number)
         {13, "", "the office may not hold a sheet, or the writer may not save it"},
         {14, "fork", "the run was forked before, and a run forks once"},
         {14, "join", "the run is not forked: there is nothing to join"},
-        {14, "prepare,issue", "the run is forked: join its lines first"},
+        {14, "prepare,issue,forecast", "the run is forked: join its lines first"},
         {14, "step,explain", "the run has no such line: 0 always, 1 from its fork to its join"},
         {14, "", "the run is forked, or is not, or has no such line"},
     };

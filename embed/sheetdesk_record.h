@@ -19,7 +19,8 @@
  * short a slice for its answer (nothing happened). One log is for one desk, from its new on: the
  * words of a desk that was read back aren't in it, so it doesn't replay without what was recorded
  * before. An open with more than SHEETDESK_RECORD_JOBS numbers is recorded with so many of them:
- * over 8 jobs, it is refused whatever the others are, for the same cause.
+ * over 8 jobs, it is refused whatever the others are, for the same cause. A forecast that is refused
+ * with 1 isn't recorded: its scratch may have been too short, and a replay's never is.
  */
 #ifndef SHEETDESK_RECORD_H
 #define SHEETDESK_RECORD_H
@@ -76,7 +77,8 @@ static inline uint32_t sheetdesk_hand(const struct sheetdesk_record *record, con
                                       const uint32_t *numbers, size_t count, const uint32_t *list,
                                       size_t list_len, const uint32_t *answer, uint32_t words)
 {
-    static const char *const first[] = {"ok", "broken", "refused", "clear", "path", "nothing"};
+    static const char *const first[] = {"ok", "broken", "refused", "clear", "path",
+                                        "nothing", "through", "breaks", "turned"};
     struct sheetdesk_text text;
 
     if (record == NULL || record->take == NULL || words == 0)
@@ -154,6 +156,20 @@ static inline uint32_t sheetdesk_open_recorded(const struct sheetdesk_record *re
     return sheetdesk_hand(record, "open", &run, 1, jobs, jobs_len, answer,
                           sheetdesk_open(desk, desk_len, run, jobs, jobs_len, answer,
                                          answer_len));
+}
+
+static inline uint32_t sheetdesk_forecast_recorded(const struct sheetdesk_record *record,
+                                                   const uint32_t *desk, size_t desk_len,
+                                                   uint32_t *scratch, size_t scratch_len,
+                                                   uint32_t run, uint32_t *answer,
+                                                   size_t answer_len)
+{
+    uint32_t words = sheetdesk_forecast(desk, desk_len, scratch, scratch_len, run, answer,
+                                        answer_len);
+
+    if (words == 2 && answer[0] == SHEETDESK_REFUSED && answer[1] == SHEETDESK_NOT_IN_FORM)
+        return words;
+    return sheetdesk_hand(record, "forecast", &run, 1, NULL, 0, answer, words);
 }
 
 #endif

@@ -8,6 +8,7 @@ mod admitted;
 mod allowances;
 pub mod checks;
 pub mod follow;
+mod foretold;
 pub mod ledger;
 mod lines;
 mod paths;
@@ -24,6 +25,7 @@ pub use runs::{Finished, Job, Line, Run};
 use saves::Saves;
 use turns::Turns;
 
+#[derive(Clone)]
 pub struct Book {
     pub k: usize,
     pub w: usize,
@@ -70,7 +72,7 @@ impl Book {
         }
     }
 
-    /// Enters a call. "Not ok, or look: nothing changes"; nor does it by explain, stale and admit.
+    /// Enters a call. "Not ok, or look: nothing changes"; nor by explain, stale, admit, forecast.
     pub fn feed(&mut self, call: &Call, ok: bool) -> Vec<u32> {
         if !ok {
             return Vec::new();
@@ -97,16 +99,14 @@ impl Book {
                 vec![0]
             }
             Call::Look(place, number, sheet) => self.look(*place, *number as usize, *sheet),
-            // Answered `clear`, `path` or `refused`, and never `ok`.
-            Call::Explain(..) => Vec::new(),
+            // Never `ok`; or nothing changes, and whose turn it is goes by the desk's runs.
+            Call::Explain(..) | Call::Forecast(_) | Call::Pick => Vec::new(),
             Call::Stale(office) => vec![self.stale(*office as usize)],
             Call::Admit => vec![0],
             Call::Allow(office, number) => {
                 self.allowances[*office as usize] = *number;
                 vec![0]
             }
-            // Nothing changes; whose turn it is goes by the desk's runs (`check_pick`).
-            Call::Pick => Vec::new(),
             Call::MayHold(office, mask) => self.set_may_hold(*office as usize, *mask),
             Call::MaySave(writer, mask) => self.set_may_save(*writer as usize, *mask),
             Call::Fork(run) => self.fork(*run as usize),

@@ -2,13 +2,15 @@
 //!
 //! Every call takes a buffer of any length and content and any numbers. It answers `Ok`
 //! with the answer's numbers, `Broken` (step and join), `Clear` or `Path` (explain alone),
-//! `Nothing` (pick alone) or `Refused` with the table's number; a refused call leaves every word.
+//! `Nothing` (pick alone), `Through`, `Breaks` or `Turned` (forecast alone) or `Refused` with the
+//! table's number; a refused call leaves every word.
 
 mod admit;
 pub mod allowance;
 mod calls;
 mod evict;
 pub mod explain;
+mod forecast;
 mod form;
 pub mod layout;
 mod lines;
@@ -26,6 +28,7 @@ pub use allowance::allow;
 pub use calls::{drop_run, issue, look, new, open};
 pub use evict::evict;
 pub use explain::explain;
+pub use forecast::forecast;
 #[allow(unused_imports)]
 pub use form::in_form;
 #[allow(unused_imports)]
@@ -48,6 +51,12 @@ pub enum Answer {
     Path(Vec<u32>),
     /// "Nothing to do": no open run has a job to pick.
     Nothing,
+    /// "Goes through": each job not done would be answered `Ok`.
+    Through,
+    /// The first job that would break its run, and the mask.
+    Breaks(u32, u32),
+    /// The first job that would be turned down, and the number.
+    Turned(u32, u32),
 }
 
 // The numbers of the table "When a call is turned down".

@@ -16,6 +16,8 @@ mod counts;
 mod desk;
 #[path = "generate/everyday.rs"]
 mod everyday;
+#[path = "generate/foreseen.rs"]
+mod foreseen;
 #[path = "generate/forked.rs"]
 mod forked;
 #[path = "generate/odd.rs"]

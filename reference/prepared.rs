@@ -90,6 +90,12 @@ impl Prepared {
                 self.tested.rights += usize::from(*answer == Answer::Refused(NO_RIGHT));
             }
         }
+        if let Call::Forecast(run) = call {
+            let goes = matches!(answer, Answer::Through | Answer::Turned(_, NO_RIGHT));
+            if self.stands(*run) && !goes {
+                return Err(format!("prepared run {run}: forecast answered {answer:?}"));
+            }
+        }
         let mut pairs = std::mem::take(&mut self.pairs);
         for pair in &mut pairs {
             pair.follow(call, answer, after, &mut self.tested)?;

@@ -18,6 +18,8 @@ mod counts;
 mod desk;
 #[path = "generate/everyday.rs"]
 mod everyday;
+#[path = "generate/foreseen.rs"]
+mod foreseen;
 #[path = "generate/forked.rs"]
 mod forked;
 #[path = "generate/odd.rs"]
@@ -99,7 +101,7 @@ impl Met {
         println!(
             "readback: {desks} desks, {taken} admitted, {refused} refused with 11, {formless} \
              with 1; {} calls, {} steps tried against all choices, {} broken, {} pairs of \
-             finished jobs, {} paths, {} joins, {} broken ones, {}",
+             finished jobs, {} paths, {} joins, {} broken ones, {} forecasts, {}",
             seen.calls,
             seen.tried,
             seen.broken,
@@ -107,6 +109,7 @@ impl Met {
             seen.paths,
             seen.joins,
             seen.joins_broken,
+            seen.forecasts,
             prepared.tested.print()
         );
     }

@@ -1,7 +1,7 @@
 //! Checks on lent buffers: the paper's numbers, the ten marked readings, the form, refusals
 //! 9 and 10, how clocks stand, paths behind a break, leading writers, stale marks, admission,
-//! allowances, picks, rights, two lines, prepared runs, other layouts, what stands behind a save,
-//! and random buffers. Panics at the first check that fails.
+//! allowances, picks, rights, two lines, prepared runs, forecasts, other layouts, what stands
+//! behind a save, and random buffers. Panics at the first check that fails.
 #![allow(dead_code)]
 
 #[path = "selftest/admitted.rs"]
@@ -16,6 +16,8 @@ mod branches;
 mod desk;
 #[path = "selftest/explained.rs"]
 mod explained;
+#[path = "selftest/foreseen.rs"]
+mod foreseen;
 #[path = "selftest/forked.rs"]
 mod forked;
 #[path = "selftest/forms.rs"]
@@ -154,9 +156,13 @@ fn of_lines() {
     of_prepared_runs();
 }
 
-/// "A prepared run goes through."
+/// "A prepared run goes through", and forecasts.
 fn of_prepared_runs() {
     plotter::beside_a_twin();
     plotter::with_a_right();
     plotter::two_of_them();
+    foreseen::in_order();
+    foreseen::refused();
+    foreseen::words();
+    foreseen::stopped();
 }

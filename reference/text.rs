@@ -6,7 +6,7 @@ use crate::desk::{self, Answer};
 pub const LENT: usize = 16_384;
 const LONGEST: usize = 400;
 
-/// One of the eighteen calls with its numbers; a step or explain always has its line.
+/// One of the nineteen calls with its numbers; a step or explain always has its line.
 #[derive(Clone, PartialEq, Eq, Debug)]
 pub enum Call {
     New([u32; 4]),
@@ -27,6 +27,7 @@ pub enum Call {
     MaySave(u32, u32),
     Fork(u32),
     Join(u32),
+    Forecast(u32),
 }
 
 impl Call {
@@ -51,6 +52,7 @@ impl Call {
             Call::MaySave(writer, mask) => ("maysave", vec![*writer, *mask]),
             Call::Fork(run) => ("fork", vec![*run]),
             Call::Join(run) => ("join", vec![*run]),
+            Call::Forecast(run) => ("forecast", vec![*run]),
         }
     }
 
@@ -73,7 +75,8 @@ impl Call {
 
     /// Whether it only answers: it writes nothing, whatever the answer is.
     pub fn only_answers(&self) -> bool {
-        matches!(self, Call::Look(..) | Call::Explain(..) | Call::Stale(_) | Call::Admit)
+        let asked = matches!(self, Call::Look(..) | Call::Stale(_) | Call::Admit);
+        asked || matches!(self, Call::Explain(..) | Call::Forecast(_))
     }
 
     /// The run that it is about, if it is about one.
@@ -81,7 +84,7 @@ impl Call {
         match self {
             Call::Open(run, _) | Call::Prepare(run) | Call::Step(run, ..) => Some(*run),
             Call::Issue(run, ..) | Call::Drop(run) | Call::Explain(run, ..) => Some(*run),
-            Call::Fork(run) | Call::Join(run) => Some(*run),
+            Call::Fork(run) | Call::Join(run) | Call::Forecast(run) => Some(*run),
             _ => None,
         }
     }
@@ -117,6 +120,7 @@ pub fn read_line(line: &[u8]) -> Option<Call> {
         (b"maysave", [writer, mask]) => Some(Call::MaySave(*writer, *mask)),
         (b"fork", [run]) => Some(Call::Fork(*run)),
         (b"join", [run]) => Some(Call::Join(*run)),
+        (b"forecast", [run]) => Some(Call::Forecast(*run)),
         _ => None,
     }
 }
@@ -157,11 +161,15 @@ pub fn run(words: &mut [u32], call: &Call) -> Answer {
         Call::MaySave(writer, mask) => desk::maysave(words, *writer, *mask),
         Call::Fork(run) => desk::fork(words, *run),
         Call::Join(run) => desk::join(words, *run),
+        // As many words again are lent as a scratch: in the program 16,384.
+        Call::Forecast(run) => desk::forecast(words, &mut vec![0; words.len()], *run),
     }
 }
 
 /// What an answer begins with: a word in the program, its place in this list in the library.
-pub const ANSWERS: [&str; 6] = ["ok", "broken", "refused", "clear", "path", "nothing"];
+pub const ANSWERS: [&str; 9] = [
+    "ok", "broken", "refused", "clear", "path", "nothing", "through", "breaks", "turned",
+];
 
 impl Answer {
     /// The answer as the library writes it: what it begins with, then its numbers.
@@ -173,6 +181,9 @@ impl Answer {
             Answer::Clear => vec![3],
             Answer::Path(sheets) => [&[4][..], sheets].concat(),
             Answer::Nothing => vec![5],
+            Answer::Through => vec![6],
+            Answer::Breaks(job, mask) => vec![7, *job, *mask],
+            Answer::Turned(job, number) => vec![8, *job, *number],
         }
     }
 
@@ -185,6 +196,9 @@ impl Answer {
             [3] => Some(Answer::Clear),
             [4, sheets @ ..] => Some(Answer::Path(sheets.to_vec())),
             [5] => Some(Answer::Nothing),
+            [6] => Some(Answer::Through),
+            [7, job, mask] => Some(Answer::Breaks(*job, *mask)),
+            [8, job, number] => Some(Answer::Turned(*job, *number)),
             _ => None,
         }
     }

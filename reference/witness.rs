@@ -12,7 +12,8 @@ mod text;
 
 use book::follow::Seen;
 use book::Book;
-use desk::Answer;
+use desk::layout::{DONE, JOBS};
+use desk::{Answer, Sizes};
 use prepared::Prepared;
 use std::io::{self, Read, Write};
 use text::Call;
@@ -42,7 +43,7 @@ fn main() {
     }
     println!(
         "{} calls held against a book, {} steps tried against all choices, {} broken, {} pairs of finished jobs, \
-         {} paths, {} joins, {} broken ones, {}",
+         {} paths, {} joins, {} broken ones, {} forecasts, {}",
         seen.calls,
         seen.tried,
         seen.broken,
@@ -50,6 +51,7 @@ fn main() {
         seen.paths,
         seen.joins,
         seen.joins_broken,
+        seen.forecasts,
         prepared.tested.print()
     );
 }
@@ -68,6 +70,9 @@ fn one_call(
     }
     if let Call::Explain(run, job, line) = call {
         check_explain(before, [*run, *job, *line], &answer)?;
+    }
+    if let Call::Forecast(run) = call {
+        check_forecast(words, *run, &answer)?;
     }
     if let (Call::Stale(office), Answer::Ok(marks)) = (call, &answer) {
         check_stale(words, *office, marks[0])?;
@@ -109,6 +114,45 @@ fn check_explain(
         return Err(format!("explain answered {answer:?}, the step {step:?}"));
     }
     Ok(())
+}
+
+/// The forecast tells what the steps are answered, made on a copy of the desk. "The scratch holds
+/// the desk as those steps would leave it, its words past the total untouched"; one that is a word
+/// too short gives 1 and stays.
+fn check_forecast(words: &[u32], run: u32, answer: &Answer) -> Result<(), String> {
+    let Some(s) = desk::in_form(words).filter(|_| !matches!(answer, Answer::Refused(_))) else {
+        return Ok(());
+    };
+    let mut copy = words[..s.total()].to_vec();
+    let told = made_in_order(&mut copy, s, run)?;
+    copy.extend([7, 7]);
+    let mut scratch = vec![7; s.total() + 2];
+    let lent = desk::forecast(words, &mut scratch, run);
+    if [answer, &lent] != [&told, &told] || scratch != copy {
+        return Err(format!("forecast answered {answer:?}, the steps tell {told:?}"));
+    }
+    let mut short = vec![7; s.total() - 1];
+    let refused = desk::forecast(words, &mut short, run);
+    if refused != Answer::Refused(1) || short.iter().any(|word| *word != 7) {
+        return Err("a scratch that is too short was taken".into());
+    }
+    Ok(())
+}
+
+/// Steps the jobs not done, lowest first, up to one that isn't answered `ok`, and says what came
+/// of it. No job waits for a later one, so none is turned down for its turn.
+fn made_in_order(desk: &mut [u32], s: Sizes, run: u32) -> Result<Answer, String> {
+    let at = s.run_at(run as usize);
+    let (jobs, done) = (desk[at + JOBS], desk[at + DONE]);
+    for job in (0..jobs).filter(|job| !book::has(done, *job as usize)) {
+        match desk::step(desk, run, job, 0) {
+            Answer::Ok(_) => {}
+            Answer::Broken(mask) => return Ok(Answer::Breaks(job, mask)),
+            Answer::Refused(number @ (7 | 12 | 13)) => return Ok(Answer::Turned(job, number)),
+            other => return Err(format!("job {job} of a forecast: {other:?}")),
+        }
+    }
+    Ok(Answer::Through)
 }
 
 /// Bit k exactly if a look at the shelf's k is answered and doesn't end in 0.

@@ -31,6 +31,10 @@ pub fn call(desk: &mut Desk, line: &str) -> Option<Answer> {
         ("maysave", &[writer, mask]) => desk.maysave(writer, mask),
         ("fork", &[run]) => desk.fork(run),
         ("join", &[run]) => desk.join(run),
+        ("forecast", &[run]) => {
+            let mut scratch = vec![0; desk.words().len()];
+            desk.forecast(run, &mut scratch)
+        }
         ("look", &[0, 0, sheet]) => desk.look(Place::Master, sheet),
         ("look", &[1, office, sheet]) => desk.look(Place::Shelf(office), sheet),
         ("look", &[2, run, sheet]) => desk.look(Place::Card(run), sheet),

@@ -1,5 +1,5 @@
 """What a Desk of the Python module takes and gives: contents that are no words, buffers that it lies in, standings, a record
-that raises, and four threads on one desk, the largest. Prints what is wrong and exits 1."""
+that raises, a forecast's scratch, and four threads on one desk, the largest. Prints what is wrong and exits 1."""
 import array
 import mmap
 import sys
@@ -42,6 +42,36 @@ try:
 except sheetdesk.Unrecorded as error:
     if error.answer.outcome != "ok" or not isinstance(error.__cause__, OSError):
         wrong.append("a record that raises loses the answer, or its cause")
+
+
+def foretold():
+    """A forecast turned down, on a scratch of the module's and on another desk; one that is too short, or has words in common."""
+    told, buffer = [], bytearray(4 * size)
+    first, scratch = Desk(memoryview(buffer)), Desk([7] * (size + 1))
+    given = [first.forecast(0), first.new(2, 2, 2, 1), first.open(0, [Job(0, 0, 0), Job(0, 1, 0)])]
+    first.record = told.append
+    given += [first.forecast_into(Desk(size - 1), 0), first.forecast(0), first.forecast_into(scratch, 0)]
+    first.record = None
+    first.step(0, 0)
+    if [str(answer) for answer in given] != ["refused 1", "ok 119", "ok 2", "refused 1", "turned 1 7", "turned 1 7"]:
+        wrong.append("forecasts: %s" % ", ".join(map(str, given)))
+    if given[-1].refusal is not sheetdesk.Refusal.NOT_ON_MASTER or given[0].refusal is not sheetdesk.Refusal.NOT_IN_FORM:
+        wrong.append("a job that is turned down has no refusal")
+    if told != ["forecast 0\nturned 1 7\n"] * 2:
+        wrong.append("forecasts are recorded as %r" % told)
+    if scratch.words() != first.words() + [7]:
+        wrong.append("a forecast's scratch isn't what the steps leave")
+    for other in (first, Desk(memoryview(buffer)), Desk(memoryview(buffer)[400:])):
+        try:
+            first.forecast_into(other, 0)
+            wrong.append("a scratch that has words of the desk is taken")
+        except ValueError:
+            pass
+    if str(first.forecast_into(Desk(0), 0)) != "refused 1":
+        wrong.append("a scratch of no words is taken")
+
+
+foretold()
 desk = Desk(sheetdesk.MOST_WORDS)
 if desk.new(32, 16, 8, 8).standing is not None:
     wrong.append("new has a standing")

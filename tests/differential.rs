@@ -3,8 +3,8 @@
 //! `differential [SEED [STORIES]]`: stories of steered calls, and after each one single calls
 //! on copies of its desk: as it stands, damaged, lent too short; then its desk bent, and gone on with
 //! if both admit it; then built desks and random words, and compare, covers and merge on two clocks.
-//! Answers and every word are compared, and words past the lent ones; from an admission on demand 3
-//! is tested by the book that begins there. Prints what was met; exits 1 if the two differ or a
+//! Answers and every word are compared, of a forecast's scratch too, and words past the lent ones;
+//! from an admission on demand 3 is tested by the book that begins there. Prints what was met; exits 1 if the two differ or a
 //! claim fails, with the case as a script, or if too little was met. `differential --script FILE` works such a script again.
 #![allow(dead_code)]
 
@@ -30,6 +30,7 @@ mod generate {
     pub mod chains;
     pub mod counts;
     pub mod everyday;
+    pub mod foreseen;
     pub mod forked;
     pub mod odd;
     pub mod plots;
@@ -56,8 +57,8 @@ mod parts {
     pub mod stories;
 }
 
-use generate::{bent, booked, branches, chains, counts, everyday, forked, odd, plots};
-use generate::{rights, rivals, rounds, small, spared, teller};
+use generate::{bent, booked, branches, chains, counts, everyday, foreseen, forked};
+use generate::{odd, plots, rights, rivals, rounds, small, spared, teller};
 use parts::{admitted, arguments, built, clocks, damaged, met, pair, random, script, stories};
 use reference::{book, desk, prepared, text};
 

@@ -69,6 +69,9 @@ differs_program() {
     for script in 1 2 3 4 line-lengths unread-forms refused-2; do
         give_script "$script"
         (cd "$work/copy" && rt try "$crate") >"$work/try.txt" 2>&1 && continue
+        # Some forecasts take more steps than the interpreter is allowed: then what is built decides.
+        grep -q "^FAIL: the native" "$work/try.txt" && return 0
+        grep -q "did not finish within" "$work/try.txt" && grep -q "^ok: the native" "$work/try.txt" && continue
         grep -q "wrote\|ended\|interpreter" "$work/try.txt" && return 0
         echo "faults: no trial:"
         tail -n 5 "$work/try.txt"

@@ -1,4 +1,5 @@
-/* The C header's promises: the size of a desk before it is lent, for all counts, and what words of other layouts get.
+/* The C header's promises: the size of a desk before it is lent, for all counts, what words of other layouts get, and what a
+ * forecast does to its scratch.
  * Prints what went wrong and exits 1, or what was tried. */
 #include <stdio.h>
 #include <string.h>
@@ -54,8 +55,9 @@ enum { LENT = 200 };
 static int layout_refused(const uint32_t offsets[HEADER - OFFSETS])
 {
     static const uint32_t job[] = {0, 0, 0};
-    static uint32_t before[LENT];
+    static uint32_t before[LENT], scratch[LENT];
     uint32_t other[LENT] = {2, 2, 1, 1, 0};
+    size_t word;
     int good;
 
     memcpy(other + OFFSETS, offsets, (HEADER - OFFSETS) * sizeof *offsets);
@@ -77,9 +79,40 @@ static int layout_refused(const uint32_t offsets[HEADER - OFFSETS])
         && NOT_TAKEN(sheetdesk_join, 0)
         && NOT_TAKEN(sheetdesk_step_on, 0, 0, 0)
         && NOT_TAKEN(sheetdesk_explain_on, 0, 0, 0)
+        && NOT_TAKEN(sheetdesk_forecast, scratch, LENT, 0)
         && refused(sheetdesk_pick(other, LENT, ANSWER), SHEETDESK_NOT_IN_FORM)
         && refused(sheetdesk_admit(other, LENT, ANSWER), SHEETDESK_NOT_IN_FORM);
+    for (word = 0; word < LENT; word++)
+        good &= scratch[word] == 0;
     return good && memcmp(before, other, sizeof other) == 0;
+}
+
+/* A forecast's scratch: as many words as the desk has, and not one less; those behind them stay, and all of them if it is refused
+ * or the answer's slice is too short. On 1 1 1 1 with nothing saved, where job 0 reads nothing and job 1 sheet 0. */
+static int scratch_fits(void)
+{
+    static const uint32_t jobs[] = {0, 0, 0, 0, 1, 0};
+    uint32_t scratch[LENT], word, total;
+    int good = 1;
+
+    sheetdesk_new(desk, LENT, 1, 1, 1, 1, ANSWER);
+    total = answer[1];
+    for (word = 0; word < LENT; word++)
+        scratch[word] = 7;
+    good &= refused(sheetdesk_forecast(desk, LENT, scratch, LENT, 0, ANSWER), SHEETDESK_WRONG_STATE);
+    good &= refused(sheetdesk_forecast(desk, LENT, scratch, LENT, 1, ANSWER), SHEETDESK_OUT_OF_RANGE);
+    sheetdesk_open(desk, LENT, 0, jobs, 6, ANSWER);
+    good &= refused(sheetdesk_forecast(desk, LENT, scratch, total - 1, 0, ANSWER), SHEETDESK_NOT_IN_FORM);
+    good &= sheetdesk_forecast(desk, LENT, scratch, LENT, 0, answer, SHEETDESK_ANSWER_WORDS - 1) == 0;
+    for (word = 0; word < LENT; word++)
+        good &= scratch[word] == 7;
+    good &= sheetdesk_forecast(desk, LENT, scratch, total, 0, ANSWER) == 3 && answer[0] == SHEETDESK_TURNED && answer[1] == 1
+        && answer[2] == SHEETDESK_NOT_ON_MASTER;
+    sheetdesk_step(desk, LENT, 0, 0, ANSWER);
+    good &= memcmp(scratch, desk, total * sizeof *desk) == 0;
+    for (word = total; word < LENT; word++)
+        good &= scratch[word] == 7;
+    return good;
 }
 
 /* Offsets and total of the layouts before this one, and of one whose writers are as long as versions. */
@@ -134,12 +167,13 @@ static int reasons_fit(void)
         && says("look", 8, "the master does not hold the sheet: issue it") && says("", 8, "the sheet is not held there")
         && says("opened", 4, "the run is not open: it is free, or broken")
         && says("step 0 1 7", 14, "the run has no such line: 0 always, 1 from its fork to its join")
+        && says("forecast 0", 14, "the run is forked: join its lines first") && says("forecast", 3, "there is no such run")
         && says("joined", 14, "the run is forked, or is not, or has no such line");
 }
 
 int main(void)
 {
-    if (!versions_fit() || !sizes_fit() || !other_layouts_refused() || !reasons_fit()) {
+    if (!versions_fit() || !sizes_fit() || !other_layouts_refused() || !scratch_fits() || !reasons_fit()) {
         puts("header: a promise of sheetdesk.h isn't kept");
         return 1;
     }

@@ -42,7 +42,7 @@ trial_words() {
 trial_memory() {
   local text
   text=$(sed -n '/^ \* Whose memory it is/,/^ \*$/p' embed/sheetdesk.h | sed 's/^ \* //' | paste -sd ' ')
-  for words in "caller owns both buffers" "keeps no pointer" "nobody else may write the desk" "only answer" "hold no pointer" \
+  for words in "caller owns all buffers" "keeps no pointer" "nobody else may write the desk" "only answer" "hold no pointer" \
     "saved to a file" "byte order" "another layout gets a refusal"; do
     case $text in *"$words"*) ;; *) bad "the header's paragraph on memory lacks '$words'" ;; esac
   done

@@ -9,7 +9,7 @@
 #define DESK record, desk, lent
 #define ANSWER answer, SHEETDESK_ANSWER_WORDS
 
-static uint32_t desk[SHEETDESK_MOST_WORDS];
+static uint32_t desk[SHEETDESK_MOST_WORDS], scratch[SHEETDESK_MOST_WORDS];
 static uint32_t answer[SHEETDESK_ANSWER_WORDS];
 static size_t lent = 16384;
 static char script[1 << 20];
@@ -79,6 +79,8 @@ static void make(const struct sheetdesk_record *record, const char *name, int co
         sheetdesk_fork_recorded(DESK, x[0], ANSWER);
     else if (strcmp(name, "join") == 0 && count == 1)
         sheetdesk_join_recorded(DESK, x[0], ANSWER);
+    else if (strcmp(name, "forecast") == 0 && count == 1)
+        sheetdesk_forecast_recorded(DESK, scratch, lent, x[0], ANSWER);
 }
 
 int main(int argc, char **argv)

@@ -21,7 +21,8 @@ def call(desk, line):
         return
     numbers = [Named(word) for word in words]
     counts = {"new": 4, "fetch": 2, "evict": 2, "prepare": 1, "step": 2, "explain": 2, "issue": 3, "drop": 1, "look": 3,
-              "stale": 1, "admit": 0, "allow": 2, "pick": 0, "mayhold": 2, "maysave": 2, "fork": 1, "join": 1}
+              "stale": 1, "admit": 0, "allow": 2, "pick": 0, "mayhold": 2, "maysave": 2, "fork": 1, "join": 1,
+              "forecast": 1}
     if name == "open" and len(numbers) % 3 == 1:
         desk.open(numbers[0], [Job(*numbers[place:place + 3]) for place in range(1, len(numbers), 3)])
     elif name == "look" and len(numbers) == 3:

@@ -20,11 +20,12 @@ record_py() {
 
 # due_log SCRIPT [whole]: what a wrapper must hand over for the script: its calls, without leading zeros and with at most 27
 # numbers behind an open's run, each before its answer. Unread lines are no calls; unless whole, neither are opens whose list
-# isn't made of jobs, for which Rust and Python have no form.
+# isn't made of jobs, for which Rust and Python have no form. A forecast refused with 1 isn't handed over.
 due_log() {
   paste -d '|' "$1" "${1%.txt}.out" | LC_ALL=C grep -av '|unread$' | LC_ALL=C awk -F '|' -v whole="${2:-}" '{
     count = split($1, word, " "); line = word[1]
     if (word[1] == "open" && !whole && count % 3 != 2) next
+    if (word[1] == "forecast" && $2 == "refused 1") next
     if (word[1] == "look" && !whole && (word[2] > 2 || word[2] == 0 && word[3] != 0)) next
     for (i = 2; i <= count && (word[1] != "open" || i <= 29); i++) {
       sub(/^0+/, "", word[i])
@@ -43,8 +44,8 @@ trial_record() {
     due_log "$script" >"$work/due"
     target/tools/record_rs <"$script" >"$work/log" && cmp -s "$work/log" "$work/due" || bad "sheetdesk.rs: $script"
   done
-  cat scripts/{case-a,explain-path,refused-5,jobs-8-and-9,look-places,admit-any-desk,allow-counts-held,pick-goes-round,refused-13,fork-and-join,fork-own-reads,join-two-versions}.txt >"$work/some.txt"
-  cat scripts/{case-a,explain-path,refused-5,jobs-8-and-9,look-places,admit-any-desk,allow-counts-held,pick-goes-round,refused-13,fork-and-join,fork-own-reads,join-two-versions}.out >"$work/some.out"
+  cat scripts/{case-a,explain-path,refused-5,jobs-8-and-9,look-places,admit-any-desk,allow-counts-held,pick-goes-round,refused-13,fork-and-join,fork-own-reads,join-two-versions,forecast-first,forecast-job-and-mask}.txt >"$work/some.txt"
+  cat scripts/{case-a,explain-path,refused-5,jobs-8-and-9,look-places,admit-any-desk,allow-counts-held,pick-goes-round,refused-13,fork-and-join,fork-own-reads,join-two-versions,forecast-first,forecast-job-and-mask}.out >"$work/some.out"
   due_log "$work/some.txt" >"$work/due"
   record_py <"$work/some.txt" >"$work/log" && cmp -s "$work/log" "$work/due" || bad "sheetdesk.py: golden scripts"
   PYTHONPATH=embed python3 tests/desk.py || bad "tests/desk.py"
@@ -58,7 +59,7 @@ trial_record() {
 trial_sizes() {
   local most
   most=$(sed -n 's/^#define SHEETDESK_MOST_WORDS //p' embed/sheetdesk.h)
-  { echo "new 32 16 8 8"; tail -n +2 scripts/case-a.txt; echo "open 7$(seq 900 | sed 's/.*/ 4294967295/' | tr -d '\n')"; } >"$work/large"
+  { echo "new 32 16 8 8"; tail -n +2 scripts/case-a.txt; echo "forecast 0"; echo "open 7$(seq 900 | sed 's/.*/ 4294967295/' | tr -d '\n')"; } >"$work/large"
   for recorder in target/tools/record_c target/tools/record_rs record_py; do
     $recorder large <"$work/large" >"$work/log" || bad "$recorder"
     grep -q "^ok $most$" "$work/log" || bad "$recorder: not the largest desk"
@@ -79,7 +80,7 @@ trial_alone() {
       sed 's/.*/void *use_&(void); void *use_&(void) { return (void *)sheetdesk_&_recorded; }/'; } >"$work/alone.c"
   [ "$(grep -c '^void' "$work/alone.c")" -eq "$(grep -c '^uint32_t sheetdesk_.*desk' embed/sheetdesk.h)" ] ||
     bad "a call isn't recorded"
-  [ "$(sed -n 's/.*first\[\] = {\(.*\)};/(\1)/p' embed/sheetdesk_record.h)" = "$(sed -n 's/^_OUTCOMES = //p' embed/sheetdesk.py)" ] ||
+  [ "$(tr -s ' \n' ' ' <embed/sheetdesk_record.h | sed -n 's/.*first\[\] = {\([^}]*\)};.*/(\1)/p')" = "$(sed -n 's/^_OUTCOMES = //p' embed/sheetdesk.py)" ] ||
     bad "sheetdesk_record.h has other first words of answers than sheetdesk.py"
   for level in -O0 -O2 -O3; do
     gcc -std=c99 "$level" -I. -c -o "$work/alone.o" "$work/alone.c" || bad "sheetdesk_record.h"

@@ -1,5 +1,5 @@
-// Every refusal that new, open, drop, look, explain, stale, admit, allow, pick, mayhold, maysave, fork, join, fetch and evict can give, tried on
-// lent buffers through the exported library: answer as expected, every word as it was, guard words untouched. Besides them: the largest store;
+// Every refusal that new, open, drop, look, explain, stale, admit, allow, pick, mayhold, maysave, fork, join, forecast, fetch and evict can give,
+// tried on lent buffers through the exported library: answer as expected, every word as it was, guard words untouched. Besides them: the largest store;
 // looks, leading writers and stale marks on desks that no list of calls from new leaves; the longest path; clocks compared.
 // Usage: refusals. Prints what went wrong and exits 1, or how many trials there were.
 
@@ -8,6 +8,10 @@
 mod admitted;
 #[path = "../embed/sheetdesk.rs"]
 mod embed;
+#[path = "refusals/explained.rs"]
+mod explained;
+#[path = "refusals/foreseen.rs"]
+mod foreseen;
 #[path = "refusals/lent.rs"]
 mod lent;
 #[path = "../embed/library.rs"]
@@ -104,7 +108,7 @@ pub fn calls_but_new() -> Vec<Call> {
     vec![
         Call::Open(9, vec![]), Call::Fetch(9, 9), Call::Evict(9, 9), Call::Prepare(9), Call::Step(9, 9, 9), Call::Issue(9, 9, 9),
         Call::Drop(9), Call::Look(9, 9, 9), Call::Explain(9, 9, 9), Call::Stale(9), Call::Admit, Call::Allow(9, 99), Call::Pick,
-        Call::MayHold(9, 9), Call::MaySave(99, 9), Call::Fork(9), Call::Join(9),
+        Call::MayHold(9, 9), Call::MaySave(99, 9), Call::Fork(9), Call::Join(9), Call::Forecast(9),
     ]
 }
 
@@ -149,33 +153,6 @@ fn of_caches(t: &mut Trials) {
     t.ok("look", &mut d, Call::Look(1, 1, 1), &[1, 1, 1, 0, 0]);
     t.ok("evict 0 takes 1", &mut d, Call::Evict(1, 0), &[3]);
     t.refused("evict 8 again", &mut d, Call::Evict(1, 0), 8);
-}
-
-// The refusals of explain are those of the step, and clear is answered exactly where the step is ok.
-fn of_explain(t: &mut Trials) {
-    let mut d = Desk::fresh([2, 2, 1, 2]);
-    t.refused("explain 3, run", &mut d, Call::Explain(2, 0, 0), 3);
-    t.refused("explain 3, job", &mut d, Call::Explain(0, 8, 0), 3);
-    t.refused("explain 3, both", &mut d, Call::Explain(u32::MAX, u32::MAX, 0), 3);
-    t.refused("explain 4, free", &mut d, Call::Explain(0, 7, 0), 4);
-    d.call(&Call::Open(0, vec![0, 1, 0, 0, 2, 1]));
-    t.refused("explain 3, no such job", &mut d, Call::Explain(0, 2, 0), 3);
-    t.refused("explain 6, waits", &mut d, Call::Explain(0, 1, 0), 6);
-    t.refused("explain 7", &mut d, Call::Explain(0, 0, 0), 7);
-    d.call(&Call::Open(1, vec![0, 0, 0]));
-    t.told("explain, nothing read", &mut d, Call::Explain(1, 0, 0), &[3]);
-    t.ok("step, nothing read", &mut d, Call::Step(1, 0, 0), &[0, 0, 0]);
-    d.call(&Call::Issue(1, 0, 1));
-    t.told("explain, from the master", &mut d, Call::Explain(0, 0, 0), &[3]);
-    t.ok("step, from the master", &mut d, Call::Step(0, 0, 0), &[0, 0, 1]);
-    t.refused("explain 6, done", &mut d, Call::Explain(0, 0, 0), 6);
-    t.refused("explain 7, the next", &mut d, Call::Explain(0, 1, 0), 7);
-    d.call(&Call::Open(1, vec![0, 0, 0]));
-    d.call(&Call::Step(1, 0, 0));
-    d.call(&Call::Issue(1, 0, 3));
-    t.told("explain, a path", &mut d, Call::Explain(0, 1, 0), &[4, 1, 0]);
-    t.check("step, broken", d.call(&Call::Step(0, 1, 0)) == [1, 1]);
-    t.refused("explain 4, broken", &mut d, Call::Explain(0, 1, 0), 4);
 }
 
 fn of_the_largest(t: &mut Trials) {
@@ -242,7 +219,8 @@ fn main() {
     rights::of_all(&mut t);
     lines::of_all(&mut t);
     admitted::of_all(&mut t);
-    of_explain(&mut t);
+    explained::of_explain(&mut t);
+    foreseen::of_all(&mut t);
     lent::of_the_longest_path(&mut t);
     of_clocks(&mut t);
     println!("refusals: {} trials, {} wrong", t.tried, t.wrong);

@@ -4,7 +4,8 @@ each sheet that the call would move. Of a step it must name for another sheet th
 master has it; the version that this save needs, by what the cards had in front of each issue; the version that the run had read,
 as older or as a rival; and the office of each step that changed it on the card. The first sentence is about the last two sheets of
 explain's path. Of a join it must name what both lines' cards have, the one that was read as the older one. What line 1 has is seen
-where the lines are changed about: until they are joined, they are alike. Prints what is wrong and exits 1, or how many were held."""
+where the lines are changed about: until they are joined, they are alike. The words of a forecast must be what the steps come to that
+it foretells. Prints what is wrong and exits 1, or how many were held."""
 import collections
 import re
 import subprocess
@@ -15,6 +16,9 @@ Issue = collections.namedtuple("Issue", "writer count saves")
 
 ROW = re.compile(r'<li class="row broken".*? id="line(\d+)"(.*?)</li>\n(?=<li class="row|</ol>)', re.DOTALL)
 SAID = re.compile(r'<p class="sentence">(.*?)</p>')
+FORECAST = re.compile(r'<li class="row (through|breaks|turned)".*?<a class="no" href="#line(\d+)"[^>]*>\d+</a>(.*?)</p>', re.DOTALL)
+# What the words say of a job that is turned down.
+CAUSES = {7: "the master does not hold a sheet", 12: "more than its allowance", 13: "an office may not hold"}
 ISSUES = r"(?:issue|the rival issues) ([\d, and]*\d)"
 BROUGHT = r", brought by ((?:(?:, | and )?the shelf of office \d+ at line \d+)+)"
 SENTENCE = re.compile(r"Sheet (\d+) of issue (\d+) needs sheet (\d+) of " + ISSUES + r"; (?:line [01] of )?run (\d+) had read "
@@ -201,16 +205,47 @@ def faults(program, lines, number, sentences):
             yield fault(program, lines, number, sentence, place == 0)
 
 
+def sheet_list(mask):
+    """The sheets of a mask as pages have them: three or more that follow each other as the first and the last."""
+    runs = [(start, len(ones)) for start, ones in ((one.start(), one[0]) for one in re.finditer("1+", bin(mask)[:1:-1]))]
+    items = [[str(sheet) for sheet in range(start, start + count)] if count < 3 else ["%d to %d" % (start, start + count - 1)]
+             for start, count in runs]
+    items = sum(items, [])
+    return "sheet%s %s" % ("s" * (mask & mask - 1 != 0), " and ".join(filter(None, [", ".join(items[:-1]), items[-1]])))
+
+
+def foretold(program, lines, number):
+    """How a forecast on the line must be told, and how its words must end: its jobs are stepped, and what isn't ok comes first. A job
+    that is done is refused with 6, and no other is."""
+    run, before = int(lines[number - 1].split(b" ")[1]), lines[:number - 1]
+    jobs = range(len(told(program, before)[1][run]) // 3)
+    steps = ran([program], b"\n".join(before + [b"step %d %d" % (run, job) for job in jobs])).split("\n")[len(before):-1]
+    for job, answer in zip(jobs, steps):
+        word, *numbers = answer.split(" ")
+        if word == "broken":
+            return ("Job %d of run %d would break the run: " % (job, run), sheet_list(int(numbers[0])))
+        if word == "refused" and numbers != ["6"]:
+            return ("Job %d of run %d would be refused: " % (job, run), CAUSES[int(numbers[0])])
+    return ("The jobs of run %d that aren't done would go through." % run, "")
+
+
 def main():
     program, tool, *scripts = sys.argv[1:]
-    held, several, joins, second = 0, 0, 0, 0
+    held, several, joins, second, kinds = 0, 0, 0, 0, collections.Counter()
     for script in scripts:
         with open(script, "rb") as file:
             content = file.read()
         # As a log: a new for which the program has no room is refused to the tool too. A call's line is each second one.
         lines = content.split(b"\n")
         log = b"".join(b"%s\n%s\n" % (call, answer.encode()) for call, answer in zip(lines, ran([program], content).split("\n")[:-1]))
-        for line, row_text in ROW.findall(ran([tool, "page", "x"], log)):
+        page = ran([tool, "page", "x"], log)
+        for kind, line, words in FORECAST.findall(page):
+            begins, has = foretold(program, lines, (int(line) + 1) // 2)
+            kinds[kind] += 1
+            if not words.startswith(begins) or has not in words[len(begins):]:
+                print("sentences: %s, line %d: %s: due %s.. %s" % (script, (int(line) + 1) // 2, words, begins, has))
+                return 1
+        for line, row_text in ROW.findall(page):
             number, sentences = (int(line) + 1) // 2, SAID.findall(row_text)
             for wrong in filter(None, faults(program, lines, number, sentences)):
                 print("sentences: %s, line %d: %s" % (script, number, wrong))
@@ -222,9 +257,9 @@ def main():
             held, several = held + 1, several + (len(sentences) > 1)
             call = lines[number - 1].split(b" ")
             joins, second = joins + (call[0] == b"join"), second + (call[3:] == [b"1"])
-    print("sentences: %d breaks of %d scripts, %d over several sheets, %d of joins, %d on line 1, are told as the program explains them"
-          % (held, len(scripts), several, joins, second))
-    return 0 if held >= len(scripts) // 3 and several > 0 and joins > 0 and second > 0 else 1
+    print("sentences: %d breaks of %d scripts, %d over several sheets, %d of joins, %d on line 1, are told as the program explains them, "
+          "and %d forecasts as the steps come out" % (held, len(scripts), several, joins, second, sum(kinds.values())))
+    return 0 if held >= len(scripts) // 3 and several > 0 and joins > 0 and second > 0 and len(kinds) == 3 else 1
 
 
 sys.exit(main())

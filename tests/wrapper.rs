@@ -1,5 +1,5 @@
-//! The Rust wrapper's promises: the size of a desk before it is lent, names of refusals, standings and what a look shows, and
-//! answers printed as the program prints them, over the golden scripts. Prints what went wrong and exits 1, or what was tried.
+//! The Rust wrapper's promises: the size of a desk before it is lent, names of refusals, standings and what a look or a forecast
+//! shows, and answers printed as the program prints them, over the golden scripts. Prints what went wrong and exits 1, or what was tried.
 
 mod calls;
 #[path = "../embed/sheetdesk.rs"]
@@ -7,7 +7,7 @@ mod sheetdesk;
 
 use calls::call;
 use sheetdesk::{compare, is_linked_right, words, Answer, Desk, Job, Look, Place, Refusal, Standing, MOST_WORDS};
-use std::{fs, process::exit};
+use std::{fs, process::exit, sync::Mutex};
 
 /// New takes just as many words as `words` says, and not one less, for all counts from 0 to one above the largest.
 fn sizes() -> bool {
@@ -48,6 +48,37 @@ fn explanations() -> bool {
     desk.open(0, &[Job { office: 0, reads: 0, upstream: 0 }]);
     let clear = desk.explain(0, 0);
     none == Answer::Refused(Refusal::NotInForm) && clear == Answer::Clear && clear.ok().or(clear.path()).is_none()
+}
+
+/// What a forecast answers, by names, and which are handed over: all but those refused with 1, whose scratch stays as it was.
+fn forecasts() -> bool {
+    const LENT: usize = words(1, 1, 1, 1);
+    let taken = Mutex::new(String::new());
+    let take = |text: &str| taken.lock().unwrap().push_str(text);
+    let (mut room, mut scratch) = ([0; LENT], [7; LENT + 1]);
+    let mut desk = Desk::lend(&mut room);
+    let job = |reads| Job { office: 0, reads, upstream: 0 };
+    let none = desk.forecast(0, &mut scratch);
+    desk.new(1, 1, 1, 1);
+    desk.open(0, &[job(0), job(1)]);
+    desk.record(Some(&take));
+    let short = desk.forecast(0, &mut scratch[..LENT - 1]);
+    let stays = scratch == [7; LENT + 1];
+    let turned = desk.forecast(0, &mut scratch);
+    desk.record(None);
+    desk.step(0, 0);
+    let foretold = scratch[..LENT] == *desk.words() && scratch[LENT] == 7;
+    desk.drop(0);
+    desk.open(0, &[job(0)]);
+    let through = desk.forecast(0, &mut scratch);
+    // Its tenth line is a forecast of a break at job 1 over sheet 2.
+    let script = fs::read_to_string("scripts/forecast-job-and-mask.txt").unwrap_or_default();
+    let mut other = [0; words(3, 1, 2, 1)];
+    let mut desk = Desk::lend(&mut other);
+    let breaks = script.lines().take(10).filter_map(|line| call(&mut desk, line)).last();
+    none == Answer::Refused(Refusal::NotInForm) && short == none && stays && foretold
+        && turned == Answer::Turned { job: 1, refusal: Refusal::NotOnMaster } && through == Answer::Through
+        && through.ok().is_none() && breaks == Some(Answer::Breaks { job: 1, mask: 4 }) && *taken.lock().unwrap() == "forecast 0\nturned 1 7\n"
 }
 
 /// What a look shows, by names; nothing of an answer that is none.
@@ -91,7 +122,7 @@ fn golden() -> Option<usize> {
 
 fn main() {
     let lines = golden().unwrap_or(0);
-    if lines < 500 || !is_linked_right() || !sizes() || !refusals() || !standings() || !explanations() || !looks() {
+    if lines < 500 || !is_linked_right() || !sizes() || !refusals() || !standings() || !explanations() || !forecasts() || !looks() {
         println!("wrapper: a promise of sheetdesk.rs isn't kept ({lines} golden lines answered)");
         exit(1);
     }

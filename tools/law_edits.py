@@ -2,7 +2,7 @@
 """Which law refuses an edit, if no computed example does. Usage: tools/law_edits.py CRATE/LABEL ..
 
 Each edit (crates/CRATE/must-fail/LABEL.edit) is applied to a copy of the repository without the computed examples, and
-all crates of the model, of demand 3 and of prepared runs are checked, and for an edit of explain claims too, with explain below it. Prints the first error, or that all is still proved. Some seconds
+all crates of the model, of demand 3 and of prepared runs are checked, and for an edit of explain or forecast claims too, with explain below it. Prints the first error, or that all is still proved. Some seconds
 for each edit; not part of ./test, where the examples refuse the same edits in their own crates."""
 import os
 import pathlib
@@ -12,7 +12,7 @@ import subprocess
 import sys
 import tempfile
 
-EXAMPLES = [("paths", "Examples"), ("model", "Scripts"), ("booked", "Examples")]
+EXAMPLES = [("paths", "Examples"), ("model", "Scripts"), ("layout", "Foreseen"), ("booked", "Examples")]
 IMPORT = re.compile(r"^use Rattle·(\w+?)(?:·\w+)?\.proofs\.([\w.]+?)(?:\.\{| as )", re.MULTILINE)
 
 
@@ -76,7 +76,7 @@ def main():
             assert text.count(old) == 1, (name, old)
             text = text.replace(old, new)
         open(path, "w", encoding="utf-8").write(text)
-        out = run(["booked", "claims"] if target.endswith("Explain.antt") else ["booked"])
+        out = run(["booked", "claims"] if target.endswith(("Explain.antt", "Forecast.antt")) else ["booked"])
         found = re.search(r"crates/(\S+?\.antt):(\d+):\d+: error: `([^`]*)`", out.stdout + out.stderr)
         print("%s: %s" % (name, "still proved" if out.returncode == 0 else found.groups() if found else "refused"), flush=True)
         open(path, "w", encoding="utf-8").write(before)

@@ -46,7 +46,7 @@ function is_large(line,    word, count, i) {
 function unread(line) {
   if (length(line) > 400) return "the line has over 400 bytes"
   if (line ~ /\r$/) return "the line ends with a carriage return; see LINE ENDS in --man"
-  if (line ~ /^(ok|broken|refused|clear|path|nothing|unread)( [0-9]+)*$/)
+  if (line ~ /^(ok|broken|refused|clear|path|nothing|through|breaks|turned|unread)( [0-9]+)*$/)
     return "the line is an answer, as logs have them; see --replay in --man"
   if (line ~ /^#/) return "the line is a comment, which the program doesn't know; see COMMENTS in --man"
   if (line ~ / $/) return "the line ends with a space"
@@ -65,6 +65,10 @@ function said(call, answer) {
   if (answer ~ /^clear/) return "the step would be ok"
   if (answer ~ /^nothing/) return "no open run has a job that could be stepped"
   if (answer ~ /^path/) return "the step would break the run: each sheet draws in the next, and the last was read already"
+  if (answer ~ /^through/) return "the jobs that are not done would be ok, stepped in their order"
+  if (answer ~ /^breaks/)
+    return "this job would break the run, which would have read these sheets: prepare the run, or if a job is done drop it, open it, prepare it"
+  if (sub(/^turned [0-9]+ /, "", answer)) return "this job would be refused: " refusal("step", answer)
   if (answer ~ /^unread/) return unread(call)
   return ""
 }
@@ -125,7 +129,7 @@ function named_answer(call, answer,    word, count, kind, i) {
   kind = word[1] == "broken" ? "m" : word[1] == "path" ? "k" : ""
   if (word[1] == "ok" && call ~ /^(fetch|evict|stale|step|prepare) /) kind = "m"
   answer = word[1]
-  for (i = 2; i <= count; i++) answer = answer " " with_name(kind, word[i])
+  for (i = 2; i <= count; i++) answer = answer " " with_name(word[1] == "breaks" && i == 3 ? "m" : kind, word[i])
   return answer
 }
 

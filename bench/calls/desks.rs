@@ -1,4 +1,5 @@
-//! A desk for each call, on which the call does all it can.
+//! A desk for each call, on which the call does all it can; and one for eight steps, to hold a
+//! forecast of them against.
 
 use crate::desk::stale::set_mark;
 use crate::desk::Sizes;
@@ -6,17 +7,19 @@ use crate::text::{run, Call};
 
 pub struct Case {
     pub words: Vec<u32>,
-    pub call: Call,
+    /// One call, or several that are made one after the other.
+    pub calls: Vec<Call>,
 }
 
 impl Case {
-    /// The call's word; on line 1 of a run it says so.
+    /// The call's word; on line 1 of a run it says so. Several calls are counted.
     pub fn name(&self) -> String {
-        match &self.call {
-            Call::Step(_, _, 1) | Call::Explain(_, _, 1) => {
-                format!("{} on line 1", self.call.name())
+        match self.calls.as_slice() {
+            [call @ (Call::Step(_, _, 1) | Call::Explain(_, _, 1))] => {
+                format!("{} on line 1", call.name())
             }
-            call => call.name().into(),
+            [call] => call.name().into(),
+            calls => format!("{} {}s", calls.len(), calls[0].name()),
         }
     }
 }
@@ -99,13 +102,15 @@ pub fn cases(sizes: [u32; 4]) -> Vec<Case> {
     let reader = [Call::Open(0, vec![0, all(k), 0]), Call::Step(0, 0, 0)];
     let filled = [Call::Fetch(0, k - 1)];
     let fork = Call::Fork(0);
-    let case = |words, call| Case { words, call };
+    let case = |words, call| Case { words, calls: vec![call] };
+    let opened = after(&full, std::slice::from_ref(&open));
+    let eight_steps = (0..8).map(|job| Call::Step(0, job, 0)).collect();
     vec![
         case(full.clone(), Call::New(sizes)),
         case(full.clone(), open.clone()),
         case(full.clone(), Call::Fetch(0, k - 1)),
         case(after(&full, &filled), Call::Evict(0, 0)),
-        case(after(&full, std::slice::from_ref(&open)), Call::Prepare(0)),
+        case(opened.clone(), Call::Prepare(0)),
         case(after(&full, &reader[..1]), Call::Step(0, 0, 0)),
         case(chained(&full, sizes), Call::Explain(0, 1, 0)),
         case(after(&full, &reader), Call::Issue(0, 0, all(k))),
@@ -124,5 +129,8 @@ pub fn cases(sizes: [u32; 4]) -> Vec<Case> {
         case(after(&full, &[&reader[..], &[fork.clone()]].concat()), Call::Join(0)),
         case(after(&full, &[reader[0].clone(), fork.clone()]), Call::Step(0, 0, 1)),
         case(after(&chained(&full, sizes), &[fork]), Call::Explain(0, 1, 1)),
+        // All eight jobs are gone through: the copy of the desk, and the steps.
+        case(opened.clone(), Call::Forecast(0)),
+        Case { words: opened, calls: eight_steps },
     ]
 }

@@ -1,8 +1,9 @@
 //! Rounds of timing: both sides in turns, each on fresh copies of the desk.
 
-use crate::desk::Answer;
+use crate::desk::{self, Answer};
 use crate::desks::Case;
-use crate::{library, text};
+use crate::library;
+use crate::text::{self, Call};
 use std::hint::black_box;
 use std::time::Instant;
 
@@ -30,13 +31,35 @@ fn time(desks: &mut [Vec<u32>], case: &Case, mut call: impl FnMut(&mut [u32])) -
     start.elapsed().as_nanos() as f64 / desks.len() as f64
 }
 
-/// The answer's words are lent too, by whoever calls.
-fn by_library(words: &mut [u32], case: &Case, answer: &mut [u32]) {
-    black_box(library::call(words, &case.call, black_box(answer)));
+/// What is lent beside the desk: the words of an answer, and of a forecast's scratch.
+pub struct Lent {
+    pub answer: [u32; 40],
+    scratch: Vec<u32>,
 }
 
-fn by_reference(words: &mut [u32], case: &Case) {
-    black_box(text::run(words, &case.call));
+impl Lent {
+    pub fn beside(words: &[u32]) -> Lent {
+        Lent { answer: [0; 40], scratch: vec![0; words.len()] }
+    }
+}
+
+/// The words of the last answer.
+pub fn by_library(words: &mut [u32], case: &Case, lent: &mut Lent) -> u32 {
+    let Lent { answer, scratch } = lent;
+    let made = case.calls.iter().map(|call| match call {
+        Call::Forecast(run) => library::forecast(words, scratch, *run, black_box(answer)),
+        call => library::call(words, call, black_box(answer)),
+    });
+    made.last().unwrap_or(0)
+}
+
+/// The last answer.
+pub fn by_reference(words: &mut [u32], case: &Case, lent: &mut Lent) -> Answer {
+    let made = case.calls.iter().map(|call| match call {
+        Call::Forecast(run) => desk::forecast(words, &mut lent.scratch, *run),
+        call => text::run(words, call),
+    });
+    made.last().unwrap_or(Answer::Nothing)
 }
 
 fn middle(values: &mut [f64]) -> f64 {
@@ -49,15 +72,17 @@ fn middle(values: &mut [f64]) -> f64 {
 pub fn measure(case: &Case, rounds: usize) -> Cost {
     check(case);
     let mut desks = vec![case.words.clone(); copies(&case.words)];
-    let mut answer = [0; 40];
+    let mut lent = Lent::beside(&case.words);
     let (mut mine, mut theirs, mut ratios) = (Vec::new(), Vec::new(), Vec::new());
     for _ in 0..rounds {
         let (mut library, mut reference) = (f64::MAX, f64::MAX);
         for _ in 0..3 {
             library = library.min(time(&mut desks, case, |words| {
-                by_library(words, case, &mut answer);
+                black_box(by_library(words, case, &mut lent));
             }));
-            reference = reference.min(time(&mut desks, case, |words| by_reference(words, case)));
+            reference = reference.min(time(&mut desks, case, |words| {
+                black_box(by_reference(words, case, &mut lent));
+            }));
         }
         mine.push(library);
         theirs.push(reference);
@@ -68,12 +93,15 @@ pub fn measure(case: &Case, rounds: usize) -> Cost {
     Cost { library: middle(&mut mine), reference: middle(&mut theirs), ratio }
 }
 
-/// Both sides must do the same, and answer ok or a path: a refused call would measure nothing.
+/// Both sides must do the same, and answer ok, a path or through: a refused call would measure
+/// nothing.
 pub fn check(case: &Case) {
     let (mut mine, mut theirs) = (case.words.clone(), case.words.clone());
-    let mut answer = [0; 40];
-    let count = library::call(&mut mine, &case.call, &mut answer) as usize;
-    let (name, due) = (case.name(), text::run(&mut theirs, &case.call));
-    assert!(matches!(due, Answer::Ok(_) | Answer::Path(_)), "{name}: not answered ok");
-    assert!(answer[..count] == due.words() && mine == theirs, "{name}");
+    let [mut one, mut other] = [Lent::beside(&mine), Lent::beside(&mine)];
+    let count = by_library(&mut mine, case, &mut one) as usize;
+    let (name, due) = (case.name(), by_reference(&mut theirs, case, &mut other));
+    let good = matches!(due, Answer::Ok(_) | Answer::Path(_) | Answer::Through);
+    assert!(good, "{name}: not answered ok");
+    assert!(one.answer[..count] == due.words() && mine == theirs, "{name}");
+    assert!(one.scratch == other.scratch, "{name}: the scratch");
 }

@@ -38,7 +38,7 @@ impl Book {
     }
 
     /// Would the call leave a shelf above its allowance, or set one that is too small?
-    fn would_exceed(&self, call: &Call) -> bool {
+    pub fn would_exceed(&self, call: &Call) -> bool {
         let over = |office: usize, shelf: &[Saves]| held(shelf) > self.allowances[office];
         match call {
             Call::Fetch(office, sheet) => {

@@ -16,6 +16,7 @@ pub struct Seen {
     pub paths: usize,
     pub joins: usize,
     pub joins_broken: usize,
+    pub forecasts: usize,
 }
 
 impl Book {
@@ -37,6 +38,11 @@ impl Book {
             Call::Step(run, job, line) => self.check_step([*run, *job, *line], answer, seen)?,
             Call::Explain(run, job, line) => self.check_path([*run, *job, *line], answer, seen)?,
             Call::Join(run) => self.check_joined(*run as usize, answer, words, seen)?,
+            Call::Forecast(run) => {
+                let s = in_form(words).ok_or("the desk is not in form")?;
+                self.check_forecast(*run as usize, answer, words, s)?;
+                seen.forecasts += 1;
+            }
             _ => {}
         }
         if let (Call::Pick, Some(s), false) = (call, in_form(words), refused) {
@@ -126,8 +132,9 @@ impl Book {
         self.check_join(run, answer, words, s)
     }
 
-    /// Feeds the book and compares what the rules on copies answer. `Clear`, `Path` and `Nothing`
-    /// are not `ok`: nothing changes. Of leading writers a book that began at an admission knows nothing.
+    /// Feeds the book and compares what the rules on copies answer. `Clear`, `Path`, `Nothing` and
+    /// what a forecast answers are not `ok`: nothing changes. Of leading writers a book that began
+    /// at an admission knows nothing.
     fn check_answer(&mut self, call: &Call, answer: &Answer) -> Result<(), String> {
         let Answer::Ok(numbers) = answer else {
             self.feed(call, false);

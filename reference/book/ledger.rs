@@ -4,11 +4,13 @@ use super::rows::Rows;
 use super::saves::Saves;
 
 /// "A save is a sheet in an issue."
+#[derive(Clone)]
 struct Save {
     issue: u32,
     sheet: usize,
 }
 
+#[derive(Clone)]
 struct Issue {
     writer: usize,
     /// The saves of the issue itself.
@@ -30,7 +32,7 @@ pub struct Base {
 }
 
 /// The issues since the book began, numbered from 1, and their saves.
-#[derive(Default)]
+#[derive(Clone, Default)]
 pub struct Ledger {
     base: Base,
     issues: Vec<Issue>,

@@ -84,7 +84,8 @@ impl Book {
     }
 
     /// 14 exactly for "a second fork, a join when not forked, prepare or issue when forked, line 1
-    /// on a run not forked, or a line above 1", unless something is tested before it.
+    /// on a run not forked, or a line above 1", and a forecast of "a forked run", unless something
+    /// is tested before it.
     pub fn check_line(&self, call: &Call, answer: &Answer) -> Result<(), String> {
         let given = match answer {
             Answer::Refused(number) if BEFORE.contains(number) => return Ok(()),
@@ -96,6 +97,7 @@ impl Book {
             Call::Fork(run) => mark(run) != NEVER_FORKED,
             Call::Join(run) => mark(run) != FORKED,
             Call::Prepare(run) | Call::Issue(run, ..) => mark(run) == FORKED,
+            Call::Forecast(run) => mark(run) == FORKED,
             Call::Step(run, _, line) | Call::Explain(run, _, line) => match line {
                 0 => false,
                 1 => mark(run) != FORKED,

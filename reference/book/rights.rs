@@ -64,7 +64,7 @@ impl Book {
 
     /// Does the call need a sheet that its office may not hold, or its writer not save? Each sheet
     /// of T is asked for, or the shelf would hold it afterwards.
-    fn lacks_right(&self, call: &Call) -> bool {
+    pub fn lacks_right(&self, call: &Call) -> bool {
         let barred = |office: usize, sheets: u32| sheets & !self.may_hold[office] != 0;
         match call {
             Call::Fetch(office, sheet) => {

@@ -12,6 +12,7 @@ pub struct Job {
 
 /// The sheets that a finished job read, as its step left them on the card, and on which lines
 /// that read stands.
+#[derive(Clone)]
 pub struct Finished {
     pub job: usize,
     pub read: Vec<(usize, Saves)>,
@@ -39,7 +40,7 @@ impl Line {
 }
 
 /// A run from its open until it is freed.
-#[derive(Default)]
+#[derive(Clone, Default)]
 pub struct Run {
     pub jobs: Vec<Job>,
     /// "0 never forked, 1 forked, 2 joined."

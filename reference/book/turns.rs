@@ -6,6 +6,7 @@ use crate::desk::{Answer, Sizes, OPEN};
 
 /// The last picked run, and for each run how many picks in a row have passed it over though it had
 /// a job to pick.
+#[derive(Clone)]
 pub struct Turns {
     last: usize,
     passed: Vec<usize>,

@@ -65,6 +65,7 @@ pub fn wrong_line(t: &mut Teller, run: usize) {
     if mark == FORKED {
         let writer = t.below(t.sizes().w) as u32;
         t.tell("prepare", &[number]);
+        t.tell("forecast", &[number]);
         let sheets = some_sheets(t, 20);
         t.tell("issue", &[number, writer, sheets]);
     } else {

@@ -5,6 +5,7 @@ use crate::desk::layout::{has, JOBS, JOB_LIST, LEADERS};
 use crate::desk::reads::step_view;
 use crate::desk::version::{covers, held, row};
 use crate::desk::{in_form, Answer};
+use crate::foreseen;
 use crate::forked;
 use crate::rights;
 use crate::spared;
@@ -41,6 +42,7 @@ pub struct Counts {
     rights: rights::Met,
     forked: forked::Met,
     spared: spared::Met,
+    foreseen: foreseen::Met,
     refused: [u64; 15],
 }
 
@@ -78,6 +80,7 @@ impl Counts {
         names.extend(self.rights.names());
         names.extend(self.forked.names());
         names.extend(self.spared.names());
+        names.extend(self.foreseen.names());
         let refused = (1..=8).chain([12, 13, 14]);
         names.extend(refused.map(|number| (format!("refused-{number}"), self.refused[number])));
         names.iter().map(|(name, count)| format!("{name} {count}")).collect::<Vec<_>>().join(" ")
@@ -88,6 +91,7 @@ impl Counts {
         self.rights.enter(before, after, call, answer);
         self.forked.enter(before, call, answer);
         self.spared.enter(before, call, answer);
+        self.foreseen.enter(before, call, answer);
         match (call, answer) {
             (_, Answer::Ok(numbers)) => self.enter_ok(before, after, call, numbers),
             (_, Answer::Refused(number)) => {

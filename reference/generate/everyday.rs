@@ -125,7 +125,7 @@ pub fn any_call(t: &mut Teller) {
     let job = t.below(4) as u32;
     let place = t.below(3) as u32;
     let line = branches::any_line(t);
-    match t.below(20) {
+    match t.below(22) {
         0 => t.tell("open", &[run, office, sheets, 0, office, 1 << (sheet & 31), 1]),
         1 => t.tell("fetch", &[office, sheet]),
         2 => t.tell("evict", &[office, sheet]),
@@ -149,6 +149,7 @@ pub fn any_call(t: &mut Teller) {
         14 => t.tell("fork", &[run]),
         15 => t.tell("join", &[run]),
         16 | 17 => t.tell("step", &[run, job, line]),
+        18 | 19 => t.tell("forecast", &[run]),
         _ => t.tell("step", &[run, job]),
     };
 }

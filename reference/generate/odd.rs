@@ -7,7 +7,7 @@ use crate::teller::Teller;
 /// "Before any new, the buffer is all zero": every call but new is refused.
 pub fn before_new(t: &mut Teller) {
     for _ in 0..t.below(3) {
-        match t.below(13) {
+        match t.below(14) {
             0 => t.tell("fetch", &[0, 0]),
             1 => t.tell("open", &[0]),
             2 => t.tell("explain", &[0, 0]),
@@ -20,6 +20,7 @@ pub fn before_new(t: &mut Teller) {
             9 => t.tell("maysave", &[0, 0]),
             10 => t.tell("fork", &[0]),
             11 => t.tell("join", &[0]),
+            12 => t.tell("forecast", &[0]),
             _ => t.tell("new", &[32, 16, 8, 8]),
         };
     }
@@ -60,7 +61,7 @@ fn out_of_range(t: &mut Teller) {
     let place = t.below(3) as u32;
     // K = 32: all sheets, in range.
     let past_last = s.all_sheets().saturating_add(1);
-    match t.below(24) {
+    match t.below(25) {
         0 => t.tell("open", &[p]),
         1 => t.tell("fetch", &[n, 0]),
         2 => t.tell("fetch", &[0, k]),
@@ -84,6 +85,7 @@ fn out_of_range(t: &mut Teller) {
         20 => t.tell("fork", &[p]),
         21 => t.tell("join", &[p]),
         22 => t.tell("step", &[0, 8, 2]),
+        23 => t.tell("forecast", &[p]),
         _ => t.tell("look", &[place, p.max(n), 0]),
     };
 }
@@ -98,12 +100,13 @@ fn wrong_state(t: &mut Teller) {
         t.tell("open", &[run, 99]);
     }
     if let Some(run) = run_in(t, |state| state != OPEN) {
-        match t.below(6) {
+        match t.below(7) {
             0 => t.tell("prepare", &[run]),
             1 => t.tell("step", &[run, 0]),
             2 => t.tell("step", &[run, 0, 7]),
             3 => t.tell("fork", &[run]),
             4 => t.tell("join", &[run]),
+            5 => t.tell("forecast", &[run]),
             _ => t.tell("issue", &[run, 0, 1]),
         };
     }

@@ -7,6 +7,7 @@ use crate::desk::layout::has;
 use crate::desk::version::needs;
 use crate::desk::{Answer, FREE};
 use crate::everyday;
+use crate::foreseen;
 use crate::odd;
 use crate::rights;
 use crate::rivals;
@@ -17,7 +18,8 @@ use crate::teller::Teller;
 /// A plot of runs, by a number below 58.
 pub fn of_runs(t: &mut Teller, number: usize) {
     match number {
-        0..=17 => break_a_run(t),
+        0..=16 => break_a_run(t),
+        17 | 57 => foreseen::forecast_a_run(t),
         18..=20 | 49..=52 => branches::side_by_side(t),
         22..=24 => chains::explain_a_break(t),
         25..=36 => rivals::issue_rivals(t),
@@ -151,6 +153,9 @@ pub fn break_a_run(t: &mut Teller) {
         t.tell("fetch", &[there, b as u32]);
     } else {
         hide_a_break(t, run, there as usize, b);
+    }
+    if t.chance(30) {
+        t.tell("forecast", &[run]);
     }
     for job in 1..jobs as u32 {
         if t.chance(40) {

@@ -52,10 +52,14 @@ impl Teller {
         Some(answer)
     }
 
-    /// A call's word and its numbers, as a line. Some steps are explained before.
+    /// A call's word and its numbers, as a line. Some steps are explained before, some runs are
+    /// forecast.
     pub fn tell(&mut self, name: &str, numbers: &[u32]) -> Option<Answer> {
         if name == "step" && self.chance(25) {
             self.tell("explain", numbers);
+        }
+        if name == "step" && self.chance(6) {
+            self.tell("forecast", &numbers[..1]);
         }
         let mut line = name.to_string();
         for number in numbers {

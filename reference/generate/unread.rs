@@ -3,7 +3,7 @@
 use crate::teller::Teller;
 
 /// Most of these only just miss a form.
-const MISSES: [&[u8]; 52] = [
+const MISSES: [&[u8]; 56] = [
     b"",
     b" ",
     b"new",
@@ -56,6 +56,10 @@ const MISSES: [&[u8]; 52] = [
     b"mayhold 0 4294967296",
     b"mayhold 0 0 0",
     b"maysave 0",
+    b"forecast",
+    b"forecast ",
+    b"forecast 0 0",
+    b"forecasts 0",
 ];
 
 /// Lines that are none of the forms.

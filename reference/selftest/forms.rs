@@ -102,6 +102,7 @@ pub fn all_refuse(words: &mut [u32], number: u32) {
         assert_eq!(maysave(words, x, x), Answer::Refused(number));
         assert_eq!(fork(words, x), Answer::Refused(number));
         assert_eq!(join(words, x), Answer::Refused(number));
+        assert_eq!(forecast(words, &mut [0; 2000], x), Answer::Refused(number));
     }
     assert_eq!(words, before);
 }

@@ -69,6 +69,11 @@ fn one(words: &mut [u32], call: &Call) -> bool {
         return false;
     }
     let s = in_form(words).expect("an accepted call leaves the form");
+    if let Call::Forecast(run) = call {
+        let mut scratch = vec![7; words.len() + 3];
+        assert_eq!(forecast(words, &mut scratch, *run), answer);
+        assert!(in_form(&scratch).is_some() && scratch[s.total()..].iter().all(|word| *word == 7));
+    }
     assert_eq!(words[s.total()..], before[s.total()..]);
     assert!(!call.only_answers() || words == before);
     true
@@ -88,7 +93,7 @@ fn start(draw: &mut Draw) -> Vec<u32> {
 fn any_call(draw: &mut Draw) -> Call {
     let [a, b, c] = [draw.number(), draw.number(), draw.number()];
     let line = if draw.below(4) > 0 { draw.below(2) } else { c };
-    match draw.below(65) {
+    match draw.below(70) {
         0 => Call::New([a, b, c, draw.number()]),
         1..=6 => {
             let length = if draw.below(8) == 0 { draw.below(30) } else { 3 + 3 * draw.below(3) };
@@ -113,6 +118,7 @@ fn any_call(draw: &mut Draw) -> Call {
         50 | 51 => Call::MaySave(a, b | draw.below(4)),
         52..=56 => Call::Fork(a),
         57..=60 => Call::Join(a),
+        61..=65 => Call::Forecast(a),
         _ => Call::Look(a, b, c),
     }
 }

@@ -31,7 +31,7 @@ pub fn any_call(random: &mut Random, words: &[u32]) -> Call {
     let run = random.near(s.p);
     let office = random.near(s.n);
     let sheet = random.near(s.k);
-    match random.below(45) {
+    match random.below(50) {
         0 | 38 => Call::New(new_counts(random, words.len())),
         1 | 2 | 28 => Call::Open(run, jobs(random, s)),
         3..=5 => Call::Fetch(office, sheet),
@@ -59,6 +59,7 @@ pub fn any_call(random: &mut Random, words: &[u32]) -> Call {
         36 | 37 => Call::MaySave(random.near(s.w), right(random, s)),
         39 | 40 => Call::Fork(run),
         41..=44 => Call::Join(run),
+        45..=47 => Call::Forecast(run),
         _ => {
             let place = random.near(3);
             let number = match place {
@@ -137,5 +138,16 @@ pub fn room(random: &mut Random) -> usize {
         1 => ANSWER - 1,
         2 => ANSWER + random.below(20),
         _ => ANSWER,
+    }
+}
+
+/// Words of a forecast's scratch: as many as the desk has mostly, a few more, or too few.
+pub fn scratch(random: &mut Random, words: &[u32]) -> usize {
+    let total = aim(words).total();
+    match random.below(10) {
+        0 => total - 1,
+        1 => random.below(total),
+        2 => total + random.below(5),
+        _ => total,
     }
 }

@@ -21,7 +21,7 @@ pub enum Source {
 
 const SOURCES: [&str; 8] =
     ["story", "reached", "damaged", "short", "bent", "admitted", "built", "noise"];
-/// The calls that are answered `ok`: explain never is.
+/// The calls that are answered `ok`: explain and forecast never are.
 const CALLS: [&str; 17] = [
     "new", "open", "fetch", "evict", "prepare", "step", "issue", "drop", "look", "stale", "admit",
     "allow", "pick", "mayhold", "maysave", "fork", "join",
@@ -29,7 +29,9 @@ const CALLS: [&str; 17] = [
 /// The calls that a missing right turns down.
 const BARRED: [&str; 5] = ["fetch", "prepare", "step", "explain", "issue"];
 /// The calls that a line or a mark turns down.
-const MARKED: [&str; 6] = ["prepare", "step", "explain", "issue", "fork", "join"];
+const MARKED: [&str; 7] = ["prepare", "step", "explain", "issue", "fork", "join", "forecast"];
+/// What a forecast answers: goes through, breaks, or the number by which a job is turned down.
+const FORETOLD: [&str; 5] = ["through", "breaks", "turned 7", "turned 12", "turned 13"];
 
 #[derive(Default)]
 pub struct Met {
@@ -56,7 +58,10 @@ pub struct Met {
     /// Refused for a missing right, by call.
     barred: [u64; 5],
     /// Refused for a line or a mark, by call.
-    marked: [u64; 6],
+    marked: [u64; 7],
+    /// Forecasts by their answer; those whose scratch was too short.
+    foretold: [u64; 5],
+    pub short_scratches: u64,
     /// Steps answered ok, broken and explained by a path, on line 1.
     on_line_1: [u64; 3],
     joins_broken: u64,
@@ -84,6 +89,12 @@ impl Met {
             },
             Some(Answer::Clear) => self.clear += 1,
             Some(Answer::Nothing) => self.nothing += 1,
+            Some(Answer::Through) => self.foretold[0] += 1,
+            Some(Answer::Breaks(..)) => self.foretold[1] += 1,
+            Some(Answer::Turned(_, number)) => {
+                let place = FORETOLD.iter().position(|name| *name == format!("turned {number}"));
+                place.into_iter().for_each(|place| self.foretold[place] += 1);
+            }
             Some(Answer::Path(sheets)) => {
                 self.paths += 1;
                 self.long_paths += u64::from(sheets.len() > 2);
@@ -151,7 +162,12 @@ impl Met {
             ("pairs of finished jobs by a book".into(), self.by_books.snapshots as u64, 1000),
             ("joins by a book".into(), self.by_books.joins as u64, 50),
             ("broken joins by a book".into(), self.by_books.joins_broken as u64, 10),
+            ("forecasts by a book".into(), self.by_books.forecasts as u64, 100),
+            ("forecasts with too short a scratch".into(), self.short_scratches, 100),
         ];
+        for (answer, count) in FORETOLD.iter().zip(self.foretold) {
+            table.push((format!("forecast {answer}"), count, 50));
+        }
         for (name, count) in CALLS.iter().zip(self.ok) {
             table.push((format!("{name} ok"), count, 600));
         }

@@ -1,6 +1,7 @@
 //! Works a printed case again: `lend N`, `word I V`, `room N` (words of the next answer's
-//! slice), calls as the program reads them; `#` starts a remark. What the test prints behind a
-//! case is passed over, so that its output can be taken as it is.
+//! slice), `scratch N` (words of the next forecast's), calls as the program reads them; `#` starts
+//! a remark. What the test prints behind a case is passed over, so that its output can be taken as
+//! it is.
 
 use crate::pair::{Pair, ANSWER};
 use crate::text::{self, Call};
@@ -21,6 +22,7 @@ pub fn work(file: &str) -> i32 {
             ("lend", [lent], None) => pair = Some(Pair::lend(*lent as usize)),
             ("lend", [lent], Some(pair)) => pair.shorten(*lent as usize),
             ("word", [at, word], Some(pair)) => pair.set(*at as usize, *word),
+            ("scratch", [words], Some(pair)) => pair.lend_scratch(*words as usize),
             ("room", [words], _) => room = *words as usize,
             (_, _, Some(pair)) => {
                 let Some(call) = read_call(line, &numbers) else {

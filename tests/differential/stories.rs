@@ -1,11 +1,11 @@
 //! One story and what follows it.
 
 use crate::admitted;
-use crate::arguments::{any_call, room, sizes};
+use crate::arguments::{any_call, room, scratch, sizes};
 use crate::built;
 use crate::clocks;
 use crate::damaged;
-use crate::desk::{in_form, Sizes};
+use crate::desk::{in_form, Answer, Sizes};
 use crate::met::{Met, Source};
 use crate::pair::{Pair, ANSWER, MARK};
 use crate::random::Random;
@@ -97,8 +97,8 @@ fn plot(teller: &mut Teller) {
     }
 }
 
-/// Each run of a built desk joined, prepared, and issued if it can be: merges of versions that no
-/// list of calls leads to.
+/// Each run of a built desk forecast, joined, forecast again, prepared, and issued if it can be:
+/// merges of versions that no list of calls leads to.
 fn merging_calls(
     random: &mut Random,
     built: &Pair,
@@ -108,7 +108,9 @@ fn merging_calls(
     for run in 0..p {
         let mut pair = built.clone();
         let (writer, mask) = (random.below(w as usize) as u32, random.mask(k as usize, 60));
-        for call in [Call::Join(run), Call::Prepare(run), Call::Issue(run, writer, mask)] {
+        let (forecast, prepare) = (Call::Forecast(run), Call::Prepare(run));
+        let issue = Call::Issue(run, writer, mask);
+        for call in [forecast.clone(), Call::Join(run), forecast, prepare, issue] {
             let answer = pair.call(&call, ANSWER)?;
             met.enter(Source::Built, &call, &answer);
         }
@@ -128,7 +130,12 @@ fn single_calls(
     }
     for _ in 0..1 + random.below(4) {
         let call = any_call(random, pair.words());
+        if matches!(call, Call::Forecast(_)) {
+            pair.lend_scratch(scratch(random, pair.words()));
+        }
         let answer = pair.call(&call, room(random))?;
+        let asked = matches!(call, Call::Forecast(_)) && in_form(pair.words()).is_some();
+        met.short_scratches += u64::from(asked && answer == Some(Answer::Refused(1)));
         met.enter(source, &call, &answer);
     }
     Ok(())

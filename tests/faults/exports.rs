@@ -78,6 +78,20 @@ pub unsafe extern "C" fn sheetdesk_open(
 }
 
 #[no_mangle]
+pub unsafe extern "C" fn sheetdesk_forecast(
+    words: *mut u32,
+    len: usize,
+    scratch: *mut u32,
+    scratch_len: usize,
+    run: u32,
+    out: *mut u32,
+    room: usize,
+) -> u32 {
+    let scratch = lent(scratch, scratch_len);
+    answer(lent(out, room), || desk::forecast(lent(words, len), scratch, run))
+}
+
+#[no_mangle]
 pub unsafe extern "C" fn sheetdesk_compare(
     p: *mut u32,
     p_len: usize,

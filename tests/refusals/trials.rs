@@ -62,6 +62,19 @@ impl Desk {
     }
 }
 
+// What a forecast answers, and a scratch of so many words, each of them 7, behind it. The desk and
+// the words past the scratch stay.
+pub fn forecast(t: &mut Trials, desk: &mut Desk, len: usize, run: u32) -> (Vec<u32>, Vec<u32>) {
+    let (before, mut answer) = (desk.words.clone(), vec![MARK; ANSWER]);
+    let mut scratch = vec![7; len];
+    scratch.extend([MARK; GUARD]);
+    let (lent, kept) = scratch.split_at_mut(len);
+    let count = library::forecast(&desk.words[..desk.len], lent, run, &mut answer) as usize;
+    let guarded = kept.iter().chain(&answer[count..]).all(|word| *word == MARK);
+    t.check("forecast, desk and guard words", guarded && desk.words == before);
+    (answer[..count].to_vec(), lent.to_vec())
+}
+
 // The words of a desk of these counts.
 pub fn total([k, w, n, p]: [u32; 4]) -> usize {
     Sizes::of(k, w, n, p).expect("counts of a desk").total()

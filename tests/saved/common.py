@@ -79,7 +79,7 @@ EVERYDAY = ["new 4 3 2 8", "open 0 0 0 0", "step 0 0", "issue 0 0 7", "open 0 0 
             "fetch 1 2", "open 0 0 1 0", "step 0 0",
             "issue 0 1 2", "open 0 1 1 0", "step 0 0", "issue 0 2 6", "fetch 0 0", "open 0 0 1 0 1 2 0", "prepare 0",
             "step 0 0", "open 1 0 1 0 1 8 0", "step 1 0", "open 2 0 0 0", "step 2 0", "issue 2 0 9", "fetch 1 3",
-            "explain 1 1", "step 1 1", "fork 0", "open 3 0 1 0 1 2 0", "fork 3", "step 3 0", "explain 3 1 1", "step 3 1 1",
+            "explain 1 1", "forecast 1", "step 1 1", "fork 0", "open 3 0 1 0 1 2 0", "fork 3", "step 3 0", "explain 3 1 1", "step 3 1 1",
             "open 4 0 1 0 1 6 0", "prepare 4", "fork 4", "step 4 0", "step 4 1 1", "join 4",
             "open 5 0 1 0 1 1 0", "fork 5", "step 5 0", "step 5 1 1", "join 5"]
 

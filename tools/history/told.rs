@@ -99,6 +99,7 @@ impl Told {
             (Call::Pick, Answer::Nothing, _) => {
                 row.words = String::from("No open run has a job that could be stepped.");
             }
+            (Call::Forecast(run), ..) => row.words += &words::foretold(*run, answer),
             _ => {}
         }
         let shelf = |copies: &Vec<Saves>| Shelf { held: held(copies), stale: 0 };

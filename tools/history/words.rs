@@ -2,6 +2,7 @@
 
 use super::log::is_answer;
 use super::versions::{sheets, Version};
+use crate::desk::Answer;
 use crate::text::Call;
 
 /// "0", "0 and 2", "0, 1 and 4".
@@ -43,6 +44,23 @@ pub fn stale(office: u32, sheets: u32) -> String {
     match sheets {
         0 => format!("No sheet on the shelf of office {office} is stale."),
         _ => format!("Stale on the shelf of office {office}: {}.", sheet_list(sheets)),
+    }
+}
+
+/// What a forecast answers that isn't refused.
+pub fn foretold(run: u32, answer: &Answer) -> String {
+    match answer {
+        Answer::Through => format!("The jobs of run {run} that aren't done would go through."),
+        Answer::Breaks(job, mask) => format!(
+            "Job {job} of run {run} would break the run: {} would change, which the run would \
+             have read.",
+            sheet_list(*mask)
+        ),
+        Answer::Turned(job, number) => format!(
+            "Job {job} of run {run} would be refused: {}.",
+            refusal(&Call::Step(run, *job, 0), *number)
+        ),
+        _ => String::new(),
     }
 }
 

@@ -151,15 +151,18 @@ reads-without z p q n (c ∷ cs) right a =
           ∙ ap (λ (x : ℕ → ℕ). reads z p cs x a) (e .3 right))
     ]
 
+pub booked-carried : (m : List ℕ) (r : ℕ) → Booked m r → CarriedAt r m
+booked-carried m r B =
+    rw (B .now) (list-carried r (B .between) (prepared r (B .base))
+    (prepared-carried (B .base) r (B .formed) (B .accepted)) (B .quiet))
+
 -- Whatever q is: only p has to be prepared.
 pub independent-of : (m : List ℕ) (p q : ℕ) → p ≢ q → Booked m p → (cs : List Call)
     → So (untouched p cs m) → So (untouched p (without q cs) m)
     → readBy p cs m ≡ readBy p (without q cs) m
 independent-of m p q n B cs u v =
     let s = storeOf m in
-    let R : CarriedAt p m =
-    rw (B .now) (list-carried p (B .between) (prepared p (B .base))
-    (prepared-carried (B .base) p (B .formed) (B .accepted)) (B .quiet)) in
+    let R = booked-carried m p B in
     reads-so p cs m R u
     ∙ sym (reads-without (s .counts) p q n cs (s .tail .mayHold) (s .run p))
     ∙ sym (reads-so p (without q cs) m R v)

@@ -203,13 +203,19 @@ mild-answers n a t m =
       λ h. word 1 h (m .2),
     ))
 
-pub never-stops : NeverStops
-never-stops l r f p cs u j n =
-    let m = after cs (prepared r l) in
-    let R = list-carried r cs (prepared r l) (prepared-carried l r f p) u in
-    let s = storeOf m in
-    rw (carried-calls r m R j n)
+pub carried-unstopped : (r : ℕ) (l : List ℕ) → CarriedAt r l
+    → (j n : ℕ) → let words = answer (callOn (on (step r j n)) l) in
+    ((mask : ℕ) → words ≢ 1 ∷ mask ∷ []) × (words ≢ 2 ∷ 7 ∷ []) × (words ≢ 2 ∷ 12 ∷ [])
+    × (words ≢ 2 ∷ 4 ∷ [])
+carried-unstopped r l R j n =
+    let s = storeOf l in
+    rw (carried-calls r l R j n)
     (mild-answers (bookedCause s r j n) _ _ (booked-mild s r j n (R .carried .open-run)))
+
+pub never-stops : NeverStops
+never-stops l r f p cs u =
+    carried-unstopped r (after cs (prepared r l))
+    (list-carried r cs (prepared r l) (prepared-carried l r f p) u)
 
 -- "a desk that began with new or admission": it is in form at every point of a list.
 pub after-beginning : AfterBeginning

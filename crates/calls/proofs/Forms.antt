@@ -21,11 +21,13 @@ use Rattle.model.specs.Calls.{StoreCall, Query, openRun, ask}
 use Rattle.layout.specs.Buffer.{inForm}
 use Rattle.layout.specs.Calls.{Call, new, audit, on, newCause, callOn, leaves, isNew, isOk}
 use Rattle.layout.proofs.Follow.{fine-form}
+use Rattle.layout.specs.Forecast.{foreseen}
+use Rattle.layout.proofs.Foreseeing.{foreseen-none}
 use Rattle.layout.proofs.Forms.{no-form, form-kept, audit-leaves, ask-leaves}
 use Rattle.layout.proofs.Rules.{new-fine, new-done, new-refused}
 use Rattle.command.specs.declared.Command.{Command}
 use Rattle.command.specs.Commands.{spelled}
-use Rattle.calls.specs.Performs.{asksNew, Does, Exported, TurnedDown, Made, MadeOf}
+use Rattle.calls.specs.Performs.{asksNew, Does, Exported, scratchAfter, TurnedDown, Made, MadeOf}
 
 -- ---- one call
 
@@ -96,6 +98,21 @@ module _ (l a : List ℕ) (f g : Bool) (e : f ≡ inForm l)
         (and-cases f (leb answerRoom (length a)) (sym d ∙ z));
     short = λ h. let s = t .short h in (s .0, refl, s .1);
   }
+
+  -- The scratch of a forecast that isn't made.
+  pub scratch-not : (m : List ℕ) (r : ℕ) → g ≡ false → m ≡ scratchAfter l m r a
+  unfolding scratchAfter
+  scratch-not m r z =
+      ⊎-elim
+      (λ y. rw (foreseen-none l m r (sym e ∙ y)) (test (leb answerRoom (length a))
+      (λ h. rw h) (λ h. rw h)))
+      (λ y. rw y) (and-cases f (leb answerRoom (length a)) (sym d ∙ z))
+
+  -- And of one that is.
+  pub scratch-made : (m x : List ℕ) (r : ℕ) → So g → x ≡ foreseen l m r
+      → x ≡ scratchAfter l m r a
+  unfolding scratchAfter
+  scratch-made m x r y q = rw (le-leb _ _ (can-make-room y)) q
 
 -- Open's job words are told by another number that is the same.
 pub does-open : (r k j : ℕ) (ws l m a b : List ℕ) (n : ℕ) → k ≡ j

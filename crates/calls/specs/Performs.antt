@@ -1,16 +1,19 @@
 -- A call that is made: the words of its answer, the buffer after it, and whether that is in form.
--- Does, Exported: one call. TurnedDown: one that isn't made. asksNew, TellsNew: whether it is new.
--- Made, Performs: what a command asks for, which may be no call.
+-- Does, Exported: one call. scratchAfter: what a forecast leaves of its scratch. TurnedDown: one
+-- that isn't made. asksNew, TellsNew: whether it is new. Made, Performs: what a command asks for,
+-- which may be no call.
 -- Assumes nothing.
 use mathlib.Core.Path.{_≡_}
-use mathlib.Core.Bool.{Bool, false}
+use mathlib.Core.Bool.{Bool, false, cond}
 use mathlib.Core.List.{List, [], _∷_}
 use mathlib.Core.Option.{Option, none, some}
 use Prim.Native.Nat.{ℕ, _≤_, _<_}
+use lib.Dec.{leb}
 use lib.ListN.{length}
 use Rattle.answers.specs.Answers.{maxAnswer, answerRoom, Lays}
 use Rattle.model.specs.Outcome.{answer}
 use Rattle.layout.specs.Buffer.{inForm}
+use Rattle.layout.specs.Forecast.{foreseen}
 use Rattle.layout.specs.Calls.{Call, callOn, leaves, isNew}
 use Rattle.command.specs.declared.Command.{Command}
 use Rattle.command.specs.Commands.{spelled}
@@ -27,6 +30,10 @@ pub record Does (c : Call) (l m a b : List ℕ) (n : ℕ) : Type 0 where
 pub record Exported (c : Call) (l m a b : List ℕ) (n : ℕ) : Type 0 where
   pub does : answerRoom ≤ length a → Does c l m a b n
   pub short : length a < answerRoom → (n ≡ 0) × (m ≡ l) × (b ≡ a)
+
+-- The scratch m of a forecast of run r, after it: as it was, if the answer slice is too short.
+unfoldable pub scratchAfter : List ℕ → List ℕ → ℕ → List ℕ → List ℕ
+scratchAfter l m r a = cond (leb answerRoom (length a)) (foreseen l m r) m
 
 -- Of a call that isn't made: the answer slice says `refused 1`, or is too short.
 pub record TurnedDown (a b : List ℕ) (n : ℕ) : Type 0 where

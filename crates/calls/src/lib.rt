@@ -1,6 +1,7 @@
 // The one way to make a call, on any buffer: its answer's words are laid over a lent slice. The
 // exports test whether the buffer is in form (`ready`), the program knows it from the call before.
 pub mod first;
+pub mod forecasts;
 pub mod later;
 mod laying;
 
@@ -14,6 +15,7 @@ use first::new;
 use first::open;
 use first::prepare;
 use first::step;
+use forecasts::forecast_alone;
 use later::admit;
 use later::allow;
 use later::explain;
@@ -66,6 +68,7 @@ fn make(store: &mut [u32], ready: bool, command: Command, numbers: &[u32], out: 
         Command::Maysave(w, m) => maysave(store, ready, w, m, out),
         Command::Fork(r) => fork(store, ready, r, out),
         Command::Join(r) => join(store, ready, r, out),
+        Command::Forecast(r) => forecast_alone(store, ready, r, out),
     }
 }
 

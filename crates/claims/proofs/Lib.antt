@@ -9,3 +9,8 @@ pub mod UsesRights
 pub mod Lines
 pub mod Joins
 pub mod UsesLines
+pub mod Stepping
+pub mod Foretelling
+pub mod Firsts
+pub mod PreparedForecasts
+pub mod UsesForecasts

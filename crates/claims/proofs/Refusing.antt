@@ -24,7 +24,8 @@ use Rattle.model.specs.Calls.Explain.{explainReply}
 use Rattle.model.specs.Calls.Stale.{staleCause, staleReply}
 use Rattle.model.specs.Calls.Audit.{unreadable, judged, auditReply}
 use Rattle.model.specs.Calls.Admit.{admitCause, admitReply}
-use Rattle.model.specs.Calls.{Query, look, explain, stale, admit, StoreCall, openRun, fetch, evict, prepare, step, issue, dropRun, allow, pick, mayhold, maysave, fork, join, ask, replyOf, ruleOf}
+use Rattle.model.specs.Calls.Forecast.{forecastCause, forecastReply}
+use Rattle.model.specs.Calls.{Query, look, explain, stale, admit, forecast, StoreCall, openRun, fetch, evict, prepare, step, issue, dropRun, allow, pick, mayhold, maysave, fork, join, ask, replyOf, ruleOf}
 use Rattle.layout.specs.Reading.{storeOf}
 use Rattle.layout.specs.Buffer.{inForm}
 use Rattle.layout.specs.Calls.{Call, new, audit, on, newCause, newOn, onStore, callOn}
@@ -124,12 +125,14 @@ pick-taken s =
 
 asked : (q : Query) (s : Store) → In (0 ∷ askedRefusals q) (replyOf q s .cause)
 unfolding replyOf askedRefusals lookReply lookCause explainReply staleReply staleCause admitReply
-    admitCause
+    admitCause forecastReply forecastCause runCause
 asked (look p i k) s =
     row _ _ _ refl (row _ _ _ refl (row _ _ _ refl (row _ _ _ refl none)))
 asked (explain r j n) s = step-listed s r j n
 asked (stale o) s = row _ _ _ refl none
 asked admit s = row _ _ _ refl none
+asked (forecast n r) s =
+    row _ _ _ refl (row _ _ _ refl (row _ _ _ refl (row _ _ _ refl none)))
 
 rule-listed : (c : StoreCall) (s : Store) (n : ℕ) → ruleOf c s ≡ refused n
     → In (storeRefusals c) n
@@ -211,3 +214,5 @@ eleven-alone (on (ask (explain r j n))) l e =
     clash (refused-as-listed (on (ask (explain r j n))) l 11 e) refl
 eleven-alone (on (ask (stale o))) l e = clash (refused-as-listed (on (ask (stale o))) l 11 e) refl
 eleven-alone (on (ask admit)) l e = refl
+eleven-alone (on (ask (forecast n r))) l e =
+    clash (refused-as-listed (on (ask (forecast n r))) l 11 e) refl

@@ -2,3 +2,4 @@ pub mod Refusals
 pub mod Allowances
 pub mod Rights
 pub mod Lines
+pub mod Forecasts

@@ -8,8 +8,8 @@ use mathlib.Core.List.{List, [], _∷_}
 use Prim.Native.Nat.{ℕ}
 use lib.Dec.{eqb}
 use Rattle.model.specs.Outcome.{refused}
-use Rattle.model.specs.Calls.{Query, look, explain, stale, admit, StoreCall, openRun, fetch, evict, prepare, step, issue, dropRun, allow, pick, mayhold, maysave, fork, join, ask}
 use Rattle.layout.specs.Calls.{Call, new, audit, on, callOn}
+use Rattle.model.specs.Calls.{Query, look, explain, stale, admit, forecast, StoreCall, openRun, fetch, evict, prepare, step, issue, dropRun, allow, pick, mayhold, maysave, fork, join, ask}
 use Rattle.consistency.specs.Roles.{prepares, finishes, forks, joins, Role, opening, working, freeing, elsewhere, roleOf}
 use Rattle.consistency.specs.Claim.{isBroken}
 
@@ -17,12 +17,13 @@ abbrev pub isOneOf : ℕ → List ℕ → Bool
 isOneOf n [] = false
 isOneOf n (x ∷ xs) = eqb n x || isOneOf n xs
 
--- After 1, which every call on a desk has.
+-- After 1, which every call on a desk has. CR 12: "A scratch too short gives 1", too.
 unfoldable pub askedRefusals : Query → List ℕ
 askedRefusals (look p i k) = 3 ∷ 8 ∷ []
 askedRefusals (explain r j n) = 3 ∷ 4 ∷ 14 ∷ 6 ∷ 13 ∷ 7 ∷ 12 ∷ []
 askedRefusals (stale o) = 3 ∷ []
 askedRefusals admit = 11 ∷ []
+askedRefusals (forecast n r) = 1 ∷ 3 ∷ 4 ∷ 14 ∷ []
 
 unfoldable pub storeRefusals : StoreCall → List ℕ
 storeRefusals (openRun r l) = 3 ∷ 4 ∷ 5 ∷ []

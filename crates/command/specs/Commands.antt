@@ -1,14 +1,20 @@
 -- The call that a command asks for, with the numbers that are lent beside it.
--- spelled: the call, none for `unread`. numbersEnd: where the numbers end that it uses.
+-- scratchRoom: the scratch that is lent to a forecast. spelled: the call, none for `unread`.
+-- numbersEnd: where the numbers end that it uses.
 -- Assumes nothing.
 use mathlib.Core.List.{List}
 use mathlib.Core.Option.{Option, none, some}
 use Prim.Native.Nat.{ℕ, _+_}
 use lib.ListN.{take, drop}
-use Rattle.model.specs.Calls.{look, explain, stale, admit, openRun, fetch, evict, prepare, step, issue, dropRun, allow, pick, mayhold, maysave, fork, join, ask}
+use Rattle.model.specs.Calls.{look, explain, stale, admit, forecast, openRun, fetch, evict, prepare, step, issue, dropRun, allow, pick, mayhold, maysave, fork, join, ask}
 use Rattle.layout.specs.Calls.{Call, new, on}
 use Rattle.command.specs.declared.Command.{Command}
-use Rattle.command.specs.declared.Command.the-variants.{Unread, New, Open, Fetch, Evict, Prepare, Step, Issue, Drop, Look, Explain, Stale, Admit, Allow, Pick, Mayhold, Maysave, Fork, Join}
+use Rattle.command.specs.declared.Command.the-variants.{Unread, New, Open, Fetch, Evict, Prepare, Step, Issue, Drop, Look, Explain, Stale, Admit, Allow, Pick, Mayhold, Maysave, Fork, Join, Forecast}
+
+-- CR 12: "a scratch buffer of at least the desk's total": the program lends as many words as its
+-- buffer has (crate script, `scratch-room`).
+abbrev pub scratchRoom : ℕ
+scratchRoom = 16384
 
 -- Open's job words are the n from index i on.
 abbrev pub spelled : Command → List ℕ → Option Call
@@ -31,6 +37,7 @@ spelled (Mayhold o m) l = some (on (mayhold o m))
 spelled (Maysave w m) l = some (on (maysave w m))
 spelled (Fork r) l = some (on (fork r))
 spelled (Join r) l = some (on (join r))
+spelled (Forecast r) l = some (on (ask (forecast scratchRoom r)))
 
 -- Open alone uses any.
 abbrev pub numbersEnd : Command → ℕ
@@ -53,3 +60,4 @@ numbersEnd (Mayhold o m) = 0
 numbersEnd (Maysave w m) = 0
 numbersEnd (Fork r) = 0
 numbersEnd (Join r) = 0
+numbersEnd (Forecast r) = 0

@@ -22,4 +22,5 @@ pub enum Command {
     Maysave(u32, u32),
     Fork(u32),
     Join(u32),
+    Forecast(u32),
 }

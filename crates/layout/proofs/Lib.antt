@@ -2,6 +2,7 @@ pub mod Buffers
 pub mod Numerals
 pub mod Older
 pub mod Scripted
+pub mod Foreseen
 pub mod Codec
 pub mod Jobs
 pub mod Parts
@@ -22,4 +23,5 @@ pub mod Follow
 pub mod Kept
 pub mod Rules
 pub mod Forms
+pub mod Foreseeing
 pub mod Inside

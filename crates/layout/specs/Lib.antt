@@ -3,3 +3,4 @@ pub mod Reading
 pub mod Stored
 pub mod Buffer
 pub mod Calls
+pub mod Forecast

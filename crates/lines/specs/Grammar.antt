@@ -11,7 +11,8 @@ use lib.Dec.{leb}
 use lib.ListN.{length, getD, drop}
 use Rattle.text.specs.Bytes.{bytesOf, sameBytes}
 use Rattle.text.specs.Fields.{fieldsOf, numbersOf}
-use Rattle.model.specs.Calls.{openRun, fetch, evict, prepare, step, issue, dropRun, allow, pick, mayhold, maysave, fork, join, ask, look, explain, stale, admit}
+use Rattle.model.specs.Calls.{openRun, fetch, evict, prepare, step, issue, dropRun, allow, pick, mayhold, maysave, fork, join, ask, look, explain, stale, admit, forecast}
+use Rattle.command.specs.Commands.{scratchRoom}
 use Rattle.layout.specs.Calls.{Call, new, on}
 
 -- "one over 400 bytes" is unread.
@@ -41,7 +42,8 @@ at ns i = getD ns i 0
 -- `stale o`; 6 "a new call admits a desk", `admit`; 7 "A call sets it", `allow o n`;
 -- 8 "A dispatcher picks", `pick`; 9 "a call sets each", `mayhold o m`, `maysave w m`;
 -- 10 "step and explaining gain a line, 0 or 1, 0 if left out", `step r j l`, `explain r j l`, "An
--- open run may fork once", `fork r`, "Joining, for an open run", `join r`.
+-- open run may fork once", `fork r`, "Joining, for an open run", `join r`; 12 "a forecast takes a
+-- desk, an open unforked run", `forecast r`, with the program's scratch.
 abbrev pub forms : List Form
 forms =
     form "new" 4 4 (λ ns. new (at ns 0) (at ns 1) (at ns 2) (at ns 3)) ∷
@@ -61,7 +63,8 @@ forms =
     form "mayhold" 2 2 (λ ns. on (mayhold (at ns 0) (at ns 1))) ∷
     form "maysave" 2 2 (λ ns. on (maysave (at ns 0) (at ns 1))) ∷
     form "fork" 1 1 (λ ns. on (fork (at ns 0))) ∷
-    form "join" 1 1 (λ ns. on (join (at ns 0))) ∷ []
+    form "join" 1 1 (λ ns. on (join (at ns 0))) ∷
+    form "forecast" 1 1 (λ ns. on (ask (forecast scratchRoom (at ns 0)))) ∷ []
 
 -- The form of a word.
 unfoldable pub formOf : List Form → List ℕ → Option Form

@@ -56,6 +56,7 @@ fn later_command(number: usize, numbers: &[u32], n: usize) -> Command
         15 => Command::Maysave(a, b),
         16 => Command::Fork(a),
         17 => Command::Join(a),
+        18 => Command::Forecast(a),
         _ => Command::Unread,
     }
 }

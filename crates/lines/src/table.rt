@@ -15,7 +15,7 @@ struct Row {
 }
 
 // How many commands there are.
-const COMMANDS: usize = 18;
+const COMMANDS: usize = 19;
 
 // The commands: a command's number is its row's. Document 01's nine, then the later ones.
 const ROWS: [Row; COMMANDS] = [
@@ -106,6 +106,11 @@ const ROWS: [Row; COMMANDS] = [
     },
     Row {
         word: *b"join    ",
+        least: 1,
+        most: 1,
+    },
+    Row {
+        word: *b"forecast",
         least: 1,
         most: 1,
     },

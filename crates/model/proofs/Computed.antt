@@ -48,6 +48,8 @@ pub mod Pick
 pub mod Rights
 pub mod Fork
 pub mod Later
+pub mod Forecast
+pub mod Foretold
 
 -- The ten marked readings pass, and each script is answered as it should be, answer by answer.
 pub record Computed : Type 0 where

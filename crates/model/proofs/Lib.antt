@@ -29,3 +29,5 @@ pub mod Moved
 pub mod Rows
 pub mod Joining
 pub mod Forks
+pub mod Forecasts
+pub mod Turned

@@ -11,6 +11,7 @@ pub mod Pick
 pub mod Rights
 pub mod Fork
 pub mod Audit
+pub mod Forecast
 use mathlib.Core.List.{List}
 use Prim.Native.Nat.{ℕ}
 use Rattle.model.specs.Store.{Store}
@@ -28,6 +29,7 @@ use Rattle.model.specs.Calls.Allow.{allowRule}
 use Rattle.model.specs.Calls.Pick.{pickRule}
 use Rattle.model.specs.Calls.Rights.{mayholdRule, maysaveRule}
 use Rattle.model.specs.Calls.Fork.{forkRule, joinRule}
+use Rattle.model.specs.Calls.Forecast.{forecastReply}
 
 -- A call that only answers.
 pub data Query : Type 0 where
@@ -35,12 +37,14 @@ pub data Query : Type 0 where
   explain : ℕ → ℕ → ℕ → Query  -- run, job, line
   stale : ℕ → Query  -- office
   admit : Query
+  forecast : ℕ → ℕ → Query  -- how many words the scratch has, run
 
 unfoldable pub replyOf : Query → Store → Reply
 replyOf (look p i k) = lookReply p i k
 replyOf (explain r j n) = explainReply r j n
 replyOf (stale o) = staleReply o
 replyOf admit = admitReply
+replyOf (forecast n r) = forecastReply n r
 
 -- A call on a store that is in form.
 pub data StoreCall : Type 0 where

@@ -76,8 +76,12 @@ forkRow = 5
 abbrev pub joinRow : ℕ
 joinRow = 6
 
+abbrev pub forecastRow : ℕ
+forecastRow = 7
+
 -- "Which state a call needs: open: free; prepare, step, issue: open; drop: open or broken."
--- CR 10: "An open run may fork once", "Joining, for an open run".
+-- CR 10: "An open run may fork once", "Joining, for an open run". CR 12: a forecast takes "an
+-- open .. run".
 -- A row for each call; free, open, broken.
 abbrev pub stateTable : List ℕ
 stateTable =
@@ -86,6 +90,7 @@ stateTable =
     0 ∷ 1 ∷ 0 ∷
     0 ∷ 1 ∷ 0 ∷
     0 ∷ 1 ∷ 1 ∷
+    0 ∷ 1 ∷ 0 ∷
     0 ∷ 1 ∷ 0 ∷
     0 ∷ 1 ∷ 0 ∷ []
 

@@ -19,11 +19,11 @@ abbrev pub bodyRoom : ℕ
 bodyRoom = 383
 
 -- The words of an answer's first number: 0 ok, 1 broken, 2 refused; explain's 3 clear, 4 path;
--- pick's 5 nothing.
+-- pick's 5 nothing; forecast's 6 through, 7 breaks, 8 turned.
 abbrev pub answerWords : List (List ℕ)
 answerWords =
     bytesOf "ok" ∷ bytesOf "broken" ∷ bytesOf "refused" ∷ bytesOf "clear" ∷ bytesOf "path"
-    ∷ bytesOf "nothing" ∷ []
+    ∷ bytesOf "nothing" ∷ bytesOf "through" ∷ bytesOf "breaks" ∷ bytesOf "turned" ∷ []
 
 -- No call answers another first number: its line would have no word.
 unfoldable pub answerWord : ℕ → List ℕ

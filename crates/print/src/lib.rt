@@ -26,7 +26,7 @@ struct Word {
 }
 
 // The words of an answer's first number, from 0 on.
-const WORDS: [Word; 6] = [
+const WORDS: [Word; 9] = [
     Word {
         bytes: *b"ok      ",
     },
@@ -44,6 +44,15 @@ const WORDS: [Word; 6] = [
     },
     Word {
         bytes: *b"nothing ",
+    },
+    Word {
+        bytes: *b"through ",
+    },
+    Word {
+        bytes: *b"breaks  ",
+    },
+    Word {
+        bytes: *b"turned  ",
     },
 ];
 

@@ -1,7 +1,9 @@
 // The calls for C and Rust. Each lays its answer's words (0 ok, 1 broken, 2 refused, 3 clear,
-// 4 path or 5 nothing, then the numbers) over the front of a lent slice and gives how many they
-// are; a slice of fewer than 40 words gives 0, and nothing is changed.
+// 4 path, 5 nothing, 6 through, 7 breaks or 8 turned, then the numbers) over the front of a lent
+// slice and gives how many they are; a slice of fewer than 40 words gives 0, and nothing is
+// changed.
 pub mod clocks;
+pub mod scratch;
 
 use form::in_form;
 ghost use mathlib.Core.Path.{_≡_};
@@ -215,9 +217,9 @@ pub extern "C" fn sheetdesk_explain_on(
 // The version of this interface: it rises when a call, its arguments or its answer change.
 #[no_mangle]
 pub extern "C" fn sheetdesk_version() -> u32
-    ensures { λ r. ⌜ r ≡ 10 ⌝ }
+    ensures { λ r. ⌜ r ≡ 11 ⌝ }
 {
-    10
+    11
 }
 
 // The version of the layout: it rises when the words of a desk change.

@@ -1,8 +1,8 @@
-// Which state of its run a call needs: one table, and one test that the seven calls share.
+// Which state of its run a call needs: one table, and one test that the eight calls share.
 ghost use mathlib.Core.Path.{_≡_};
 ghost use Prim.Native.Nat.{_<_};
 ghost use Rattle.model.specs.Store.{forkedMark, joinedMark};
-ghost use Rattle.model.specs.Outcome.{allowed, freeState, openState, brokenState, openRow, prepareRow, stepRow, issueRow, dropRow, forkRow, joinRow};
+ghost use Rattle.model.specs.Outcome.{allowed, freeState, openState, brokenState, openRow, prepareRow, stepRow, issueRow, dropRow, forkRow, joinRow, forecastRow};
 
 // The calls that ask for a state, in the order of the table's rows.
 pub const OPEN_ROW: u32 = 0;
@@ -19,6 +19,8 @@ pub const FORK_ROW: u32 = 5;
 
 pub const JOIN_ROW: u32 = 6;
 
+pub const FORECAST_ROW: u32 = 7;
+
 // The states of a run, in the order of the table's columns.
 pub const FREE_STATE: u32 = 0;
 
@@ -32,7 +34,7 @@ pub const FORKED_MARK: u32 = 1;
 pub const JOINED_MARK: u32 = 2;
 
 // Three numbers for each call, in the order above. 1: allowed.
-const ALLOWED: [u8; 21] = [
+const ALLOWED: [u8; 24] = [
     1, // open, free
     0, // open, open
     0, // open, broken
@@ -54,11 +56,14 @@ const ALLOWED: [u8; 21] = [
     0, // join, free
     1, // join, open
     0, // join, broken
+    0, // forecast, free
+    1, // forecast, open
+    0, // forecast, broken
 ];
 
 // May the call be made on a run in this state?
 pub fn is_allowed(call: u32, state: u32) -> bool
-    requires { ⌜ (call < 7) × (state < 3) ⌝ }
+    requires { ⌜ (call < 8) × (state < 3) ⌝ }
     ensures { λ r. ⌜ r ≡ allowed call state ⌝ }
 {
     let at = words::wide(call * 3 + state);
@@ -74,6 +79,7 @@ pub fn numbers()
     ensures drop { λ _. do ⌜ (← ⟦DROP_ROW⟧ .entry) ≡ dropRow ⌝ }
     ensures fork { λ _. do ⌜ (← ⟦FORK_ROW⟧ .entry) ≡ forkRow ⌝ }
     ensures join { λ _. do ⌜ (← ⟦JOIN_ROW⟧ .entry) ≡ joinRow ⌝ }
+    ensures forecast { λ _. do ⌜ (← ⟦FORECAST_ROW⟧ .entry) ≡ forecastRow ⌝ }
     ensures free_state { λ _. do ⌜ (← ⟦FREE_STATE⟧ .entry) ≡ freeState ⌝ }
     ensures open_state { λ _. do ⌜ (← ⟦OPEN_STATE⟧ .entry) ≡ openState ⌝ }
     ensures broken_state { λ _. do ⌜ (← ⟦BROKEN_STATE⟧ .entry) ≡ brokenState ⌝ }

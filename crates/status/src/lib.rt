@@ -25,7 +25,7 @@ ghost use Rattle.status.specs.Lent.{statusAt, putStatus, freed, marked, 
 // one that the call, a row of the table, allows. 0: none.
 pub fn run_cause(words: &[u32], z: Counts, row: u32, r: usize) -> u32
     requires { ⌜ FormWith (now words) z ⌝ }
-    requires { ⌜ row < 7 ⌝ }
+    requires { ⌜ row < 8 ⌝ }
     ensures { λ c. ⌜ c ≡ runCause (storeOf (now (words .entry))) row r 0 ⌝ }
 {
     let runs = z.runs;

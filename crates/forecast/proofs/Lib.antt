@@ -1,0 +1,5 @@
+pub mod Turns
+pub mod Walks
+pub mod Causes
+pub mod Copies
+pub mod Calls
