@@ -2,7 +2,9 @@
 //! the reference, on the same desks, in one run, in turns.
 //!
 //! `calls`: a row for each call and size: median nanoseconds of both, and the ratio's least,
-//! median and largest of all rounds; then how the library's cost grows with K, W, N and P.
+//! median and largest of all rounds; then how the library's cost grows with K, W, N and P; then
+//! audits of long records. An audit is held against the reference's walk back, which goes the same
+//! way as a program that has no room for sets.
 //! `calls --count K W N P`: each case once on each side, inside `counted_library` and
 //! `counted_reference`, for a tool that counts instructions.
 #![allow(dead_code)]
@@ -13,15 +15,18 @@ mod embed;
 mod reference {
     pub mod desk;
     pub mod text;
+    pub mod walked;
 }
 #[path = "../embed/library.rs"]
 mod library;
 #[path = "calls/desks.rs"]
 mod desks;
+#[path = "calls/records.rs"]
+mod records;
 #[path = "calls/rounds.rs"]
 mod rounds;
 
-use reference::{desk, text};
+use reference::{desk, text, walked};
 
 /// Small, middle and largest.
 const SIZES: [[u32; 4]; 3] = [[2, 2, 2, 1], [8, 4, 4, 4], [32, 16, 8, 8]];
@@ -50,6 +55,7 @@ fn main() {
         }
     }
     growth();
+    records::tables();
 }
 
 /// The library's median nanoseconds while one count of the middle desk changes.

@@ -48,7 +48,7 @@ instructions() {
     echo "Made on $(uname -m), $(nproc) processors,"
     echo "$(sed -n 's/^model name[^:]*: //p' /proc/cpuinfo | head -n 1), $(rustc --version)."
     echo
-    echo "Calls of the library on full desks, and how their cost grows from the desk 8 4 4 4:"
+    echo "Calls of the library on full desks, how their cost grows from the desk 8 4 4 4, and audits of long records:"
     echo
     "$out/calls"
     if command -v valgrind >/dev/null; then

@@ -56,6 +56,7 @@ pub fn call(desk: &mut [u32], call: &Call, answer: &mut [u32]) -> u32 {
                 let mut scratch = vec![0; dn];
                 sheetdesk_forecast(d, dn, scratch.as_mut_ptr(), dn, *run, a, an)
             }
+            Call::Audit(record) => sheetdesk_audit(record.as_ptr(), record.len(), a, an),
             Call::Stale(office) => sheetdesk_stale(d, dn, *office, a, an),
             Call::Admit => sheetdesk_admit(d, dn, a, an),
             Call::Allow(office, number) => sheetdesk_allow(d, dn, *office, *number, a, an),
@@ -74,6 +75,12 @@ pub fn forecast(desk: &[u32], scratch: &mut [u32], run: u32, answer: &mut [u32])
     let (d, dn) = (desk.as_ptr(), desk.len());
     let (s, sn) = (scratch.as_mut_ptr(), scratch.len());
     unsafe { sheetdesk_forecast(d, dn, s, sn, run, answer.as_mut_ptr(), answer.len()) }
+}
+
+/// An audit of a lent record.
+pub fn audit(record: &[u32], answer: &mut [u32]) -> u32 {
+    let (r, rn) = (record.as_ptr(), record.len());
+    unsafe { sheetdesk_audit(r, rn, answer.as_mut_ptr(), answer.len()) }
 }
 
 /// How clock p stands against clock q.

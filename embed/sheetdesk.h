@@ -1,10 +1,11 @@
-/* The sheet desk for C: its calls over one lent buffer of 32-bit words, and three calls on
- * clocks. Link with -lsheetdesk_c, the static library or the shared one (x86-64 Linux); README.md
+/* The sheet desk for C: its calls over one lent buffer of 32-bit words, one on a record of issues,
+ * and three on clocks. Link with -lsheetdesk_c, the static library or the shared one (x86-64 Linux); README.md
  * shows the lines.
  *
  * A slice is a pointer and a length in words. The pointer must be valid for so many words and
- * aligned to 4 bytes; it may not be null, even with length 0; the slices of a call (`desk`,
- * `answer`, open's `jobs` and forecast's `scratch`; `target` and `source`) may not overlap. Any
+ * aligned to 4 bytes; it may not be null, even with length 0; the slices of a call (`desk` or
+ * `record`, `answer`, open's `jobs` and forecast's `scratch`; `target` and `source`) may not
+ * overlap. Any
  * content and any numbers are fine: what a call can't work on it refuses. No call reads or writes
  * outside its slices, or allocates.
  *
@@ -40,7 +41,7 @@ extern "C" {
 #endif
 
 /* The version of the calls: rises when one is added or changes what it takes, does or answers. */
-#define SHEETDESK_VERSION 11
+#define SHEETDESK_VERSION 12
 /* The version of the desk's words: rises when a desk of the same counts has other words. */
 #define SHEETDESK_LAYOUT 7
 /* The same two of the library that is linked: compare them with these. */
@@ -94,7 +95,8 @@ enum sheetdesk_refusal {
     SHEETDESK_NOT_ADMITTED = 11, /* admit: in form, but no desk that the calls can have left */
     SHEETDESK_OVER_ALLOWANCE = 12, /* a shelf would hold more sheets than its allowance */
     SHEETDESK_NO_RIGHT = 13, /* the office may not hold a sheet, or the writer not save it */
-    SHEETDESK_WRONG_LINE = 14 /* the run is forked, or isn't, or has no such line */
+    SHEETDESK_WRONG_LINE = 14, /* the run is forked, or isn't, or has no such line */
+    SHEETDESK_NOT_READABLE = 15 /* audit: the words are no record, or one that can't be */
 };
 
 /* How one clock stands against another: all counts are equal; some are smaller and none larger;
@@ -242,6 +244,22 @@ uint32_t sheetdesk_explain_on(const uint32_t *desk, size_t desk_len, uint32_t ru
 uint32_t sheetdesk_forecast(const uint32_t *desk, size_t desk_len, uint32_t *scratch,
                             size_t scratch_len, uint32_t run, uint32_t *answer,
                             size_t answer_len);
+
+/* Audits a record of issues, which clients wrote down: whether what each issue read was a snapshot
+ * of the issues before it. It needs no desk. The record, which may go on past its total t:
+ *   K W I Q a q t      K sheets (1..32), W writers (1..16), I issues, Q reads; the words at which
+ *                      the issues begin (a = 7), the reads (q = 7 + 4 I), the record ends
+ *                      (t = q + Q (1 + W))
+ *   4 words an issue   writer, mask of the sheets saved, first read, number of reads; oldest first,
+ *                      and its reads follow those of the issue before it
+ *   1 + W words a read sheet, and a count for each writer: the sheet's saves by that writer up to
+ *                      and with its issue of that number are in the version read
+ * Ok: 0 if every issue read a snapshot, otherwise the number of the first that didn't, from 1.
+ * Refused with 15 alone: the words don't follow this form, a read is of no save, or it counts an
+ * issue that wasn't before it or didn't save the sheet; for a fault of form in any issue, whatever
+ * the others read. About I (I + Q W) steps, on no memory but the two slices. Returns 2 words. */
+uint32_t sheetdesk_audit(const uint32_t *record, size_t record_len, uint32_t *answer,
+                         size_t answer_len);
 
 /* How clock p stands against clock q. Returns an enum sheetdesk_standing; two empty clocks (both
  * lengths 0) are equal. */

@@ -16,7 +16,7 @@ import enum
 import os
 from typing import NamedTuple
 
-VERSION = 11
+VERSION = 12
 LAYOUT = 7
 ANSWER_WORDS = 40
 MOST_WORDS = 419699
@@ -39,6 +39,7 @@ class Refusal(enum.IntEnum):
     OVER_ALLOWANCE = 12
     NO_RIGHT = 13
     WRONG_LINE = 14
+    NOT_READABLE = 15
 
 
 class Standing(enum.IntEnum):
@@ -164,6 +165,15 @@ def _content(content):
     return _lent(content)
 
 
+def _record(content):
+    """Words of C that are only read: those of a buffer, or of a list."""
+    try:
+        view = memoryview(content)
+    except TypeError:
+        return _array(content)
+    return _lent(bytearray(view) if view.readonly else view)
+
+
 class Unrecorded(Exception):
     """`record` has raised, and the call had been made: `answer` is what it answered."""
 
@@ -189,7 +199,7 @@ def _library():
     # PyDLL keeps Python's lock during a call: two threads never work on one desk's words at once.
     library = ctypes.PyDLL(path)
     calls = "new open fetch evict prepare step explain issue drop look stale admit allow pick mayhold maysave"
-    calls += " fork join step_on explain_on forecast compare covers merge version layout"
+    calls += " fork join step_on explain_on forecast audit compare covers merge version layout"
     for call in calls.split():
         getattr(library, "sheetdesk_" + call).restype = ctypes.c_uint32
     if (library.sheetdesk_version(), library.sheetdesk_layout()) != (VERSION, LAYOUT):
@@ -198,6 +208,13 @@ def _library():
 
 
 _calls = _library()
+
+
+def _answered(name, *arguments):
+    """What the export answers."""
+    answer = (ctypes.c_uint32 * ANSWER_WORDS)()
+    count = getattr(_calls, "sheetdesk_" + name)(*arguments, answer, ctypes.c_size_t(ANSWER_WORDS))
+    return Answer(_OUTCOMES[answer[0]], tuple(answer[1:count]))
 
 
 class Desk:
@@ -221,11 +238,8 @@ class Desk:
         return list(self._words[: self._len.value])
 
     def _call(self, name, *arguments):
-        answer = (ctypes.c_uint32 * ANSWER_WORDS)()
         checked = [a if isinstance(a, (ctypes.Array, ctypes.c_size_t)) else ctypes.c_uint32(_word(a)) for a in arguments]
-        call = getattr(_calls, "sheetdesk_" + name)
-        count = call(self._words, self._len, *checked, answer, ctypes.c_size_t(ANSWER_WORDS))
-        made = Answer(_OUTCOMES[answer[0]], tuple(answer[1:count]))
+        made = _answered(name, self._words, self._len, *checked)
         if self.record is not None and not (name == "forecast" and made.refusal is Refusal.NOT_IN_FORM):
             try:
                 self.record("%s\n%s\n" % (_line(name, arguments), made))
@@ -321,6 +335,12 @@ class Desk:
         if first[0] + first[1] > last[0]:
             raise ValueError("a desk and its scratch have words in common")
         return self._call("forecast", scratch._words, scratch._len, run)
+
+
+def audit(record):
+    """Audits a record of issues, a list of words or a buffer of them: ok 0 if each read a snapshot, otherwise the number of the first
+    that didn't, from 1; or refused with 15. It is no call on a desk, and isn't recorded."""
+    return _answered("audit", *_record(record))
 
 
 def compare(p, q):

@@ -9,7 +9,7 @@
 use std::fmt::{self, Write};
 
 /// The version of the calls: `SHEETDESK_VERSION` of the header.
-pub const VERSION: u32 = 11;
+pub const VERSION: u32 = 12;
 
 /// The version of the desk's words: `SHEETDESK_LAYOUT` of the header. Save it with the words.
 pub const LAYOUT: u32 = 7;
@@ -75,6 +75,9 @@ pub mod exports {
         pub fn sheetdesk_forecast(
             desk: *const u32, desk_len: usize, scratch: *mut u32, scratch_len: usize, run: u32,
             answer: *mut u32, answer_len: usize,
+        ) -> u32;
+        pub fn sheetdesk_audit(
+            record: *const u32, record_len: usize, answer: *mut u32, answer_len: usize,
         ) -> u32;
         pub fn sheetdesk_compare(p: *const u32, p_len: usize, q: *const u32, q_len: usize) -> u32;
         pub fn sheetdesk_covers(p: *const u32, p_len: usize, q: *const u32, q_len: usize) -> u32;
@@ -156,12 +159,14 @@ pub enum Refusal {
     NoRight,
     /// 14: the run is forked, or isn't, or has no such line.
     WrongLine,
+    /// 15: audit: the words are no record, or one that can't be.
+    NotReadable,
     /// A number that this wrapper has no name for: the library is newer.
     Other(u32),
 }
 
 impl Refusal {
-    const NAMED: [Refusal; 14] = [
+    const NAMED: [Refusal; 15] = [
         Refusal::NotInForm,
         Refusal::BadCount,
         Refusal::OutOfRange,
@@ -176,6 +181,7 @@ impl Refusal {
         Refusal::OverAllowance,
         Refusal::NoRight,
         Refusal::WrongLine,
+        Refusal::NotReadable,
     ];
 
     /// The refusal of a number.
@@ -493,6 +499,12 @@ impl<'a> Desk<'a> {
 /// Whether the library that is linked has this file's calls and layout.
 pub fn is_linked_right() -> bool {
     unsafe { sheetdesk_version() == VERSION && sheetdesk_layout() == LAYOUT }
+}
+
+/// Audits a record of issues: ok 0 if each read a snapshot, otherwise the number of the first that
+/// didn't, from 1; or refused with 15. It is no call on a desk, and isn't recorded.
+pub fn audit(record: &[u32]) -> Answer {
+    answer(|a, n| unsafe { sheetdesk_audit(record.as_ptr(), record.len(), a, n) })
 }
 
 /// How clock p stands against clock q; nothing if the lengths differ or exceed 16.

@@ -89,6 +89,7 @@ static inline const char *sheetdesk_reason(const char *call, uint32_t number)
         {14, "prepare,issue,forecast", "the run is forked: join its lines first"},
         {14, "step,explain", "the run has no such line: 0 always, 1 from its fork to its join"},
         {14, "", "the run is forked, or is not, or has no such line"},
+        {15, "", "the record is not readable: a word of it is wrong, or some are missing"},
     };
     size_t row;
 

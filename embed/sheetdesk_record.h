@@ -20,7 +20,8 @@
  * words of a desk that was read back aren't in it, so it doesn't replay without what was recorded
  * before. An open with more than SHEETDESK_RECORD_JOBS numbers is recorded with so many of them:
  * over 8 jobs, it is refused whatever the others are, for the same cause. A forecast that is refused
- * with 1 isn't recorded: its scratch may have been too short, and a replay's never is.
+ * with 1 isn't recorded: its scratch may have been too short, and a replay's never is. An audit isn't
+ * either: it is no call on a desk, and a line has 400 bytes.
  */
 #ifndef SHEETDESK_RECORD_H
 #define SHEETDESK_RECORD_H

@@ -44,8 +44,10 @@ def answer(desk, line):
         return "unread"
     name, *words = line.split(" ")
     numbers = [int(word) for word in words]
-    if any(number >= 2**32 for number in numbers) or name not in _CALLS:
+    if any(number >= 2**32 for number in numbers) or name not in _CALLS and name != "audit":
         return "unread"
+    if name == "audit":
+        return str(sheetdesk.audit(numbers))
     if name == "open" and numbers:
         return str(desk.open(numbers[0], [numbers[1:]]))
     if name == "look" and len(numbers) == 3:

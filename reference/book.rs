@@ -12,6 +12,7 @@ mod foretold;
 pub mod ledger;
 mod lines;
 mod paths;
+pub mod recorded;
 mod rights;
 pub mod rows;
 pub mod runs;
@@ -72,7 +73,7 @@ impl Book {
         }
     }
 
-    /// Enters a call. "Not ok, or look: nothing changes"; nor by explain, stale, admit, forecast.
+    /// Enters a call. "Not ok, or look: nothing changes"; nor by another call that only answers.
     pub fn feed(&mut self, call: &Call, ok: bool) -> Vec<u32> {
         if !ok {
             return Vec::new();
@@ -100,7 +101,7 @@ impl Book {
             }
             Call::Look(place, number, sheet) => self.look(*place, *number as usize, *sheet),
             // Never `ok`; or nothing changes, and whose turn it is goes by the desk's runs.
-            Call::Explain(..) | Call::Forecast(_) | Call::Pick => Vec::new(),
+            Call::Explain(..) | Call::Forecast(_) | Call::Audit(_) | Call::Pick => Vec::new(),
             Call::Stale(office) => vec![self.stale(*office as usize)],
             Call::Admit => vec![0],
             Call::Allow(office, number) => {

@@ -1,12 +1,13 @@
 //! Document 01's sheet desk over lent words, written the plainest way.
 //!
-//! Every call takes a buffer of any length and content and any numbers. It answers `Ok`
-//! with the answer's numbers, `Broken` (step and join), `Clear` or `Path` (explain alone),
-//! `Nothing` (pick alone), `Through`, `Breaks` or `Turned` (forecast alone) or `Refused` with the
-//! table's number; a refused call leaves every word.
+//! Every call takes a buffer of any length and content and any numbers; audit takes a record's
+//! words alone. It answers `Ok` with the answer's numbers, `Broken` (step and join), `Clear` or
+//! `Path` (explain alone), `Nothing` (pick alone), `Through`, `Breaks` or `Turned` (forecast
+//! alone) or `Refused` with the table's number; a refused call leaves every word.
 
 mod admit;
 pub mod allowance;
+mod audit;
 mod calls;
 mod evict;
 pub mod explain;
@@ -16,6 +17,7 @@ pub mod layout;
 mod lines;
 mod pick;
 pub mod reads;
+pub mod record;
 pub mod rights;
 pub mod sets;
 pub mod stale;
@@ -23,6 +25,7 @@ pub mod version;
 
 pub use admit::admit;
 pub use allowance::allow;
+pub use audit::audit;
 // Not every program that is built from this file calls all of them.
 #[allow(unused_imports)]
 pub use calls::{drop_run, issue, look, new, open};
@@ -74,6 +77,7 @@ pub const NOT_ADMITTED: u32 = 11;
 pub const OVER_ALLOWANCE: u32 = 12;
 pub const NO_RIGHT: u32 = 13;
 pub const WRONG_LINE: u32 = 14;
+pub const UNREADABLE: u32 = 15;
 
 // A run's states.
 pub const FREE: u32 = 0;

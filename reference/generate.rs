@@ -1,10 +1,12 @@
 //! Prints a script of calls for a seed: `generate SEED LINES [--count]`.
 //!
 //! It keeps a desk of its own, so that it can steer towards merges of rivals, evictions,
-//! prepares, breaks, paths behind breaks and prepared runs that go through. With `--count` it says
-//! on standard error what the script meets.
+//! prepares, breaks, paths behind breaks and prepared runs that go through; audits stand between
+//! the plots. With `--count` it says on standard error what the script meets.
 #![allow(dead_code)]
 
+#[path = "generate/audits.rs"]
+mod audits;
 #[path = "generate/booked.rs"]
 mod booked;
 #[path = "generate/branches.rs"]
@@ -27,6 +29,8 @@ mod plots;
 mod prepared;
 #[path = "generate/random.rs"]
 mod random;
+#[path = "generate/records.rs"]
+mod records;
 #[path = "generate/rights.rs"]
 mod rights;
 #[path = "generate/rivals.rs"]
@@ -37,6 +41,8 @@ mod rounds;
 mod small;
 #[path = "generate/spared.rs"]
 mod spared;
+#[path = "generate/spoiled.rs"]
+mod spoiled;
 #[path = "generate/teller.rs"]
 mod teller;
 mod text;
@@ -55,10 +61,12 @@ fn main() -> io::Result<()> {
         std::process::exit(2);
     };
     let mut teller = Teller::new(seed);
+    audits::between(&mut teller, 30);
     odd::before_new(&mut teller);
     plots::fresh_desk(&mut teller);
     while teller.counts.lines < lines {
         one_plot(&mut teller);
+        audits::between(&mut teller, 25);
     }
     if teller.chance(50) {
         teller.script.pop(); // "the last line may lack" its line end

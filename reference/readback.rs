@@ -4,6 +4,8 @@
 //! Ends with 1, and prints the desk and the calls, if a claim fails.
 #![allow(dead_code)]
 
+#[path = "generate/audits.rs"]
+mod audits;
 #[path = "generate/bent.rs"]
 mod bent;
 mod book;
@@ -29,6 +31,8 @@ mod plots;
 mod prepared;
 #[path = "generate/random.rs"]
 mod random;
+#[path = "generate/records.rs"]
+mod records;
 #[path = "generate/rights.rs"]
 mod rights;
 #[path = "generate/rivals.rs"]
@@ -39,6 +43,8 @@ mod rounds;
 mod small;
 #[path = "generate/spared.rs"]
 mod spared;
+#[path = "generate/spoiled.rs"]
+mod spoiled;
 #[path = "generate/teller.rs"]
 mod teller;
 mod text;

@@ -1,19 +1,23 @@
 //! Checks on lent buffers: the paper's numbers, the ten marked readings, the form, refusals
 //! 9 and 10, how clocks stand, paths behind a break, leading writers, stale marks, admission,
-//! allowances, picks, rights, two lines, prepared runs, forecasts, other layouts, what stands
-//! behind a save, and random buffers. Panics at the first check that fails.
+//! allowances, picks, rights, two lines, prepared runs, forecasts, audits of records, other
+//! layouts, what stands behind a save, and random buffers. Panics at the first check that fails.
 #![allow(dead_code)]
 
 #[path = "selftest/admitted.rs"]
 mod admitted;
 #[path = "selftest/allowances.rs"]
 mod allowances;
+#[path = "selftest/audited.rs"]
+mod audited;
 #[path = "selftest/behind.rs"]
 mod behind;
 mod book;
 #[path = "selftest/branches.rs"]
 mod branches;
 mod desk;
+#[path = "selftest/drawn.rs"]
+mod drawn;
 #[path = "selftest/explained.rs"]
 mod explained;
 #[path = "selftest/foreseen.rs"]
@@ -41,15 +45,22 @@ mod plotter;
 mod prepared;
 #[path = "selftest/random.rs"]
 mod random;
+#[path = "generate/records.rs"]
+mod records;
 #[path = "selftest/rights.rs"]
 mod rights;
 #[path = "selftest/rivals.rs"]
 mod rivals;
+#[path = "generate/random.rs"]
+mod sequence;
+#[path = "generate/spoiled.rs"]
+mod spoiled;
 #[path = "selftest/stale.rs"]
 mod stale;
 #[path = "selftest/standing.rs"]
 mod standing;
 mod text;
+mod walked;
 
 fn main() {
     fixed_checks();
@@ -62,6 +73,7 @@ fn main() {
     println!("selftest: led from new: {}", rivals::from_new(seed, 200).print());
     println!("selftest: explained on graphs: {}", paths::on_graphs(seed, 20_000).print());
     println!("selftest: explained on desks: {}", paths::on_desks(seed, 20_000).print());
+    println!("selftest: audited: {}", drawn::compare(seed, 10_000).print());
     let (calls, accepted) = random::damaged(seed, 60_000);
     println!("selftest: all checks hold; {calls} random calls, {accepted} of them accepted");
 }
@@ -165,4 +177,15 @@ fn of_prepared_runs() {
     foreseen::refused();
     foreseen::words();
     foreseen::stopped();
+    of_records();
+}
+
+/// Audits.
+fn of_records() {
+    audited::examples();
+    audited::lines();
+    audited::unreadable();
+    audited::no_wrap();
+    audited::causes();
+    audited::own_records();
 }

@@ -4,9 +4,10 @@ use crate::desk::{self, Answer};
 
 /// The words that the program lends.
 pub const LENT: usize = 16_384;
-const LONGEST: usize = 400;
+/// The most bytes of a line.
+pub const LONGEST: usize = 400;
 
-/// One of the nineteen calls with its numbers; a step or explain always has its line.
+/// One of the twenty calls with its numbers; a step or explain always has its line.
 #[derive(Clone, PartialEq, Eq, Debug)]
 pub enum Call {
     New([u32; 4]),
@@ -28,6 +29,8 @@ pub enum Call {
     Fork(u32),
     Join(u32),
     Forecast(u32),
+    /// The words of a record.
+    Audit(Vec<u32>),
 }
 
 impl Call {
@@ -53,6 +56,7 @@ impl Call {
             Call::Fork(run) => ("fork", vec![*run]),
             Call::Join(run) => ("join", vec![*run]),
             Call::Forecast(run) => ("forecast", vec![*run]),
+            Call::Audit(record) => ("audit", record.clone()),
         }
     }
 
@@ -76,7 +80,7 @@ impl Call {
     /// Whether it only answers: it writes nothing, whatever the answer is.
     pub fn only_answers(&self) -> bool {
         let asked = matches!(self, Call::Look(..) | Call::Stale(_) | Call::Admit);
-        asked || matches!(self, Call::Explain(..) | Call::Forecast(_))
+        asked || matches!(self, Call::Explain(..) | Call::Forecast(_) | Call::Audit(_))
     }
 
     /// The run that it is about, if it is about one.
@@ -121,6 +125,7 @@ pub fn read_line(line: &[u8]) -> Option<Call> {
         (b"fork", [run]) => Some(Call::Fork(*run)),
         (b"join", [run]) => Some(Call::Join(*run)),
         (b"forecast", [run]) => Some(Call::Forecast(*run)),
+        (b"audit", record) => Some(Call::Audit(record.to_vec())),
         _ => None,
     }
 }
@@ -163,6 +168,7 @@ pub fn run(words: &mut [u32], call: &Call) -> Answer {
         Call::Join(run) => desk::join(words, *run),
         // As many words again are lent as a scratch: in the program 16,384.
         Call::Forecast(run) => desk::forecast(words, &mut vec![0; words.len()], *run),
+        Call::Audit(record) => desk::audit(record),
     }
 }
 

@@ -1,8 +1,8 @@
 //! Runs a script through the desk and the book, and tests demand 3 after each call, that no copy
 //! is ahead of the master, whom each version names as leading writers, the shelves' marks, who may
-//! hold and save, that prepared runs go through, and that the desk would be admitted. From each
-//! admission on a second book is kept that began there. Ends with 1, and prints the script up to
-//! there, if a claim fails.
+//! hold and save, that prepared runs go through, that the desk would be admitted, and that audit
+//! accepts the record of its history. From each admission on a second book is kept that began
+//! there. Ends with 1, and prints the script up to there, if a claim fails.
 #![allow(dead_code)]
 
 mod book;
@@ -11,6 +11,7 @@ mod prepared;
 mod text;
 
 use book::follow::Seen;
+use book::recorded::check_audit;
 use book::Book;
 use desk::layout::{DONE, JOBS};
 use desk::{Answer, Sizes};
@@ -34,7 +35,7 @@ fn main() {
         let answer = text::run(&mut words, &call);
         let followed = prepared.follow(&before, &call, &answer, &words);
         let tested = followed
-            .and_then(|()| one_call(before, &mut words, &mut books, (&call, answer), &mut seen));
+            .and_then(|()| one_call(&before, &mut words, &mut books, (&call, answer), &mut seen));
         if let Err(claim) = tested {
             let _ = io::stdout().write_all(&script[..read]);
             eprintln!("a claim fails after the script's last line: {claim}");
@@ -43,7 +44,7 @@ fn main() {
     }
     println!(
         "{} calls held against a book, {} steps tried against all choices, {} broken, {} pairs of finished jobs, \
-         {} paths, {} joins, {} broken ones, {} forecasts, {}",
+         {} paths, {} joins, {} broken ones, {} forecasts, {} audits, {} own records, {}",
         seen.calls,
         seen.tried,
         seen.broken,
@@ -52,13 +53,15 @@ fn main() {
         seen.joins,
         seen.joins_broken,
         seen.forecasts,
+        seen.audits,
+        seen.records,
         prepared.tested.print()
     );
 }
 
 /// A call, its answer and the desk before and behind it: into the books, then every test.
 fn one_call(
-    before: Vec<u32>,
+    before: &[u32],
     words: &mut [u32],
     books: &mut Vec<Book>,
     (call, answer): (&Call, Answer),
@@ -68,15 +71,7 @@ fn one_call(
     if (refused || call.only_answers()) && before != words {
         return Err("a call that is refused or only answers changed the desk".into());
     }
-    if let Call::Explain(run, job, line) = call {
-        check_explain(before, [*run, *job, *line], &answer)?;
-    }
-    if let Call::Forecast(run) = call {
-        check_forecast(words, *run, &answer)?;
-    }
-    if let (Call::Stale(office), Answer::Ok(marks)) = (call, &answer) {
-        check_stale(words, *office, marks[0])?;
-    }
+    check_told(before, words, (call, &answer), seen)?;
     if let (Call::New(sizes), false) = (call, refused) {
         // "The list starts on what an accepted new left."
         *books = vec![Book::new(*sizes)];
@@ -86,11 +81,37 @@ fn one_call(
         let followed = book.follow(call, &answer, words, seen);
         followed.map_err(|claim| format!("{claim} (the book from {began})"))?;
     }
+    if let (Call::Issue(run, _, 1..), Some(book), false) = (call, books.first(), refused) {
+        book.check_recorded(before, *run)?;
+        book.check_record()?;
+        seen.records += 1;
+    }
     if let (Call::Admit, Some(s), false) = (call, desk::in_form(words), refused) {
         books.truncate(1);
         books.push(Book::admitted(words, s));
     }
     Ok(())
+}
+
+/// What a call that only answers has told, by itself.
+fn check_told(
+    before: &[u32],
+    words: &mut [u32],
+    (call, answer): (&Call, &Answer),
+    seen: &mut Seen,
+) -> Result<(), String> {
+    match (call, answer) {
+        (Call::Explain(run, job, line), _) => {
+            check_explain(before.to_vec(), [*run, *job, *line], answer)
+        }
+        (Call::Forecast(run), _) => check_forecast(words, *run, answer),
+        (Call::Stale(office), Answer::Ok(marks)) => check_stale(words, *office, marks[0]),
+        (Call::Audit(record), _) => {
+            seen.audits += usize::from(check_audit(record, answer)?);
+            Ok(())
+        }
+        _ => Ok(()),
+    }
 }
 
 /// "The answer is "clear" exactly if the step would be answered `ok`. It turns down what step

@@ -1,6 +1,6 @@
 //! A script's calls through the Rust wrapper, for `record.rs` and `wrapper.rs`.
 
-use crate::sheetdesk::{Answer, Desk, Job, Place};
+use crate::sheetdesk::{audit, Answer, Desk, Job, Place};
 
 /// Makes the call of a line; nothing for a line that the wrapper has no form for.
 pub fn call(desk: &mut Desk, line: &str) -> Option<Answer> {
@@ -35,6 +35,7 @@ pub fn call(desk: &mut Desk, line: &str) -> Option<Answer> {
             let mut scratch = vec![0; desk.words().len()];
             desk.forecast(run, &mut scratch)
         }
+        ("audit", record) => audit(record),
         ("look", &[0, 0, sheet]) => desk.look(Place::Master, sheet),
         ("look", &[1, office, sheet]) => desk.look(Place::Shelf(office), sheet),
         ("look", &[2, run, sheet]) => desk.look(Place::Card(run), sheet),

@@ -146,12 +146,12 @@ trial_speed() {
 
 # Each line of --echo is its number, the script's line, and the answer, with words behind what isn't ok.
 trial_echo() {
-  for script in case-a refused-1 refused-2 refused-3 refused-4 refused-5 refused-6 refused-7 refused-8 break-several explain-path explain-refused stale-refused admit allow-refused allow-counts-held pick-refused pick-goes-round refused-13 rights-refused mayhold-before-7 fork-and-join fork-own-reads join-two-versions fork-left-out forecast-first forecast-refused forecast-fetches; do
+  for script in case-a refused-1 refused-2 refused-3 refused-4 refused-5 refused-6 refused-7 refused-8 break-several explain-path explain-refused stale-refused admit allow-refused allow-counts-held pick-refused pick-goes-round refused-13 rights-refused mayhold-before-7 fork-and-join fork-own-reads join-two-versions fork-left-out forecast-first forecast-refused forecast-fetches audit-case-a audit-had-read refused-15; do
     want 0 "--echo $script" ./sheetdesk --echo "scripts/$script.txt"
-    sed -E 's/((refused|broken) [0-9]+|unread|clear|nothing|through|(breaks|turned) [0-9]+ [0-9]+|path [0-9 ]+): .*/\1/' "$work/out" >"$work/plain"
+    sed -E 's/((refused|broken) [0-9]+|unread|clear|nothing|through|(breaks|turned) [0-9]+ [0-9]+|path [0-9 ]+|audit[0-9 ]* -> ok [0-9]+): .*/\1/' "$work/out" >"$work/plain"
     paste -d '|' "scripts/$script.txt" "scripts/$script.out" | sed 's/|/ -> /' | awk '{ print NR ": " $0 }' |
       cmp -s - "$work/plain" || bad "--echo $script: not each answer behind its call"
-    if grep -q -E '((refused|broken) [0-9]+|clear|nothing|through|(breaks|turned) [0-9]+ [0-9]+|path [0-9 ]+)$' "$work/out"; then bad "--echo $script: an answer without words"; fi
+    if grep -q -E '((refused|broken) [0-9]+|clear|nothing|through|(breaks|turned) [0-9]+ [0-9]+|path [0-9 ]+|audit[0-9 ]* -> ok [0-9]+)$' "$work/out"; then bad "--echo $script: an answer without words"; fi
   done
   printf 'new 2 2 2 1\nfetch 0 0\nlook 2 0 1\nlook 01 0 1\nlook 0 0 1\nevict 0 0\nstep 0 8\n\na\001\nlast' >"$work/words"
   want 0 "--echo in words" ./sheetdesk --echo "$work/words"
@@ -172,6 +172,12 @@ trial_echo() {
   told "^12: forecast 0 -> through: the jobs that are not done would be ok, stepped in their order$"
   told "^14: forecast 0 -> turned 1 13: this job would be refused: an office may not hold what a job reads"
   told "^24: forecast 0 -> refused 14: the run is forked: join its lines first$"
+  printf 'audit 1 1 0 0 7 7 7\naudit 1 2 3 2 7 19 25 0 1 0 0 1 1 0 1 0 1 1 1 0 1 0 0 0 1\naudit\n' >"$work/audits"
+  want 0 "--echo of audits" ./sheetdesk --echo "$work/audits"
+  told "^1: audit 1 1 0 0 7 7 7 -> ok 0: each issue has read a snapshot$"
+  told "^2: audit .* 0 0 1 -> ok 3: issue 3, counted from 1, is the first whose reads are no snapshot$"
+  told "^3: audit -> refused 15: the record is not readable: a word of it is wrong, or some are missing$"
+  want 0 "--strict of a record that isn't accepted" bash -c "head -n 2 '$work/audits' | ./sheetdesk --strict"
   printf 'fetch 0 1 \nfetch 0 4294967296\nfetch  0 1\nfetch 0 04294967295\n' >"$work/spaces"
   want 0 "--echo of numbers and spaces" ./sheetdesk --echo "$work/spaces"
   told "^1: fetch 0 1  -> unread: the line ends with a space$"
@@ -257,13 +263,17 @@ page_example() {
   grep -qF -f "$work/due" "$page" || bad "the page's example, $3, answers $(cat "$work/due"), the page says otherwise"
 }
 
-# And of a step that is explained, of forecasts, allowances, rights, picks and two lines.
+# And of a step that is explained, of forecasts, records, allowances, rights, picks and two lines.
 trial_explained() {
   page_example explain-path 15 "EXPLAINED STEPS" "PREPARED RUNS" " and "
 }
 
 trial_forecasts() {
-  page_example forecast-writes-nothing 9 FORECASTS "BROKEN RUNS" ", "
+  page_example forecast-writes-nothing 9 FORECASTS RECORDS ", "
+}
+
+trial_records() {
+  page_example audit-before-new 0 RECORDS "BROKEN RUNS" ", "
 }
 
 trial_allowances() {
@@ -325,7 +335,7 @@ trial_readme() {
 }
 
 trials=("$@")
-[ $# -gt 0 ] || trials=(files options histories installed_histories lost strict speed echo prompt terminal signal broken explained forecasts allowances rights picks two_lines leading refusals line_ends examples readme)
+[ $# -gt 0 ] || trials=(files options histories installed_histories lost strict speed echo prompt terminal signal broken explained forecasts records allowances rights picks two_lines leading refusals line_ends examples readme)
 for trial in "${trials[@]}"; do
   (trial_"$trial") || exit 1
 done

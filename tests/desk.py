@@ -1,5 +1,5 @@
 """What a Desk of the Python module takes and gives: contents that are no words, buffers that it lies in, standings, a record
-that raises, a forecast's scratch, and four threads on one desk, the largest. Prints what is wrong and exits 1."""
+that raises, a forecast's scratch, an audit's record, and four threads on one desk, the largest. Prints what is wrong and exits 1."""
 import array
 import mmap
 import sys
@@ -71,7 +71,25 @@ def foretold():
         wrong.append("a scratch of no words is taken")
 
 
+def audited():
+    """A record as a list and as buffers, which stay as they are; numbers that are no words."""
+    lacks = array.array("I", [1, 2, 3, 2, 7, 19, 25, 0, 1, 0, 0, 1, 1, 0, 1, 0, 1, 1, 1, 0, 1, 0, 0, 0, 1])
+    for record in (lacks, lacks.tolist(), lacks.tobytes(), bytearray(lacks.tobytes()), memoryview(lacks)):
+        if str(sheetdesk.audit(record)) != "ok 3":
+            wrong.append("the record as %s: %s" % (type(record).__name__, sheetdesk.audit(record)))
+    for record in ([], b"", lacks[:-1]):
+        if sheetdesk.audit(record).refusal is not sheetdesk.Refusal.NOT_READABLE:
+            wrong.append("%r is readable" % (record,))
+    for error, record in ((OverflowError, [-1]), (TypeError, [0.5]), (TypeError, bytes(7)), (TypeError, array.array("d", [0.0]))):
+        try:
+            sheetdesk.audit(record)
+            wrong.append("audit takes %r" % (record,))
+        except error:
+            pass
+
+
 foretold()
+audited()
 desk = Desk(sheetdesk.MOST_WORDS)
 if desk.new(32, 16, 8, 8).standing is not None:
     wrong.append("new has a standing")

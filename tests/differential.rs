@@ -2,7 +2,8 @@
 //!
 //! `differential [SEED [STORIES]]`: stories of steered calls, and after each one single calls
 //! on copies of its desk: as it stands, damaged, lent too short; then its desk bent, and gone on with
-//! if both admit it; then built desks and random words, and compare, covers and merge on two clocks.
+//! if both admit it; then built desks and random words, audits of records, and compare, covers and
+//! merge on two clocks.
 //! Answers and every word are compared, of a forecast's scratch too, and words past the lent ones;
 //! from an admission on demand 3 is tested by the book that begins there. Prints what was met; exits 1 if the two differ or a
 //! claim fails, with the case as a script, or if too little was met. `differential --script FILE` works such a script again.
@@ -19,11 +20,13 @@ mod reference {
     pub mod desk;
     pub mod prepared;
     pub mod text;
+    pub mod walked;
 }
 
 // What steers the generated scripts steers the stories too.
 #[path = "../reference/generate"]
 mod generate {
+    pub mod audits;
     pub mod bent;
     pub mod booked;
     pub mod branches;
@@ -35,11 +38,13 @@ mod generate {
     pub mod odd;
     pub mod plots;
     pub mod random;
+    pub mod records;
     pub mod rights;
     pub mod rivals;
     pub mod rounds;
     pub mod small;
     pub mod spared;
+    pub mod spoiled;
     pub mod teller;
 }
 
@@ -47,6 +52,7 @@ mod generate {
 mod parts {
     pub mod admitted;
     pub mod arguments;
+    pub mod audited;
     pub mod built;
     pub mod clocks;
     pub mod damaged;
@@ -57,10 +63,11 @@ mod parts {
     pub mod stories;
 }
 
-use generate::{bent, booked, branches, chains, counts, everyday, foreseen, forked};
-use generate::{odd, plots, rights, rivals, rounds, small, spared, teller};
-use parts::{admitted, arguments, built, clocks, damaged, met, pair, random, script, stories};
-use reference::{book, desk, prepared, text};
+use generate::{audits, bent, booked, branches, chains, counts, everyday, foreseen, forked, odd};
+use generate::{plots, records, rights, rivals, rounds, small, spared, spoiled, teller};
+use parts::{admitted, arguments, audited, built, clocks, damaged, met, pair, random, script};
+use parts::stories;
+use reference::{book, desk, prepared, text, walked};
 
 use met::Met;
 use random::Random;

@@ -1,5 +1,5 @@
 /* The C header's promises: the size of a desk before it is lent, for all counts, what words of other layouts get, and what a
- * forecast does to its scratch.
+ * forecast does to its scratch, and an audit to its record.
  * Prints what went wrong and exits 1, or what was tried. */
 #include <stdio.h>
 #include <string.h>
@@ -115,6 +115,27 @@ static int scratch_fits(void)
     return good;
 }
 
+/* A record: read whole, with words behind it, and not without its last word; none of its words is written. An answer's slice that is
+ * too short is left. */
+static int record_fits(void)
+{
+    /* Case A's, and the same with an issue whose read lacks a save that stands behind another. */
+    static const uint32_t kept[] = {2, 2, 2, 1, 7, 15, 18, 0, 3, 0, 0, 1, 2, 0, 1, 0, 1, 0, 7, 7};
+    static const uint32_t lacks[] = {1, 2, 3, 2, 7, 19, 25, 0, 1, 0, 0, 1, 1, 0, 1, 0, 1, 1, 1, 0, 1, 0, 0, 0, 1};
+    uint32_t record[LENT], count;
+    int good = 1;
+
+    memcpy(record, kept, sizeof kept);
+    for (count = 18; count <= 20; count++)
+        good &= sheetdesk_audit(record, count, ANSWER) == 2 && answer[0] == SHEETDESK_OK && answer[1] == 0;
+    for (count = 0; count < 18; count++)
+        good &= refused(sheetdesk_audit(record, count, ANSWER), SHEETDESK_NOT_READABLE);
+    answer[1] = 7;
+    good &= sheetdesk_audit(record, 18, answer, SHEETDESK_ANSWER_WORDS - 1) == 0 && answer[1] == 7;
+    good &= sheetdesk_audit(lacks, 25, ANSWER) == 2 && answer[0] == SHEETDESK_OK && answer[1] == 3;
+    return good && memcmp(record, kept, sizeof kept) == 0;
+}
+
 /* Offsets and total of the layouts before this one, and of one whose writers are as long as versions. */
 static int other_layouts_refused(void)
 {
@@ -150,7 +171,7 @@ static int says(const char *call, uint32_t number, const char *text)
 }
 
 /* The largest number of a refusal. */
-enum { LAST = SHEETDESK_WRONG_LINE };
+enum { LAST = SHEETDESK_NOT_READABLE };
 
 /* Each refusal has words, for a call that isn't known too, and no other number has. */
 static int reasons_fit(void)
@@ -168,12 +189,13 @@ static int reasons_fit(void)
         && says("opened", 4, "the run is not open: it is free, or broken")
         && says("step 0 1 7", 14, "the run has no such line: 0 always, 1 from its fork to its join")
         && says("forecast 0", 14, "the run is forked: join its lines first") && says("forecast", 3, "there is no such run")
+        && says("audit 1 2", 15, "the record is not readable: a word of it is wrong, or some are missing")
         && says("joined", 14, "the run is forked, or is not, or has no such line");
 }
 
 int main(void)
 {
-    if (!versions_fit() || !sizes_fit() || !other_layouts_refused() || !scratch_fits() || !reasons_fit()) {
+    if (!versions_fit() || !sizes_fit() || !other_layouts_refused() || !scratch_fits() || !record_fits() || !reasons_fit()) {
         puts("header: a promise of sheetdesk.h isn't kept");
         return 1;
     }

@@ -100,5 +100,8 @@ if command -v pkg-config >/dev/null; then
   link gcc && tried="$tried, gcc"
   ! command -v g++ >/dev/null || { link g++ && tried="$tried, g++"; }
 fi
-PYTHONDONTWRITEBYTECODE=1 python3 "$prefix/share/sheetdesk/example.py" >"$work/log" 2>&1 || bad "example.py as installed"
+for example in example example_record; do
+  PYTHONDONTWRITEBYTECODE=1 python3 "$prefix/share/sheetdesk/$example.py" >"$work/log" 2>&1 || bad "$example.py as installed"
+done
+[ -e "$prefix/share/sheetdesk/example_record.c" ] || bad "example_record.c isn't installed"
 echo "install: program, libraries, header and pkg-config file in their places; linked by README's lines: $tried; python3"

@@ -29,7 +29,7 @@ trial_sentences() {
   # Office 0 carries the old sheet 0, and office 1 reads it.
   printf '%s\n' 'new 3 2 2 2' 'open 1 0 0 0' 'step 1 0' 'issue 1 0 1' 'open 1 0 1 0' 'step 1 0' 'issue 1 0 2' 'fetch 0 1' \
     'open 1 0 0 0' 'step 1 0' 'issue 1 1 5' 'open 0 0 2 0 1 1 0 0 4 0' 'step 0 0' 'step 0 1' 'step 0 2' >"$work/generated/carried"
-  python3 tests/sentences.py "$program" "$tool" "$work/generated"/* scripts/break-several.txt || bad "tests/sentences.py"
+  python3 tests/sentences.py "$program" "$tool" "$work/generated"/* scripts/break-several.txt scripts/audit-had-read.txt scripts/audit-case-a.txt || bad "tests/sentences.py"
 }
 
 # long_list: a new, 400 issues by two writers in turn, and a look that needs them all: 1,202 calls.

@@ -85,7 +85,8 @@ BEGIN {
         "refused-12 50 refused-13 100 mayholds 150 mayholds-evicting 50 mayholds-evicting-more 40 " \
         "maysaves 30 rights-before-7 10 rights-before-12 3 rights-before-a-break 8 " \
         "forks 150 forks-read 30 joins 60 joins-apart 10 joins-broken 10 steps-on-1 60 breaks-on-1 20 " \
-        "breaks-on-one-alone 2 paths-on-1 20 refused-14 150", word, " ")
+        "breaks-on-one-alone 2 paths-on-1 20 refused-14 150 audits-accepted 130 audits-of-reads 100 " \
+        "audits-followed 12 audits-named 35 audits-named-later 20 refused-15 70", word, " ")
     for (i = 1; i < n; i += 2) least[word[i]] = word[i + 1]
 }
 { for (i = 1; i < NF; i += 2) { if (!($i in sum)) order[++k] = $i; sum[$i] += $(i + 1) } }

@@ -81,6 +81,8 @@ static void make(const struct sheetdesk_record *record, const char *name, int co
         sheetdesk_join_recorded(DESK, x[0], ANSWER);
     else if (strcmp(name, "forecast") == 0 && count == 1)
         sheetdesk_forecast_recorded(DESK, scratch, lent, x[0], ANSWER);
+    else if (strcmp(name, "audit") == 0 && count >= 0)
+        sheetdesk_audit(x, (size_t)count, ANSWER);
 }
 
 int main(int argc, char **argv)

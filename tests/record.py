@@ -4,7 +4,7 @@ nothing. Lines that are no call are left out (over 400 bytes only if not large),
 import sys
 
 import sheetdesk
-from sheetdesk import Desk, Job
+from sheetdesk import Desk, Job, audit
 
 
 class Named(int):
@@ -25,6 +25,8 @@ def call(desk, line):
               "forecast": 1}
     if name == "open" and len(numbers) % 3 == 1:
         desk.open(numbers[0], [Job(*numbers[place:place + 3]) for place in range(1, len(numbers), 3)])
+    elif name == "audit":
+        audit(numbers)
     elif name == "look" and len(numbers) == 3:
         desk.look((numbers[0], numbers[1]), numbers[2])
     elif name in ("step", "explain") and len(numbers) == 3:

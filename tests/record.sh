@@ -20,12 +20,12 @@ record_py() {
 
 # due_log SCRIPT [whole]: what a wrapper must hand over for the script: its calls, without leading zeros and with at most 27
 # numbers behind an open's run, each before its answer. Unread lines are no calls; unless whole, neither are opens whose list
-# isn't made of jobs, for which Rust and Python have no form. A forecast refused with 1 isn't handed over.
+# isn't made of jobs, for which Rust and Python have no form. A forecast refused with 1 isn't handed over, nor is an audit.
 due_log() {
   paste -d '|' "$1" "${1%.txt}.out" | LC_ALL=C grep -av '|unread$' | LC_ALL=C awk -F '|' -v whole="${2:-}" '{
     count = split($1, word, " "); line = word[1]
     if (word[1] == "open" && !whole && count % 3 != 2) next
-    if (word[1] == "forecast" && $2 == "refused 1") next
+    if (word[1] == "audit" || word[1] == "forecast" && $2 == "refused 1") next
     if (word[1] == "look" && !whole && (word[2] > 2 || word[2] == 0 && word[3] != 0)) next
     for (i = 2; i <= count && (word[1] != "open" || i <= 29); i++) {
       sub(/^0+/, "", word[i])
@@ -44,8 +44,8 @@ trial_record() {
     due_log "$script" >"$work/due"
     target/tools/record_rs <"$script" >"$work/log" && cmp -s "$work/log" "$work/due" || bad "sheetdesk.rs: $script"
   done
-  cat scripts/{case-a,explain-path,refused-5,jobs-8-and-9,look-places,admit-any-desk,allow-counts-held,pick-goes-round,refused-13,fork-and-join,fork-own-reads,join-two-versions,forecast-first,forecast-job-and-mask}.txt >"$work/some.txt"
-  cat scripts/{case-a,explain-path,refused-5,jobs-8-and-9,look-places,admit-any-desk,allow-counts-held,pick-goes-round,refused-13,fork-and-join,fork-own-reads,join-two-versions,forecast-first,forecast-job-and-mask}.out >"$work/some.out"
+  cat scripts/{case-a,explain-path,refused-5,jobs-8-and-9,look-places,admit-any-desk,allow-counts-held,pick-goes-round,refused-13,fork-and-join,fork-own-reads,join-two-versions,forecast-first,forecast-job-and-mask,audit-case-a}.txt >"$work/some.txt"
+  cat scripts/{case-a,explain-path,refused-5,jobs-8-and-9,look-places,admit-any-desk,allow-counts-held,pick-goes-round,refused-13,fork-and-join,fork-own-reads,join-two-versions,forecast-first,forecast-job-and-mask,audit-case-a}.out >"$work/some.out"
   due_log "$work/some.txt" >"$work/due"
   record_py <"$work/some.txt" >"$work/log" && cmp -s "$work/log" "$work/due" || bad "sheetdesk.py: golden scripts"
   PYTHONPATH=embed python3 tests/desk.py || bad "tests/desk.py"

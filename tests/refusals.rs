@@ -1,4 +1,4 @@
-// Every refusal that new, open, drop, look, explain, stale, admit, allow, pick, mayhold, maysave, fork, join, forecast, fetch and evict can give,
+// Every refusal that new, open, drop, look, explain, stale, admit, allow, pick, mayhold, maysave, fork, join, forecast, audit, fetch and evict can give,
 // tried on lent buffers through the exported library: answer as expected, every word as it was, guard words untouched. Besides them: the largest store;
 // looks, leading writers and stale marks on desks that no list of calls from new leaves; the longest path; clocks compared.
 // Usage: refusals. Prints what went wrong and exits 1, or how many trials there were.
@@ -6,6 +6,8 @@
 #![allow(dead_code)]
 #[path = "refusals/admitted.rs"]
 mod admitted;
+#[path = "refusals/audited.rs"]
+mod audited;
 #[path = "../embed/sheetdesk.rs"]
 mod embed;
 #[path = "refusals/explained.rs"]
@@ -103,7 +105,7 @@ fn of_form(t: &mut Trials) {
     }
 }
 
-// Each call but new, with numbers that are out of range on any desk but a large one.
+// Each call on a desk but new, with numbers that are out of range on any desk but a large one.
 pub fn calls_but_new() -> Vec<Call> {
     vec![
         Call::Open(9, vec![]), Call::Fetch(9, 9), Call::Evict(9, 9), Call::Prepare(9), Call::Step(9, 9, 9), Call::Issue(9, 9, 9),
@@ -221,6 +223,7 @@ fn main() {
     admitted::of_all(&mut t);
     explained::of_explain(&mut t);
     foreseen::of_all(&mut t);
+    audited::of_all(&mut t);
     lent::of_the_longest_path(&mut t);
     of_clocks(&mut t);
     println!("refusals: {} trials, {} wrong", t.tried, t.wrong);

@@ -5,7 +5,7 @@ master has it; the version that this save needs, by what the cards had in front 
 as older or as a rival; and the office of each step that changed it on the card. The first sentence is about the last two sheets of
 explain's path. Of a join it must name what both lines' cards have, the one that was read as the older one. What line 1 has is seen
 where the lines are changed about: until they are joined, they are alike. The words of a forecast must be what the steps come to that
-it foretells. Prints what is wrong and exits 1, or how many were held."""
+it foretells, and those of an audit what the program answers to its record. Prints what is wrong and exits 1, or how many were held."""
 import collections
 import re
 import subprocess
@@ -17,6 +17,7 @@ Issue = collections.namedtuple("Issue", "writer count saves")
 ROW = re.compile(r'<li class="row broken".*? id="line(\d+)"(.*?)</li>\n(?=<li class="row|</ol>)', re.DOTALL)
 SAID = re.compile(r'<p class="sentence">(.*?)</p>')
 FORECAST = re.compile(r'<li class="row (through|breaks|turned)".*?<a class="no" href="#line(\d+)"[^>]*>\d+</a>(.*?)</p>', re.DOTALL)
+AUDIT = re.compile(r'<a class="no" href="#line\d+"[^>]*>(\d+)</a>([^<]*)</p><p class="call"><code>(audit[0-9 ]*)</code>')
 # What the words say of a job that is turned down.
 CAUSES = {7: "the master does not hold a sheet", 12: "more than its allowance", 13: "an office may not hold"}
 ISSUES = r"(?:issue|the rival issues) ([\d, and]*\d)"
@@ -229,9 +230,17 @@ def foretold(program, lines, number):
     return ("The jobs of run %d that aren't done would go through." % run, "")
 
 
+def audited(program, call):
+    """How an audit must be told: by what the program answers to it, alone."""
+    answer = ran([program], call.encode() + b"\n").strip()
+    told = {"unread": "No call, nothing changed: ", "refused 15": "Refused, nothing changed: the record is not readable",
+            "ok 0": "Each issue of the record has read a snapshot."}
+    return told.get(answer, "Issue %s of the record, " % answer[3:])
+
+
 def main():
     program, tool, *scripts = sys.argv[1:]
-    held, several, joins, second, kinds = 0, 0, 0, 0, collections.Counter()
+    held, several, joins, second, kinds, audits = 0, 0, 0, 0, collections.Counter(), collections.Counter()
     for script in scripts:
         with open(script, "rb") as file:
             content = file.read()
@@ -239,6 +248,12 @@ def main():
         lines = content.split(b"\n")
         log = b"".join(b"%s\n%s\n" % (call, answer.encode()) for call, answer in zip(lines, ran([program], content).split("\n")[:-1]))
         page = ran([tool, "page", "x"], log)
+        for line, words, call in AUDIT.findall(page):
+            begins = audited(program, call)
+            audits[begins[:4]] += 1
+            if not words.startswith(begins):
+                print("sentences: %s, line %d: %s: due %s.." % (script, (int(line) + 1) // 2, words, begins))
+                return 1
         for kind, line, words in FORECAST.findall(page):
             begins, has = foretold(program, lines, (int(line) + 1) // 2)
             kinds[kind] += 1
@@ -258,8 +273,9 @@ def main():
             call = lines[number - 1].split(b" ")
             joins, second = joins + (call[0] == b"join"), second + (call[3:] == [b"1"])
     print("sentences: %d breaks of %d scripts, %d over several sheets, %d of joins, %d on line 1, are told as the program explains them, "
-          "and %d forecasts as the steps come out" % (held, len(scripts), several, joins, second, sum(kinds.values())))
-    return 0 if held >= len(scripts) // 3 and several > 0 and joins > 0 and second > 0 and len(kinds) == 3 else 1
+          "%d forecasts as the steps come out, and %d audits as it answers them"
+          % (held, len(scripts), several, joins, second, sum(kinds.values()), sum(audits.values())))
+    return 0 if held >= len(scripts) // 3 and several > 0 and joins > 0 and second > 0 and len(kinds) == 3 and {"Each", "Issu", "Refu"} <= set(audits) else 1
 
 
 sys.exit(main())

@@ -1,12 +1,12 @@
-//! The Rust wrapper's promises: the size of a desk before it is lent, names of refusals, standings and what a look or a forecast
-//! shows, and answers printed as the program prints them, over the golden scripts. Prints what went wrong and exits 1, or what was tried.
+//! The Rust wrapper's promises: the size of a desk before it is lent, names of refusals, standings and what a look, a forecast or an
+//! audit shows, and answers printed as the program prints them, over the golden scripts. Prints what went wrong and exits 1, or what was tried.
 
 mod calls;
 #[path = "../embed/sheetdesk.rs"]
 mod sheetdesk;
 
 use calls::call;
-use sheetdesk::{compare, is_linked_right, words, Answer, Desk, Job, Look, Place, Refusal, Standing, MOST_WORDS};
+use sheetdesk::{audit, compare, is_linked_right, words, Answer, Desk, Job, Look, Place, Refusal, Standing, MOST_WORDS};
 use std::{fs, process::exit, sync::Mutex};
 
 /// New takes just as many words as `words` says, and not one less, for all counts from 0 to one above the largest.
@@ -27,7 +27,7 @@ fn sizes() -> bool {
 /// A name for each number of the refusal table, and each number back.
 fn refusals() -> bool {
     let named = |number| !matches!(Refusal::of(number), Refusal::Other(_));
-    (0..40).all(|number| Refusal::of(number).number() == number && named(number) == (1..=14).contains(&number))
+    (0..40).all(|number| Refusal::of(number).number() == number && named(number) == (1..=15).contains(&number))
 }
 
 /// A name for each number of a standing, and the standing of two clocks.
@@ -81,6 +81,15 @@ fn forecasts() -> bool {
         && through.ok().is_none() && breaks == Some(Answer::Breaks { job: 1, mask: 4 }) && *taken.lock().unwrap() == "forecast 0\nturned 1 7\n"
 }
 
+/// An audit needs no desk; what it answers, by names.
+fn audits() -> bool {
+    // The third issue's read lacks the save that the second had read.
+    let lacks = [1, 2, 3, 2, 7, 19, 25, 0, 1, 0, 0, 1, 1, 0, 1, 0, 1, 1, 1, 0, 1, 0, 0, 0, 1];
+    let empty = [1, 1, 0, 0, 7, 7, 7, 99];
+    audit(&lacks).ok() == Some(&[3]) && audit(&lacks[..24]) == Answer::Refused(Refusal::NotReadable)
+        && audit(&empty).ok() == Some(&[0]) && audit(&[]) == Answer::Refused(Refusal::NotReadable)
+}
+
 /// What a look shows, by names; nothing of an answer that is none.
 fn looks() -> bool {
     let mut room = [0; words(1, 3, 1, 1)];
@@ -122,7 +131,7 @@ fn golden() -> Option<usize> {
 
 fn main() {
     let lines = golden().unwrap_or(0);
-    if lines < 500 || !is_linked_right() || !sizes() || !refusals() || !standings() || !explanations() || !forecasts() || !looks() {
+    if lines < 500 || !is_linked_right() || !sizes() || !refusals() || !standings() || !explanations() || !forecasts() || !audits() || !looks() {
         println!("wrapper: a promise of sheetdesk.rs isn't kept ({lines} golden lines answered)");
         exit(1);
     }

@@ -69,7 +69,7 @@ place() {
     install -m 644 docs/USER.md docs/page.png "$at/lib/sheetdesk/docs/" &&
     install -m 644 "${headers[@]/#/embed/}" "$at/include/" &&
     install -m 644 "$library" "$at/lib/" && install -m 755 "target/shared/$shared" "$at/lib/" &&
-    install -m 644 embed/README.md docs/FORMAT.md embed/sheetdesk*.{rs,py} embed/example.{c,rs,py} embed/service.py "$at/share/sheetdesk/" || exit 2
+    install -m 644 embed/README.md docs/FORMAT.md embed/sheetdesk*.{rs,py} embed/example.{c,rs,py} embed/example_record.{c,py} embed/service.py "$at/share/sheetdesk/" || exit 2
   [ ! -x target/tools/history ] || install -m 755 target/tools/history "$at/lib/sheetdesk/target/tools/" || exit 2
   [ ! -r target/sheetdesk.built ] || install -m 644 target/sheetdesk.built "$at/lib/sheetdesk/target/" || exit 2
   ln -sfn ../lib/sheetdesk/sheetdesk "$at/bin/sheetdesk" && ln -sfn "$shared" "$at/lib/libsheetdesk_c.so" &&

@@ -1,5 +1,5 @@
 # Each answer on standard input behind its line's number and its call, which stands in the file `calls`, and what isn't ok in
-# words (tools/words.sh runs it). `reasons` is embed/sheetdesk_reason.h, `before` the number of lines before the first, `prompt`
+# words, and what an audit found (tools/words.sh runs it). `reasons` is embed/sheetdesk_reason.h, `before` the number of lines before the first, `prompt`
 # isn't empty if someone may wait for each line. Words of the user page, and of pages too (tools/history/words.rs).
 
 # The rows of the table of reasons, by number: row[N, I] begins with the calls that it is for.
@@ -55,8 +55,15 @@ function unread(line) {
   return "the line is none of the calls' forms"
 }
 
-# What an answer says that isn't ok.
+# What an audit has found.
+function audited(number) {
+  if (number == 0) return "each issue has read a snapshot"
+  return "issue " number ", counted from 1, is the first whose reads are no snapshot"
+}
+
+# What an answer says that isn't ok, or is an audit's.
 function said(call, answer) {
+  if (call ~ /^audit/ && answer ~ /^ok/) return audited(substr(answer, 4))
   if (answer ~ /^refused/) return refusal(call, substr(answer, 9))
   if (answer ~ /^broken/) {
     if (call ~ /^join/) return "a line has read these sheets, and the join would move them: drop the run, open it, prepare it, fork it"

@@ -3,6 +3,7 @@
 
 use crate::desk::stale::set_mark;
 use crate::desk::Sizes;
+use crate::records::record;
 use crate::text::{run, Call};
 
 pub struct Case {
@@ -132,5 +133,7 @@ pub fn cases(sizes: [u32; 4]) -> Vec<Case> {
         // All eight jobs are gone through: the copy of the desk, and the steps.
         case(opened.clone(), Call::Forecast(0)),
         Case { words: opened, calls: eight_steps },
+        // Every issue is read or stands behind what is read.
+        case(full, Call::Audit(record(k as usize, w as usize, 40, 2))),
     ]
 }

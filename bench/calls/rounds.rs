@@ -4,6 +4,7 @@ use crate::desk::{self, Answer};
 use crate::desks::Case;
 use crate::library;
 use crate::text::{self, Call};
+use crate::walked;
 use std::hint::black_box;
 use std::time::Instant;
 
@@ -57,12 +58,13 @@ pub fn by_library(words: &mut [u32], case: &Case, lent: &mut Lent) -> u32 {
 pub fn by_reference(words: &mut [u32], case: &Case, lent: &mut Lent) -> Answer {
     let made = case.calls.iter().map(|call| match call {
         Call::Forecast(run) => desk::forecast(words, &mut lent.scratch, *run),
+        Call::Audit(record) => walked::audit(record),
         call => text::run(words, call),
     });
     made.last().unwrap_or(Answer::Nothing)
 }
 
-fn middle(values: &mut [f64]) -> f64 {
+pub fn middle(values: &mut [f64]) -> f64 {
     values.sort_by(f64::total_cmp);
     values[values.len() / 2]
 }

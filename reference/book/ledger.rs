@@ -2,6 +2,7 @@
 
 use super::rows::Rows;
 use super::saves::Saves;
+use crate::desk::record::{self, Read};
 
 /// "A save is a sheet in an issue."
 #[derive(Clone)]
@@ -18,6 +19,8 @@ struct Issue {
     /// All that stands behind its saves by the writer's earlier issues and by the reads, admitted
     /// saves too.
     earlier: Saves,
+    /// The copies that its run had read.
+    read: Vec<Saves>,
 }
 
 /// What the desk had when the book began: nothing, if it began with new.
@@ -114,7 +117,7 @@ impl Ledger {
             own.add(self.saves.len());
             self.saves.push(Save { issue: number, sheet });
         }
-        self.issues.push(Issue { writer, own, earlier });
+        self.issues.push(Issue { writer, own, earlier, read: read.to_vec() });
         number
     }
 
@@ -172,6 +175,47 @@ impl Ledger {
     fn stands_behind(&self, save: usize, other: usize) -> bool {
         let issue = self.issue_of(other);
         issue.earlier.has(save) || issue.own.has(save)
+    }
+
+    /// The copies that the last issue had read.
+    pub fn last_read(&self) -> &[Saves] {
+        self.issues.last().map_or(&[], |issue| &issue.read)
+    }
+
+    /// The issues as a record has them, oldest first; of each the copies that it had read, in
+    /// their order, but for empty ones.
+    pub fn recorded(&self, w: usize) -> Vec<record::Issue> {
+        let mask = |own: &Saves| own.members().fold(0, |mask, n| mask | 1 << self.saves[n].sheet);
+        let recorded = |issue: &Issue| record::Issue {
+            writer: issue.writer,
+            saved: mask(&issue.own),
+            reads: issue.read.iter().filter_map(|copy| self.own_row(copy, w)).collect(),
+        };
+        self.issues.iter().map(recorded).collect()
+    }
+
+    /// A copy's sheet and, for each writer, how many issues the ledger has up to its last save in
+    /// the copy; nothing if that is empty.
+    fn own_row(&self, copy: &Saves, w: usize) -> Option<Read> {
+        let sheet = self.saves[copy.members().next()?].sheet;
+        let mut counts = vec![0; w];
+        for save in copy.members() {
+            let count = &mut counts[self.issue_of(save).writer];
+            *count = (*count).max(self.by_writer_up_to(save));
+        }
+        Some(Read { sheet, counts })
+    }
+
+    /// What a read of a record stands for: the sheet's "saves by each writer up to the issue of
+    /// that writer so counted".
+    pub fn copy_of(&self, read: &Read) -> Saves {
+        let mut copy = Saves::default();
+        for save in (0..self.saves.len()).filter(|save| self.saves[*save].sheet == read.sheet) {
+            if self.by_writer_up_to(save) <= read.counts[self.issue_of(save).writer] {
+                copy.add(save);
+            }
+        }
+        copy
     }
 
     /// How many issues its writer has up to this save.

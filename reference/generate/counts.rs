@@ -1,5 +1,6 @@
 //! What a script has met so far.
 
+use crate::audits;
 use crate::chains::tied_and_carried;
 use crate::desk::layout::{has, JOBS, JOB_LIST, LEADERS};
 use crate::desk::reads::step_view;
@@ -13,7 +14,9 @@ use crate::text::{run, Call};
 
 #[derive(Default)]
 pub struct Counts {
+    /// The plots' lines, and those between them.
     pub lines: u64,
+    pub asides: u64,
     pub unread: u64,
     pub rivals: u64,
     fetches_of_more: u64,
@@ -43,14 +46,15 @@ pub struct Counts {
     forked: forked::Met,
     spared: spared::Met,
     foreseen: foreseen::Met,
-    refused: [u64; 15],
+    audits: audits::Met,
+    refused: [u64; 16],
 }
 
 impl Counts {
     /// One line of names and numbers.
     pub fn print(&self) -> String {
         let mut names = vec![
-            ("lines".to_string(), self.lines),
+            ("lines".to_string(), self.lines + self.asides),
             ("unread".into(), self.unread),
             ("rivals".into(), self.rivals),
             ("fetches-of-more".into(), self.fetches_of_more),
@@ -81,7 +85,8 @@ impl Counts {
         names.extend(self.forked.names());
         names.extend(self.spared.names());
         names.extend(self.foreseen.names());
-        let refused = (1..=8).chain([12, 13, 14]);
+        names.extend(self.audits.names());
+        let refused = (1..=8).chain(12..=15);
         names.extend(refused.map(|number| (format!("refused-{number}"), self.refused[number])));
         names.iter().map(|(name, count)| format!("{name} {count}")).collect::<Vec<_>>().join(" ")
     }
@@ -92,6 +97,7 @@ impl Counts {
         self.forked.enter(before, call, answer);
         self.spared.enter(before, call, answer);
         self.foreseen.enter(before, call, answer);
+        self.audits.enter(call, answer);
         match (call, answer) {
             (_, Answer::Ok(numbers)) => self.enter_ok(before, after, call, numbers),
             (_, Answer::Refused(number)) => {

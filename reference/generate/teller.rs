@@ -11,13 +11,16 @@ pub struct Teller {
     pub script: Vec<u8>,
     pub words: Vec<u32>,
     pub counts: Counts,
+    /// A sequence for lines between the plots.
+    pub asides: Random,
     random: Random,
 }
 
 impl Teller {
     pub fn new(seed: u64) -> Teller {
         let words = vec![0; text::LENT];
-        Teller { script: Vec::new(), words, counts: Counts::default(), random: Random::new(seed) }
+        let (asides, random) = (Random::new(!seed), Random::new(seed));
+        Teller { script: Vec::new(), words, counts: Counts::default(), asides, random }
     }
 
     pub fn next(&mut self) -> u64 {
@@ -50,6 +53,13 @@ impl Teller {
         let answer = text::run(&mut self.words, &call);
         self.counts.enter(&before, &self.words, &call, &answer);
         Some(answer)
+    }
+
+    /// A line that is no part of a plot: how many lines the plots have is counted without it.
+    pub fn say_aside(&mut self, line: &[u8]) {
+        self.say(line);
+        self.counts.lines -= 1;
+        self.counts.asides += 1;
     }
 
     /// A call's word and its numbers, as a line. Some steps are explained before, some runs are

@@ -3,7 +3,7 @@
 use crate::teller::Teller;
 
 /// Most of these only just miss a form.
-const MISSES: [&[u8]; 56] = [
+const MISSES: [&[u8]; 62] = [
     b"",
     b" ",
     b"new",
@@ -60,6 +60,12 @@ const MISSES: [&[u8]; 56] = [
     b"forecast ",
     b"forecast 0 0",
     b"forecasts 0",
+    b"audit ",
+    b" audit",
+    b"Audit 1 1 0 0 7 7 7",
+    b"audits 1 1 0 0 7 7 7",
+    b"audit 1 1 0 0 7 7 7 ",
+    b"audit 1 1 0 0 7 7 4294967303",
 ];
 
 /// Lines that are none of the forms.

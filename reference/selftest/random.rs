@@ -1,6 +1,7 @@
 //! Random calls with random numbers on buffers that are damaged or random themselves.
 
 use crate::desk::*;
+pub use crate::sequence::Random;
 use crate::text::{run, Call};
 
 pub struct Draw(u64);
@@ -60,6 +61,11 @@ pub fn damaged(seed: u64, calls: u32) -> (u32, u32) {
 fn one(words: &mut [u32], call: &Call) -> bool {
     let before = words.to_vec();
     let answer = run(words, call);
+    if let Call::Audit(_) = call {
+        // It needs no desk.
+        assert!(matches!(answer, Answer::Ok(_) | Answer::Refused(15)) && words == before);
+        return matches!(answer, Answer::Ok(_));
+    }
     if let Answer::Refused(number) = answer {
         assert_eq!(words, before);
         let form = in_form(words).is_some();
@@ -93,7 +99,7 @@ fn start(draw: &mut Draw) -> Vec<u32> {
 fn any_call(draw: &mut Draw) -> Call {
     let [a, b, c] = [draw.number(), draw.number(), draw.number()];
     let line = if draw.below(4) > 0 { draw.below(2) } else { c };
-    match draw.below(70) {
+    match draw.below(72) {
         0 => Call::New([a, b, c, draw.number()]),
         1..=6 => {
             let length = if draw.below(8) == 0 { draw.below(30) } else { 3 + 3 * draw.below(3) };
@@ -119,6 +125,8 @@ fn any_call(draw: &mut Draw) -> Call {
         52..=56 => Call::Fork(a),
         57..=60 => Call::Join(a),
         61..=65 => Call::Forecast(a),
+        66 => Call::Audit([1, 1, 0, 0, 7, 7, 7, a, b][..5 + draw.below(5) as usize].to_vec()),
+        67 => Call::Audit((0..draw.below(30)).map(|_| draw.number()).collect()),
         _ => Call::Look(a, b, c),
     }
 }

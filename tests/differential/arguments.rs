@@ -4,6 +4,7 @@ use crate::desk::layout::HEADER;
 use crate::desk::Sizes;
 use crate::pair::ANSWER;
 use crate::random::Random;
+use crate::spoiled::any_record;
 use crate::text::Call;
 
 /// Sizes of a new desk: small ones mostly, so that sheets and writers meet; some any; now and
@@ -31,7 +32,7 @@ pub fn any_call(random: &mut Random, words: &[u32]) -> Call {
     let run = random.near(s.p);
     let office = random.near(s.n);
     let sheet = random.near(s.k);
-    match random.below(50) {
+    match random.below(51) {
         0 | 38 => Call::New(new_counts(random, words.len())),
         1 | 2 | 28 => Call::Open(run, jobs(random, s)),
         3..=5 => Call::Fetch(office, sheet),
@@ -60,6 +61,7 @@ pub fn any_call(random: &mut Random, words: &[u32]) -> Call {
         39 | 40 => Call::Fork(run),
         41..=44 => Call::Join(run),
         45..=47 => Call::Forecast(run),
+        48 => Call::Audit(any_record(random, 6)),
         _ => {
             let place = random.near(3);
             let number = match place {

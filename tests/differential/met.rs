@@ -1,5 +1,6 @@
 //! What the calls met, and how much of it there must be.
 
+use crate::audited::Audited;
 use crate::book::follow::Seen;
 use crate::desk::version::NOBODY;
 use crate::desk::Answer;
@@ -55,6 +56,8 @@ pub struct Met {
     /// Answered ok, by call.
     ok: [u64; 17],
     refused: [u64; 15],
+    /// Audits, which are counted by themselves: they are answered without a desk.
+    pub audited: Audited,
     /// Refused for a missing right, by call.
     barred: [u64; 5],
     /// Refused for a line or a mark, by call.
@@ -80,6 +83,9 @@ pub struct Met {
 impl Met {
     pub fn enter(&mut self, source: Source, call: &Call, answer: &Option<Answer>) {
         self.calls += 1;
+        if let (Call::Audit(_), Some(answer)) = (call, answer) {
+            return self.audited.enter(answer);
+        }
         self.enter_line(call, answer);
         match answer {
             None => self.no_room += 1,
@@ -165,6 +171,7 @@ impl Met {
             ("forecasts by a book".into(), self.by_books.forecasts as u64, 100),
             ("forecasts with too short a scratch".into(), self.short_scratches, 100),
         ];
+        table.extend(self.audited.table());
         for (answer, count) in FORETOLD.iter().zip(self.foretold) {
             table.push((format!("forecast {answer}"), count, 50));
         }

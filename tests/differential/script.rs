@@ -52,10 +52,11 @@ fn is_said(line: &str) -> bool {
     line.is_empty() || line.starts_with('#') || line.starts_with("differential:")
 }
 
-/// A line as the program reads it, but an open of any length.
+/// A line as the program reads it, but an open or an audit of any length.
 fn read_call(line: &str, numbers: &[u32]) -> Option<Call> {
     match numbers {
         [run, list @ ..] if line.starts_with("open ") => Some(Call::Open(*run, list.to_vec())),
+        _ if line.starts_with("audit") => Some(Call::Audit(numbers.to_vec())),
         _ => text::read_line(line.as_bytes()),
     }
 }

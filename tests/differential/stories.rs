@@ -2,6 +2,8 @@
 
 use crate::admitted;
 use crate::arguments::{any_call, room, scratch, sizes};
+use crate::audited;
+use crate::book::Book;
 use crate::built;
 use crate::clocks;
 use crate::damaged;
@@ -46,6 +48,7 @@ pub fn all_of_one(random: &mut Random, story: u64, met: &mut Met) -> Result<(), 
     single_calls(random, &mut built, Source::Built, met)?;
     let words = built::noise(random, counts);
     single_calls(random, &mut Pair::of(&words), Source::Noise, met)?;
+    audited::drawn(random, story, met)?;
     clocks::on_two(random, met)
 }
 
@@ -74,11 +77,21 @@ fn tell(
     while teller.counts.lines < start + lines {
         plot(&mut teller);
     }
+    let mut book = None::<Book>;
     for line in teller.script.split(|byte| *byte == b'\n') {
         if let Some(call) = text::read_line(line) {
             let answer = pair.call(&call, ANSWER)?;
             met.enter(Source::Story, &call, &answer);
+            let ok = matches!(answer, Some(Answer::Ok(_)));
+            match (&call, &mut book) {
+                (Call::New(sizes), _) if ok && total <= LARGE => book = Some(Book::new(*sizes)),
+                (_, Some(book)) => _ = book.feed(&call, ok),
+                _ => {}
+            }
         }
+    }
+    if let Some(book) = book {
+        audited::own(&book, met)?;
     }
     met.rivals += teller.counts.rivals;
     Ok(pair)

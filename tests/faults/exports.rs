@@ -92,6 +92,17 @@ pub unsafe extern "C" fn sheetdesk_forecast(
 }
 
 #[no_mangle]
+pub unsafe extern "C" fn sheetdesk_audit(
+    record: *const u32,
+    len: usize,
+    out: *mut u32,
+    room: usize,
+) -> u32 {
+    let record = std::slice::from_raw_parts(record, len);
+    answer(lent(out, room), || desk::audit(record))
+}
+
+#[no_mangle]
 pub unsafe extern "C" fn sheetdesk_compare(
     p: *mut u32,
     p_len: usize,

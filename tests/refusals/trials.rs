@@ -6,10 +6,10 @@ use crate::desk::Sizes;
 use crate::library;
 use crate::text::Call;
 
-const GUARD: usize = 16;
+pub const GUARD: usize = 16;
 // The least words of an answer slice.
-const ANSWER: usize = 40;
-const MARK: u32 = 0xA5A5_5A5A;
+pub const ANSWER: usize = 40;
+pub const MARK: u32 = 0xA5A5_5A5A;
 
 // A lent buffer with guard words behind it.
 #[derive(Clone)]

@@ -26,6 +26,8 @@ def golden():
             continue
         tried += 1
         Follows(store, script).check()
+        if "audit" in store.log(script):
+            bad("%s: an audit is logged" % script)
         before = store.content(script), store.log(script)
         store.ask(script, calls)
         if (store.content(script), store.log(script)) != before:

@@ -210,6 +210,10 @@ fn one_row(
     if let Answer::Refused(number) = answer {
         row.words = format!("Refused, nothing changed: {}.", words::refusal(call, *number));
     }
+    // It needs no desk, and is about none.
+    if let (Call::Audit(_), Answer::Ok(numbers)) = (call, answer) {
+        row.words = words::audited(numbers[0]);
+    }
     if let Some(told) = told {
         told.work(&mut row, call, answer, path);
     }

@@ -64,6 +64,17 @@ pub fn foretold(run: u32, answer: &Answer) -> String {
     }
 }
 
+/// What an audit answers that isn't refused.
+pub fn audited(number: u32) -> String {
+    match number {
+        0 => String::from("Each issue of the record has read a snapshot."),
+        _ => format!(
+            "Issue {number} of the record, counted from 1, is the first whose reads are no \
+             snapshot."
+        ),
+    }
+}
+
 /// What an office may hold or a writer may save, of so many sheets.
 pub fn right(mask: u32, count: usize) -> String {
     match mask.count_ones() as usize {

@@ -2,7 +2,7 @@
 -- does-it, does-not, not-made: what a call that was made, or refused, comes to. few-answered: how
 -- many words. call-form, made-form: in form stays in form, and an accepted call leaves it in form.
 -- Assumes nothing.
-use mathlib.Core.Path.{_≡_, refl, sym, subst, _∙_}
+use mathlib.Core.Path.{_≡_, refl, sym, ap, subst, _∙_}
 use mathlib.Core.Bool.{Bool, false, So, _&&_, _||_}
 use mathlib.Core.Logic.{⊎-elim}
 use mathlib.Core.List.{List, [], _∷_}
@@ -25,6 +25,10 @@ use Rattle.layout.specs.Forecast.{foreseen}
 use Rattle.layout.proofs.Foreseeing.{foreseen-none}
 use Rattle.layout.proofs.Forms.{no-form, form-kept, audit-leaves, ask-leaves}
 use Rattle.layout.proofs.Rules.{new-fine, new-done, new-refused}
+use Rattle.records.specs.Audit.{verdictOf, auditOf, auditCall}
+use Rattle.records.proofs.Exact.{audit-anywhere}
+use Rattle.audit.specs.declared.Audited.{Audited}
+use Rattle.audit.specs.Answers.{auditedWords}
 use Rattle.command.specs.declared.Command.{Command}
 use Rattle.command.specs.Commands.{spelled}
 use Rattle.calls.specs.Performs.{asksNew, Does, Exported, scratchAfter, TurnedDown, Made, MadeOf}
@@ -71,6 +75,13 @@ pub export-asked : (q : Query) (l a b w : List ℕ) (n : ℕ) → answerRoom ≤
     → w ≡ answer (callOn (on (ask q)) l) → Lays w a b n → length w ≤ maxAnswer
     → Exported (on (ask q)) l l a b n
 export-asked q l a b w n h p r f = export-done _ l l a b w n h p (sym (ask-leaves q l)) r f
+
+-- An audit, on any desk.
+pub audits-done : (b l a c w : List ℕ) (n : ℕ) → answerRoom ≤ length a → w ≡ answer (auditOf b)
+    → Lays w a c n → length w ≤ maxAnswer → Exported (auditCall b) l l a c n
+audits-done b l a c w n h p r f =
+    export-done (auditCall b) l l a c w n h (p ∙ ap answer (sym (audit-anywhere b l)))
+    (sym (audit-leaves (verdictOf b) l)) r f
 
 -- The count of an answer's words, in fewer bits.
 pub count-fits : (a b w : List ℕ) (n : ℕ) → Lays w a b n → length w ≤ maxAnswer → n < 4294967296
@@ -120,6 +131,11 @@ pub does-open : (r k j : ℕ) (ws l m a b : List ℕ) (n : ℕ) → k ≡ j
 does-open r k j ws l m a b n e d =
     subst (λ (i : ℕ). Does (on (openRun r (take i ws))) l m a b n) e d
 
+-- And so are the words of a record.
+pub does-audit : (k j : ℕ) (ws l a b : List ℕ) (n : ℕ) → k ≡ j
+    → Does (auditCall (take k ws)) l l a b n → Does (auditCall (take j ws)) l l a b n
+does-audit k j ws l a b n e d = subst (λ (i : ℕ). Does (auditCall (take i ws)) l l a b n) e d
+
 -- The call that a command spells.
 pub made-of : (k j : Command) (ws l m a b : List ℕ) (n : ℕ) (c : Call) → k ≡ j
     → Exported c l m a b n → spelled j ws ≡ some c → answerRoom ≤ length a
@@ -147,6 +163,11 @@ pub ruleset exports = (
   not-false,
   few-answered,
 )
+
+pub few-audited : (e : Audited) → length (auditedWords e) ≤ maxAnswer
+unfolding auditedWords
+few-audited Audited.Unreadable = omega arith
+few-audited (Audited.Judged n) = omega arith
 
 -- ---- the form of the buffer after a call
 

@@ -1,7 +1,7 @@
 -- A call that is made: the words of its answer, the buffer after it, and whether that is in form.
--- Does, Exported: one call. scratchAfter: what a forecast leaves of its scratch. TurnedDown: one
--- that isn't made. asksNew, TellsNew: whether it is new. Made, Performs: what a command asks for,
--- which may be no call.
+-- Does, Exported: one call. scratchAfter: what a forecast leaves of its scratch. Audits: an audit.
+-- TurnedDown: one that isn't made. asksNew, TellsNew: whether it is new. Made, Performs: what a
+-- command asks for, which may be no call.
 -- Assumes nothing.
 use mathlib.Core.Path.{_≡_}
 use mathlib.Core.Bool.{Bool, false, cond}
@@ -15,6 +15,7 @@ use Rattle.model.specs.Outcome.{answer}
 use Rattle.layout.specs.Buffer.{inForm}
 use Rattle.layout.specs.Forecast.{foreseen}
 use Rattle.layout.specs.Calls.{Call, callOn, leaves, isNew}
+use Rattle.records.specs.Audit.{auditCall}
 use Rattle.command.specs.declared.Command.{Command}
 use Rattle.command.specs.Commands.{spelled}
 use Rattle.calls.specs.declared.Performed.{Performed}
@@ -34,6 +35,10 @@ pub record Exported (c : Call) (l m a b : List ℕ) (n : ℕ) : Type 0 where
 -- The scratch m of a forecast of run r, after it: as it was, if the answer slice is too short.
 unfoldable pub scratchAfter : List ℕ → List ℕ → ℕ → List ℕ → List ℕ
 scratchAfter l m r a = cond (leb answerRoom (length a)) (foreseen l m r) m
+
+-- An audit of record b, on whichever desk: the desk stays.
+abbrev pub Audits : List ℕ → List ℕ → List ℕ → ℕ → Type 0
+Audits b a c n = (l : List ℕ) → Exported (auditCall b) l l a c n
 
 -- Of a call that isn't made: the answer slice says `refused 1`, or is too short.
 pub record TurnedDown (a b : List ℕ) (n : ℕ) : Type 0 where

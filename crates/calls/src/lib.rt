@@ -1,10 +1,12 @@
 // The one way to make a call, on any buffer: its answer's words are laid over a lent slice. The
 // exports test whether the buffer is in form (`ready`), the program knows it from the call before.
+pub mod audits;
 pub mod first;
 pub mod forecasts;
 pub mod later;
 mod laying;
 
+use audits::audit;
 use command::Command;
 use first::drop;
 use first::evict;
@@ -69,6 +71,7 @@ fn make(store: &mut [u32], ready: bool, command: Command, numbers: &[u32], out: 
         Command::Fork(r) => fork(store, ready, r, out),
         Command::Join(r) => join(store, ready, r, out),
         Command::Forecast(r) => forecast_alone(store, ready, r, out),
+        Command::Audit(i, n) => audit(&numbers[i..i + n], out),
     }
 }
 

@@ -8,15 +8,16 @@ use Prim.Native.Nat.{ℕ, _+_}
 use lib.ListN.{take, drop}
 use Rattle.model.specs.Calls.{look, explain, stale, admit, forecast, openRun, fetch, evict, prepare, step, issue, dropRun, allow, pick, mayhold, maysave, fork, join, ask}
 use Rattle.layout.specs.Calls.{Call, new, on}
+use Rattle.records.specs.Audit.{auditCall}
 use Rattle.command.specs.declared.Command.{Command}
-use Rattle.command.specs.declared.Command.the-variants.{Unread, New, Open, Fetch, Evict, Prepare, Step, Issue, Drop, Look, Explain, Stale, Admit, Allow, Pick, Mayhold, Maysave, Fork, Join, Forecast}
+use Rattle.command.specs.declared.Command.the-variants.{Unread, New, Open, Fetch, Evict, Prepare, Step, Issue, Drop, Look, Explain, Stale, Admit, Allow, Pick, Mayhold, Maysave, Fork, Join, Forecast, Audit}
 
 -- CR 12: "a scratch buffer of at least the desk's total": the program lends as many words as its
 -- buffer has (crate script, `scratch-room`).
 abbrev pub scratchRoom : ℕ
 scratchRoom = 16384
 
--- Open's job words are the n from index i on.
+-- Open's job words, and the words of audit's record, are the n from index i on.
 abbrev pub spelled : Command → List ℕ → Option Call
 spelled Unread l = none
 spelled (New k w n p) l = some (new k w n p)
@@ -38,8 +39,9 @@ spelled (Maysave w m) l = some (on (maysave w m))
 spelled (Fork r) l = some (on (fork r))
 spelled (Join r) l = some (on (join r))
 spelled (Forecast r) l = some (on (ask (forecast scratchRoom r)))
+spelled (Audit i n) l = some (auditCall (take n (drop i l)))
 
--- Open alone uses any.
+-- Open and audit alone use any.
 abbrev pub numbersEnd : Command → ℕ
 numbersEnd Unread = 0
 numbersEnd (New k w n p) = 0
@@ -61,3 +63,4 @@ numbersEnd (Maysave w m) = 0
 numbersEnd (Fork r) = 0
 numbersEnd (Join r) = 0
 numbersEnd (Forecast r) = 0
+numbersEnd (Audit i n) = i + n

@@ -1,7 +1,7 @@
 // A call as the program reads it from a line.
 
 // What is asked for. Open's second and third number tell where among the lent numbers its job
-// words begin, and how many they are.
+// words begin, and how many they are; audit's two the same of its record's words.
 pub enum Command {
     Unread,
     New(u32, u32, u32, u32),
@@ -23,4 +23,5 @@ pub enum Command {
     Fork(u32),
     Join(u32),
     Forecast(u32),
+    Audit(usize, usize),
 }

@@ -1,6 +1,7 @@
 -- The computed past is what happens before (document 01: "stands behind").
 -- before-past, past-before: the two ways; past-is-before: both.
--- before-order: no later. before-grow, before-settled: an issue more changes nothing below it.
+-- before-below: of an issue that there is. before-order: no later. before-grow, before-settled: an
+-- issue more changes nothing below it.
 -- Assumes nothing.
 use mathlib.Core.Path.{_≡_}
 use mathlib.Core.Bool.{So}
@@ -35,7 +36,7 @@ past-read K W (e ∷ h) s i d j p =
     rw (past-low K e h i d j q)
     (past-read K W h (sound-low s) i d j (readBy-low e h i d j q ∙˙ p)))
 
-before-below : {h : History} {d j e i : ℕ} → HappensBefore h d j e i → i < length h
+pub before-below : {h : History} {d j e i : ℕ} → HappensBefore h d j e i → i < length h
 before-below (together l _ _ _) = l
 before-below (earlier l _ _ _ _) = l
 before-below (wasRead l _ _) = l

@@ -14,6 +14,7 @@ use Rattle.text.specs.Fields.{fieldsOf, numbersOf}
 use Rattle.model.specs.Calls.{openRun, fetch, evict, prepare, step, issue, dropRun, allow, pick, mayhold, maysave, fork, join, ask, look, explain, stale, admit, forecast}
 use Rattle.command.specs.Commands.{scratchRoom}
 use Rattle.layout.specs.Calls.{Call, new, on}
+use Rattle.records.specs.Audit.{auditCall}
 
 -- "one over 400 bytes" is unread.
 abbrev pub maxLine : ℕ
@@ -43,7 +44,8 @@ at ns i = getD ns i 0
 -- 8 "A dispatcher picks", `pick`; 9 "a call sets each", `mayhold o m`, `maysave w m`;
 -- 10 "step and explaining gain a line, 0 or 1, 0 if left out", `step r j l`, `explain r j l`, "An
 -- open run may fork once", `fork r`, "Joining, for an open run", `join r`; 12 "a forecast takes a
--- desk, an open unforked run", `forecast r`, with the program's scratch.
+-- desk, an open unforked run", `forecast r`, with the program's scratch; 14 "Checking what older
+-- clients issued", `audit w ..`, the record's words, none included.
 abbrev pub forms : List Form
 forms =
     form "new" 4 4 (λ ns. new (at ns 0) (at ns 1) (at ns 2) (at ns 3)) ∷
@@ -64,7 +66,8 @@ forms =
     form "maysave" 2 2 (λ ns. on (maysave (at ns 0) (at ns 1))) ∷
     form "fork" 1 1 (λ ns. on (fork (at ns 0))) ∷
     form "join" 1 1 (λ ns. on (join (at ns 0))) ∷
-    form "forecast" 1 1 (λ ns. on (ask (forecast scratchRoom (at ns 0)))) ∷ []
+    form "forecast" 1 1 (λ ns. on (ask (forecast scratchRoom (at ns 0)))) ∷
+    form "audit" 0 maxLine auditCall ∷ []
 
 -- The form of a word.
 unfoldable pub formOf : List Form → List ℕ → Option Form

@@ -57,6 +57,7 @@ fn later_command(number: usize, numbers: &[u32], n: usize) -> Command
         16 => Command::Fork(a),
         17 => Command::Join(a),
         18 => Command::Forecast(a),
+        19 => Command::Audit(0, n),
         _ => Command::Unread,
     }
 }

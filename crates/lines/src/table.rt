@@ -15,7 +15,7 @@ struct Row {
 }
 
 // How many commands there are.
-const COMMANDS: usize = 19;
+const COMMANDS: usize = 20;
 
 // The commands: a command's number is its row's. Document 01's nine, then the later ones.
 const ROWS: [Row; COMMANDS] = [
@@ -113,6 +113,11 @@ const ROWS: [Row; COMMANDS] = [
         word: *b"forecast",
         least: 1,
         most: 1,
+    },
+    Row {
+        word: *b"audit   ",
+        least: 0,
+        most: Longest::LINE,
     },
 ];
 

@@ -2,6 +2,7 @@
 // 4 path, 5 nothing, 6 through, 7 breaks or 8 turned, then the numbers) over the front of a lent
 // slice and gives how many they are; a slice of fewer than 40 words gives 0, and nothing is
 // changed.
+pub mod audits;
 pub mod clocks;
 pub mod scratch;
 
@@ -217,9 +218,9 @@ pub extern "C" fn sheetdesk_explain_on(
 // The version of this interface: it rises when a call, its arguments or its answer change.
 #[no_mangle]
 pub extern "C" fn sheetdesk_version() -> u32
-    ensures { λ r. ⌜ r ≡ 11 ⌝ }
+    ensures { λ r. ⌜ r ≡ 12 ⌝ }
 {
-    11
+    12
 }
 
 // The version of the layout: it rises when the words of a desk change.

@@ -9,7 +9,7 @@ use Prim.Native.Nat.{ℕ}
 use types.Run.{OneOf, miss}
 use Rattle.layout.specs.Calls.{isNew}
 use Rattle.command.specs.declared.Command.{Command}
-use Rattle.command.specs.declared.Command.the-variants.{Unread, New, Open, Fetch, Evict, Prepare, Step, Issue, Drop, Look, Explain, Stale, Admit, Allow, Pick, Mayhold, Maysave, Fork, Join, Forecast}
+use Rattle.command.specs.declared.Command.the-variants.{Unread, New, Open, Fetch, Evict, Prepare, Step, Issue, Drop, Look, Explain, Stale, Admit, Allow, Pick, Mayhold, Maysave, Fork, Join, Forecast, Audit}
 use Rattle.command.specs.Commands.{spelled}
 use Rattle.command.proofs.Command.{the-type}
 use Rattle.calls.specs.Performs.{asksNew}
@@ -19,7 +19,7 @@ use Rattle.calls.proofs.is_new.Tie as tie
 -- The variants but new, by their place.
 abbrev others : List ℕ
 others =
-    0 ∷ 2 ∷ 3 ∷ 4 ∷ 5 ∷ 6 ∷ 7 ∷ 8 ∷ 9 ∷ 10 ∷ 11 ∷ 12 ∷ 13 ∷ 14 ∷ 15 ∷ 16 ∷ 17 ∷ 18 ∷ 19 ∷ []
+    0 ∷ 2 ∷ 3 ∷ 4 ∷ 5 ∷ 6 ∷ 7 ∷ 8 ∷ 9 ∷ 10 ∷ 11 ∷ 12 ∷ 13 ∷ 14 ∷ 15 ∷ 16 ∷ 17 ∷ 18 ∷ 19 ∷ 20 ∷ []
 
 other : (k : Command) → OneOf others (tagOf the-type k)
     → (ws : List ℕ) → false ≡ asksNew (spelled k ws)
@@ -44,6 +44,7 @@ other (Maysave w m) p ws = refl
 other (Fork r) p ws = refl
 other (Join r) p ws = refl
 other (Forecast r) p ws = refl
+other (Audit i n) p ws = refl
 
 returns : tie.Need-returns
 unfolding asksNew isNew

@@ -69,9 +69,16 @@ returns-10 c =
     (rw (c .match .keys10, a), omega arith)
 
 returns-11 : tie.Need-returns-11
+unfolding calling formAt
 returns-11 c =
     let s = c .before .before .before .before .before in
-    let r9 = c .match .rest in
+    (rw (c .match .keys11), omega (arith, s .pre .1 .1))
+
+returns-12 : tie.Need-returns-12
+returns-12 c =
+    let s = c .before .before .before .before .before in
+    let r10 = c .match .rest in
+    let r9 = r10 .0 in
     let r8 = r9 .0 in
     let r7 = r8 .0 in
     let r6 = r7 .0 in
@@ -82,7 +89,7 @@ returns-11 c =
     let r1 = r2 .0 in
     let far = next (next (next (s .pre .0) (r1 .0 .1)) (r1 .1)) (r2 .1) in
     let more = next (next (next (next far (r3 .1)) (r4 .1)) (r5 .1)) (r6 .1) in
-    let past = next (next (next more (r7 .1)) (r8 .1)) (r9 .1) in
+    let past = next (next (next (next more (r7 .1)) (r8 .1)) (r9 .1)) (r10 .1) in
     absurd (not-past (in-table (s .args .number) (s .args .n) (s .pre .1 .0)) past)
 
 pub later-command-spec : {M : Type 1} → statement M
@@ -102,4 +109,5 @@ later-command-spec =
     returns-8
     returns-9
     returns-10
-    returns-11)
+    returns-11
+    returns-12)

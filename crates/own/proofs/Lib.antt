@@ -1,0 +1,9 @@
+pub mod Issued
+pub mod Entering
+pub mod Noting
+pub mod Card
+pub mod Growing
+pub mod Claimed
+pub mod Examples
+pub mod Uses
+pub mod Looked
