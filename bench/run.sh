@@ -1,6 +1,6 @@
 #!/bin/sh
 # Measures, and writes docs/FIGURES.md.
-# Usage, from the repository's root, on a quiet machine, after `rt staticlib sheetdesk_c`:
+# Usage, from the repository's root, on a quiet machine, after `make`:
 #   sh bench/run.sh [PROGRAM]
 #   sh bench/run.sh --try      only builds, and makes each call and each list of calls once on each side: all must leave the same desk
 # PROGRAM is the text program (target/bin/sheetdesk); without it its tables, and its column for lists, are left out.

@@ -1,6 +1,6 @@
 #!/bin/sh
 # Case A through the library in C, Rust and Python, and a record in C and Python: builds the examples and runs them.
-# Usage, from the repository's root, after `rt staticlib sheetdesk_c`: sh embed/run.sh
+# Usage, from the repository's root, after `make`: sh embed/run.sh
 set -eu
 library=target/staticlib
 out=target/embed

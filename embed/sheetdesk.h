@@ -41,7 +41,7 @@ extern "C" {
 #endif
 
 /* The version of the calls: rises when one is added or changes what it takes, does or answers. */
-#define SHEETDESK_VERSION 13
+#define SHEETDESK_VERSION 12
 /* The version of the desk's words: rises when a desk of the same counts has other words. */
 #define SHEETDESK_LAYOUT 7
 /* The same two of the library that is linked: compare them with these. */

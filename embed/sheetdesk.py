@@ -18,7 +18,7 @@ import enum
 import os
 from typing import NamedTuple
 
-VERSION = 13
+VERSION = 12
 LAYOUT = 7
 ANSWER_WORDS = 40
 LINE_ROOM = 384

@@ -9,7 +9,7 @@
 use std::fmt::{self, Write};
 
 /// The version of the calls: `SHEETDESK_VERSION` of the header.
-pub const VERSION: u32 = 13;
+pub const VERSION: u32 = 12;
 
 /// The version of the desk's words: `SHEETDESK_LAYOUT` of the header. Save it with the words.
 pub const LAYOUT: u32 = 7;

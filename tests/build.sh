@@ -100,7 +100,7 @@ trial_two_at_once() {
   rm -f target/sheetdesk.log
   ./sheetdesk scripts/case-a.txt >"$work/out.1" 2>"$work/err.1" &
   local first=$!
-  for _ in {1..100}; do grep -q "one proved" target/sheetdesk.log 2>/dev/null && break || sleep 0.05; done
+  for _ in {1..100}; do grep -q "one proved, " target/sheetdesk.log 2>/dev/null && break || sleep 0.05; done
   answers ./sheetdesk
   grep -q "under way, crates proved: 1, the last: one; waiting for it" "$work/err" || bad "the second start doesn't say for what it waits"
   wait "$first" || { cp "$work/err.1" "$work/err"; bad "the first of two starts failed"; }

@@ -5,7 +5,7 @@
 #
 # program: faults of tests/faults/program.txt in a copy of the Rattle sources. The toolchain
 #   builds a library only if it is proved, so the faulty program is run unproved by `rt try`,
-#   on some scripts with the reference's answers. 3 to 4 minutes.
+#   on some scripts with the reference's answers. Half a minute for each fault.
 # library: faults of tests/faults/library.txt, in what no script reaches (the test of form, spent
 #   numbers, buffers), in a copy of the reference behind the library's names, against the
 #   reference itself by tests/differential.rs. 5 minutes.
@@ -16,10 +16,8 @@ first=${2:-1}
 last=${3:-1000}
 crate=sheetdesk
 top=$PWD
-work=$top/target/faults
+work=$(mktemp -d) || exit 2
 list=$top/tests/faults/$kind.txt
-rm -rf "$work"
-mkdir -p "$work"
 
 # fault NUMBER: sets what, file, old and new to the fault with that number, or fails.
 fault() {
@@ -47,37 +45,34 @@ plant() {
 
 # In the copy without a fault the program must answer as the reference does.
 prepare_program() {
-    mkdir -p "$work/copy"
-    cp -r crates crates.txt "$work/copy/"
-    : >"$work/copy/.git" # the copy is a repository of its own
+    mkdir -p "$work/copy" "$work/cases"
+    tar cf - --exclude='crates/*/out' crates crates.txt | tar xf - -C "$work/copy" || exit 2
     for name in sheetdesk generate; do
         rustc --edition 2021 -C opt-level=3 -o "$work/$name" "reference/$name.rs" || exit 2
     done
+    for script in 1 2 3 4 line-lengths unread-forms refused-2; do give_script "$script"; done
 }
 
-# give_script SEED or NAME: the program's input, generated or golden, and what it must write.
+# give_script SEED or NAME: a case of the program, its input, generated or golden, and what it must write.
 give_script() {
     case $1 in
     [0-9]*) "$work/generate" "$1" 600 ;;
     *) cat "scripts/$1.txt" ;;
-    esac >"$work/copy/crates/$crate/stdin"
-    "$work/sheetdesk" <"$work/copy/crates/$crate/stdin" >"$work/copy/crates/$crate/stdout"
+    esac >"$work/cases/$1"
+    "$work/sheetdesk" <"$work/cases/$1" >"$work/cases/$1.stdout"
 }
 
-# Whether the program answers a script otherwise. A fault that doesn't compile is no trial.
+# Whether the program answers a script otherwise. A fault that doesn't compile is no trial. Some forecasts take more steps
+# than the interpreter is allowed: then what is built decides.
 differs_program() {
-    for script in 1 2 3 4 line-lengths unread-forms refused-2; do
-        give_script "$script"
-        (cd "$work/copy" && rt try "$crate") >"$work/try.txt" 2>&1 && continue
-        # Some forecasts take more steps than the interpreter is allowed: then what is built decides.
-        grep -q "^FAIL: the native" "$work/try.txt" && return 0
-        grep -q "did not finish within" "$work/try.txt" && grep -q "^ok: the native" "$work/try.txt" && continue
-        grep -q "wrote\|ended\|interpreter" "$work/try.txt" && return 0
-        echo "faults: no trial:"
-        tail -n 5 "$work/try.txt"
-        exit 2
-    done
-    return 1
+    (cd "$work/copy/crates/$crate" && rt try --cases "$work/cases") >"$work/try.txt" 2>&1
+    case $(tail -n 1 "$work/try.txt") in
+    "cases=7 ended=7 fault=0 differs=0 no-answer=0 "*) return 1 ;;
+    cases=*" fault="[1-9]* | cases=*" differs="[1-9]*) return 0 ;;
+    esac
+    echo "faults: no trial:"
+    tail -n 5 "$work/try.txt"
+    exit 2
 }
 
 prepare_library() {
@@ -121,5 +116,6 @@ while [ "$number" -le "$last" ] && fault "$number"; do
     cp "$top/$from/$file" "$work/copy/$file"
     number=$((number + 1))
 done
+rm -rf "$work"
 echo "faults: $((number - first)) planted, $missed not found"
 [ "$missed" -eq 0 ]

@@ -1,6 +1,6 @@
 #!/usr/bin/env bash
 # The history of calls had again: what --shrink leaves, what bad input gets, and the command that runs it (tests/pages.sh has
-# the pages). Usage, after `rt check` and `rt staticlib sheetdesk_c`: tests/history.sh [TRIAL..], all trials without one.
+# the pages). Usage, after `make`: tests/history.sh [TRIAL..], all trials without one.
 set -u
 cd "$(dirname "$0")/.." || exit 2
 . tests/trials.sh || exit 2
@@ -161,7 +161,7 @@ trial_command() {
   export REAL=$top FAKE=$work/fake
   mkdir -p "$FAKE" "$work/a desk/crates/sheetdesk_c" || exit 2
   cp -R sheetdesk tools docs embed reference scripts "$work/a desk/" || exit 2
-  printf 'sheetdesk_c:\nsheetdesk:\n' >"$work/a desk/crates.txt"
+  printf 'sheetdesk_c staticlib:\nsheetdesk:\n' >"$work/a desk/crates.txt"
   # A rustc that takes what is built here.
   mkdir "$work/rust" && cat >"$work/rust/rustc" <<END || exit 2
 #!/bin/sh

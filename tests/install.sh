@@ -1,7 +1,7 @@
 #!/usr/bin/env bash
 # `make install` in a copy of the checkout, with an rt that proves nothing (tests/fake/rt) and what is built here; then the
 # installed command, and the examples by the lines that README.md shows, without a prover.
-# Usage, after `rt check` and `rt staticlib sheetdesk_c`: tests/install.sh
+# Usage, after `make`: tests/install.sh
 set -u
 cd "$(dirname "$0")/.." || exit 2
 REAL=$PWD
@@ -17,7 +17,8 @@ bad() {
 }
 
 mkdir -p "$FAKE" "$work/a copy" "$work/use" || exit 2
-cp -R Makefile README.md sheetdesk tools embed docs reference crates crates.txt "$work/a copy/" || exit 2
+cp -R Makefile README.md sheetdesk tools embed docs reference "$work/a copy/" || exit 2
+tar cf - --exclude='crates/*/out' crates crates.txt | tar xf - -C "$work/a copy" || exit 2
 make=(make -s -C "$work/a copy")
 command -v make >/dev/null || make=(bash "$work/a copy/tools/install.sh")
 

@@ -1,6 +1,6 @@
 #!/usr/bin/env bash
 # What an embedder reads in header and wrappers: versions, sizes, whose memory it is, names, answers as text, and texts of calls.
-# Usage, after `rt staticlib sheetdesk_c`: tests/library.sh [TRIAL..], all trials without one.
+# Usage, after `make`: tests/library.sh [TRIAL..], all trials without one.
 set -u
 cd "$(dirname "$0")/.." || exit 2
 out=target/library
@@ -21,7 +21,7 @@ trial_versions() {
     [ "$(sed -n "s/^$name = //p" embed/sheetdesk.py)" = "$due" ] || bad "sheetdesk.py: $name"
   done
   [ "$(sed -n 's/^#define SHEETDESK_ANSWER_WORDS //p' embed/sheetdesk.h)" -eq 40 ] || bad "an answer's slice isn't 40 words"
-  grep -qx "lineRoom = $(sed -n 's/^#define SHEETDESK_LINE_ROOM //p' embed/sheetdesk.h)" crates/print/specs/Print.antt ||
+  grep -qx "line_room = $(sed -n 's/^#define SHEETDESK_LINE_ROOM //p' embed/sheetdesk.h)" crates/print/specs/Print.antt ||
     bad "the room of a line isn't that of the definitions"
   for name in VERSION LAYOUT; do
     grep -q "SHEETDESK_$name.* rises" embed/README.md || bad "embed/README.md doesn't say when SHEETDESK_$name rises"
@@ -31,7 +31,7 @@ trial_versions() {
 # An answer's first words are the same in the program's definitions, header and Python; the wrapper's are in the golden scripts.
 trial_words() {
   local due header python
-  due=$(sed -n '/^answerWords =/,/\[\]/p' crates/print/specs/Print.antt | grep -o '"[a-z]*"' | tr -d '"' | paste -sd ' ')
+  due=$(sed -n '/^answer_words =/,/\[\]/p' crates/print/specs/Print.antt | grep -o '"[a-z]*"' | tr -d '"' | paste -sd ' ')
   header=$(sed -n '/^enum sheetdesk_outcome/,/^}/s/^ *SHEETDESK_\([A-Z]*\) = \([0-9]*\),*$/\2 \1/p' embed/sheetdesk.h | sort -n |
     cut -d ' ' -f 2 | tr A-Z a-z | paste -sd ' ')
   python=$(sed -n 's/^_OUTCOMES = (\(.*\))/\1/p' embed/sheetdesk.py | tr -d '",')

@@ -1,6 +1,6 @@
 #!/usr/bin/env bash
-# Logs of a product: what they have lost is told, what is said of a long one is its own; breaks, bills and desks for tickets. Usage, after `rt check` and
-# `rt staticlib sheetdesk_c`: tests/logs.sh [TRIAL..], all trials without one.
+# Logs of a product: what they have lost is told, what is said of a long one is its own; breaks, bills and desks for tickets. Usage, after
+# `make`: tests/logs.sh [TRIAL..], all trials without one.
 set -u
 cd "$(dirname "$0")/.." || exit 2
 . tests/trials.sh || exit 2

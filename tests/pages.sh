@@ -1,6 +1,6 @@
 #!/usr/bin/env bash
 # Pages of scripts and logs: their words, and that a headless browser loads them and finds what must stand there. A browser is
-# installed if there is none. Usage, after `rt check` and `rt staticlib sheetdesk_c`: tests/pages.sh [TRIAL..], all trials
+# installed if there is none. Usage, after `make`: tests/pages.sh [TRIAL..], all trials
 # without one.
 set -u
 cd "$(dirname "$0")/.." || exit 2

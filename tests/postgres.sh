@@ -2,7 +2,7 @@
 # The store of named desks on PostgreSQL: the trials of tests/stored.sh, and a server that is ended at once while calls are made.
 # Installs the server and psycopg from the distribution if they aren't there and it may, starts a server of its own on loopback in a
 # folder of its own, and stops it in the end. Not run by ./test.
-# Usage, after `rt check` and `rt staticlib sheetdesk_c`: tests/postgres.sh
+# Usage, after `make`: tests/postgres.sh
 set -u
 cd "$(dirname "$0")/.." || exit 2
 . tests/trials.sh || exit 2

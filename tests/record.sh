@@ -1,6 +1,6 @@
 #!/usr/bin/env bash
-# The wrappers' recording: what is handed over in C, Rust and Python, and that it replays. Usage, after `rt check` and
-# `rt staticlib sheetdesk_c`: tests/record.sh [TRIAL..], all trials without one.
+# The wrappers' recording: what is handed over in C, Rust and Python, and that it replays. Usage, after
+# `make`: tests/record.sh [TRIAL..], all trials without one.
 set -u
 cd "$(dirname "$0")/.." || exit 2
 . tests/trials.sh || exit 2

@@ -1,6 +1,6 @@
 #!/usr/bin/env bash
 # Desks in files: the format, saves that are killed or fail at any point, a full disk, many at once; and the command on them.
-# Usage, after `rt check` and `rt staticlib sheetdesk_c`: tests/saved.sh [TRIAL..], all trials without one; of a trial some parts:
+# Usage, after `make`: tests/saved.sh [TRIAL..], all trials without one; of a trial some parts:
 # PARTS="damaged causes" tests/saved.sh format
 set -u
 cd "$(dirname "$0")/.." || exit 2

@@ -1,6 +1,6 @@
 #!/usr/bin/env bash
 # The store of named desks on SQLite: transactions that are ended at any point, a full disk, many at once, the service. On PostgreSQL:
-# tests/postgres.sh. Usage, after `rt check` and `rt staticlib sheetdesk_c`: tests/stored.sh
+# tests/postgres.sh. Usage, after `make`: tests/stored.sh
 set -u
 cd "$(dirname "$0")/.." || exit 2
 . tests/trials.sh || exit 2

@@ -8,9 +8,8 @@ set -u
 cd "$(dirname "$0")/.." || exit 2
 copy=$(mktemp -d) || exit 2
 trap 'rm -rf "$copy"' EXIT
-cp -r crates crates.txt "$copy/" || exit 2
-[ ! -d target/stamp ] || { mkdir "$copy/target" && cp -r target/rlib target/stamp "$copy/target/"; } || exit 2
-cd "$copy" && git init -q . || exit 2
+tar cf - --exclude='crates/*/out' crates crates.txt tools/kit.py | tar xf - -C "$copy" || exit 2
+cd "$copy" || exit 2
 failed=0 refused=0
 swap() { # CRATE FILE OLD NEW
   local file=crates/$1/src/$2 said
@@ -22,7 +21,7 @@ old = os.environ['OLD']
 if text.count(old) != 1: sys.exit(1)
 open(sys.argv[1], 'w').write(text.replace(old, os.environ['NEW']))
 P
-  said=$(rt mir "$1" 2>&1)
+  said=$(python3 tools/kit.py "$1" 2>&1)
   mv kept "$file"
   case $said in
     *"error[mismatched-types]: expected \`IssueNumber\`, found \`WriterCount\`"*) refused=$((refused + 1)) ;;

@@ -1,14 +1,16 @@
 # Sourced by sheetdesk and tools/install.sh: proves and builds what isn't that of the sources. What decides is what the
 # sources hold, not when they were written. Wants $top, the repository, $name, the program's crate, $program and a
-# function `fail`.
+# function `fail`. rt leaves what it builds in a crate's out/; what is used is a copy in target/.
 built=$top/target/$name.built
+made=$top/crates/$name/out/$name
 library=$top/target/staticlib/libsheetdesk_c.a
+archive=$top/crates/sheetdesk_c/out/libsheetdesk_c.a
 log=$top/target/sheetdesk.log
 
 # A sum over the names and the content of all sources; edits that must be refused are none.
 sources() {
-  (cd "$top" && find crates crates.txt -name must-fail -prune -o -type f -print0 | LC_ALL=C sort -z | xargs -0 sha256sum |
-    sha256sum)
+  (cd "$top" && find crates crates.txt \( -path 'crates/*/must-fail' -o -path 'crates/*/out' \) -prune -o -type f -print0 |
+    LC_ALL=C sort -z | xargs -0 sha256sum | sha256sum)
 }
 
 # state SOURCES: what target/$name.built must say of a program that is built from them.
@@ -20,17 +22,20 @@ is_current() {
   [ -x "$program" ] && [ -r "$built" ] && [ "$(sed 2q "$built")" = "$(state "$(sources)")" ]
 }
 
-# Copies what rt says to the log, and tells on standard error which crate of how many is proved.
+# Copies what rt says to the log, and tells there and on standard error which crate is proved, of how
+# many at most: of one that hasn't changed rt says nothing.
 progress() {
-  local line number=0
+  local line crate= number=0
   while IFS= read -r line; do
     printf '%s\n' "$line"
     case $line in
-      "rt: "*" proved ("*) number=$((number + 1)) ;;
-    esac
-    case $line in
-      "rt: "*" proved (unchanged "*) ;;
-      "rt: "*" proved ("*) line=${line#rt: } && echo "sheetdesk: ${line%% *} proved, crate $number of $1" >&2 ;;
+      "rt: chose --jobs "*" for "*) crate=${line##* } ;;
+      "logic=proved "*)
+        number=$((number + 1))
+        line="sheetdesk: $crate proved, crate $number of $1 at most"
+        printf '%s\n' "$line"
+        printf '%s\n' "$line" >&2
+        ;;
     esac
   done >"$log"
 }
@@ -38,7 +43,7 @@ progress() {
 # crates NAME: how many crates it is made of.
 crates() {
   local name number=1
-  for name in $(sed -n "s/^$1://p" "$top/crates.txt"); do
+  for name in $(sed -n -E "s/^$1( staticlib)?://p" "$top/crates.txt"); do
     [ ! -d "$top/crates/$name" ] || number=$((number + 1))
   done
   echo "$number"
@@ -54,13 +59,14 @@ stop() {
   exit "$1"
 }
 
-# prove CRATES WORDS..: runs rt with these words in the repository; its status. A signal ends all of it.
+# prove CRATE WORD: runs rt with this word in the crate's folder; its status. A signal ends all of it.
+# `rt run` also runs the program, on no input, and says its own on standard error.
 prove() {
   local status teller pipe=$top/target/sheetdesk.pipe
   rm -f "$pipe" && mkfifo "$pipe" || return 1
-  progress "$1" <"$pipe" &
+  progress "$(crates "$1")" <"$pipe" &
   teller=$!
-  (cd "$top" && exec setsid rt "${@:2}") </dev/null >"$pipe" 2>&1 &
+  (cd "$top/crates/$1" && { [ "$2" = run ] || exec >&2; } && exec setsid rt "$2") </dev/null 2>"$pipe" >/dev/null &
   building=$!
   trap 'stop 130' INT
   trap 'stop 143' TERM
@@ -74,10 +80,11 @@ prove() {
   return "$status"
 }
 
-# The crate at which rt failed, as the log has it; else the log's last line; else what may have kept it from being written.
+# The crate at which rt failed, the one that it had begun, as the log has it; else the log's last line;
+# else what may have kept it from being written.
 fault() {
   local crate last
-  crate=$(sed -n -E 's/^rt: ([A-Za-z0-9_]+) (NOT PROVED|proved, and its run FAILED).*/\1/p' "$log" | head -n 1)
+  crate=$(sed -n -E 's/^rt: chose --jobs [0-9]+ for ([A-Za-z0-9_]+)$/\1/p' "$log" | tail -n 1)
   last=$(tail -n 1 "$log" 2>/dev/null)
   if [ -n "$crate" ]; then
     echo "crate $crate"
@@ -100,7 +107,7 @@ lock() {
 # What another build is at, by the log.
 under_way() {
   local proved
-  proved=$(sed -n -E 's/^rt: ([A-Za-z0-9_]+) proved \(.*/\1/p' "$log" 2>/dev/null)
+  proved=$(sed -n -E 's/^sheetdesk: ([A-Za-z0-9_]+) proved, .*/\1/p' "$log" 2>/dev/null)
   [ -z "$proved" ] || echo ", crates proved: $(wc -l <<<"$proved"), the last: $(tail -n 1 <<<"$proved")"
 }
 
@@ -111,29 +118,34 @@ unwritten() {
 }
 
 build_program() {
-  local now number
+  local now
   mkdir -p "$top/target" 2>/dev/null
   lock || { unwritten && return; }
   if ! is_current; then
     command -v rt >/dev/null || fail "the Rattle toolchain's command rt is not on the PATH: it builds the program"
     now=$(sources)
-    number=$(crates "$name")
-    # rt goes by its stamps, and doesn't see that a program is gone or another one.
-    if ! [ -x "$program" ] || grep -qxF "sources $now" "$built" 2>/dev/null; then rm -f "$top/target/stamp/$name"; fi
     rm -f "$built"
-    echo "sheetdesk: proving and building, $number crates; about six minutes the first time" >&2
-    prove "$number" check "$name" && [ -x "$program" ] || fail "the build failed: $(fault); target/sheetdesk.log has all that rt said"
-    { state "$now" && echo "toolchain $(rt version)"; } >"$built.new" && mv "$built.new" "$built" || fail "can't write $built"
+    echo "sheetdesk: proving and building, $(crates "$name") crates; the first time it takes many minutes" >&2
+    prove "$name" run && take_program "$now" || fail "the build failed: $(fault); target/sheetdesk.log has all that rt said"
   fi
   exec 9>&-
+}
+
+# take_program [SOURCES]: takes the program that rt left, which is built from them; without them, from
+# those of now.
+take_program() {
+  [ -x "$made" ] && mkdir -p "$top/target/bin" && cp "$made" "$program.new" && mv "$program.new" "$program" || return 1
+  { state "${1:-$(sources)}" && echo "toolchain $(rt version)"; } >"$built.new" &&
+    mv "$built.new" "$built" || fail "can't write $built"
 }
 
 library_is_current() {
   [ -e "$library" ] && [ "$(cat "$top/target/staticlib/sources" 2>/dev/null)" = "$(sources)" ]
 }
 
-# mark_library [SOURCES]: the library that is there is built from them; without them, from those of now.
-mark_library() {
+# take_library [SOURCES]: the same of the library.
+take_library() {
+  [ -e "$archive" ] && mkdir -p "${library%/*}" && cp "$archive" "$library.new" && mv "$library.new" "$library" || return 1
   echo "${1:-$(sources)}" >"$top/target/staticlib/sources"
 }
 
@@ -145,7 +157,6 @@ build_library() {
   now=$(sources)
   echo "sheetdesk: proving and building the library, $(crates sheetdesk_c) crates" >&2
   rm -f "$top/target/staticlib/sources"
-  prove "$(crates sheetdesk_c)" staticlib sheetdesk_c && [ -e "$library" ] ||
+  prove sheetdesk_c lib && take_library "$now" ||
     fail "the build failed: $(fault); target/sheetdesk.log has all that rt said"
-  mark_library "$now"
 }

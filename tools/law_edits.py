@@ -13,7 +13,7 @@ import sys
 import tempfile
 
 EXAMPLES = [("paths", "Examples"), ("model", "Scripts"), ("layout", "Foreseen"), ("booked", "Examples")]
-IMPORT = re.compile(r"^use Rattle·(\w+?)(?:·\w+)?\.proofs\.([\w.]+?)(?:\.\{| as )", re.MULTILINE)
+IMPORT = re.compile(r"^use Rattle\.(\w+)\.proofs\.([\w.]+?)(?:\.\{| as )", re.MULTILINE)
 
 
 def examples(root):
@@ -38,8 +38,8 @@ def read_edit(path):
             target = line[6:]
         elif line.startswith("old: "):
             pairs.append([line[5:], None])
-        elif line.startswith("new: "):
-            pairs[-1][1] = line[5:]
+        elif line.startswith("new:"):
+            pairs[-1][1] = line[4:].removeprefix(" ")
     return target, pairs
 
 
@@ -58,15 +58,21 @@ def without_examples(root):
     print("without", ", ".join("%s/%s" % module for module in gone))
 
 
+def run(root, crates):
+    """Whether these crates and those below them are proved, and all that rt says."""
+    outs = [subprocess.run(["rt", "check"], cwd=os.path.join(root, "crates", crate), text=True, stdout=subprocess.PIPE,
+                           stderr=subprocess.STDOUT) for crate in crates]
+    return not any(out.returncode for out in outs), "".join(out.stdout for out in outs)
+
+
 def main():
     here = os.path.dirname(os.path.dirname(os.path.abspath(__file__)))
     root = os.path.join(tempfile.mkdtemp(), "copy")
-    skip = shutil.ignore_patterns(".git", "bin", "must-fail")
+    skip = shutil.ignore_patterns(".git", "target", "must-fail")
     shutil.copytree(here, root, ignore=skip)
     without_examples(root)
     subprocess.run(["git", "init", "-q", root], check=True)
-    run = lambda crates: subprocess.run(["rt", "check", *crates], cwd=root, text=True, capture_output=True)
-    print("no edit:", "proved" if run(["booked"]).returncode == 0 else "NOT PROVED")
+    print("no edit:", "proved" if run(root, ["booked"])[0] else "NOT PROVED")
     for name in sys.argv[1:]:
         crate, label = name.split("/")
         target, pairs = read_edit(os.path.join(here, "crates", crate, "must-fail", label + ".edit"))
@@ -76,9 +82,9 @@ def main():
             assert text.count(old) == 1, (name, old)
             text = text.replace(old, new)
         open(path, "w", encoding="utf-8").write(text)
-        out = run(["booked", "claims"] if target.endswith(("Explain.antt", "Forecast.antt")) else ["booked"])
-        found = re.search(r"crates/(\S+?\.antt):(\d+):\d+: error: `([^`]*)`", out.stdout + out.stderr)
-        print("%s: %s" % (name, "still proved" if out.returncode == 0 else found.groups() if found else "refused"), flush=True)
+        proved, said = run(root, ["booked", "claims"] if target.endswith(("Explain.antt", "Forecast.antt")) else ["booked"])
+        found = re.search(r"(?m)^(?:\./)?(\S+?\.antt):(\d+):\d+: error: `([^`]*)`", said)
+        print("%s: %s" % (name, "still proved" if proved else found.groups() if found else "refused"), flush=True)
         open(path, "w", encoding="utf-8").write(before)
     shutil.rmtree(os.path.dirname(root))
 

@@ -1,6 +1,6 @@
 #!/bin/sh
-# Makes the shared library of the static one: sh tools/shared.sh, from the repository's root, after
-# `rt staticlib sheetdesk_c`. Its name has the version of the calls, as the header has it.
+# Makes the shared library of the static one: sh tools/shared.sh, from the repository's root, where that is
+# built (`make` does both). Its name has the version of the calls, as the header has it.
 set -eu
 version=$(sed -n 's/^#define SHEETDESK_VERSION //p' embed/sheetdesk.h)
 mkdir -p target/shared

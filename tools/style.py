@@ -9,13 +9,13 @@ import sys
 
 USE = re.compile(r"\s*(pub |ghost )?use ")
 # Words by which a proof would be known in a file of definitions.
-PROOF = re.compile(r"(?<![\w-])(omega|rw|refl|simp|search|cc|absurd|∙)(?![\w-])")
+PROOF = re.compile(r"(?<![\w-])(omega|rw|refl|simp|search|grind|decide|subst|cc|absurd|∙)(?![\w-])")
 
 
 def faults(path):
     with open(path, encoding="utf-8") as source:
         lines = source.read().splitlines()
-    if len(lines) > (300 if path.endswith("/Proof.antt") else 250):
+    if len(lines) > (300 if path.endswith(("/Answers.antt", "/Proof.antt")) else 250):
         yield "%s: %d lines" % (path, len(lines))
     for number, line in enumerate(lines, 1):
         if len(line) >= 100 and not USE.match(line):
@@ -70,6 +70,7 @@ def strays(path, folder):
 
 def main():
     paths = sorted(glob.glob("crates/**/*.antt", recursive=True) + glob.glob("crates/**/*.rt", recursive=True))
+    paths = [path for path in paths if path.split("/")[2] != "out"]
     edits = sorted(glob.glob("crates/*/must-fail/*.edit"))
     found = [fault for path in paths for fault in faults(path)] + [fault for path in edits for fault in misfits(path)]
     found += strays("tests/faults/program.txt", "")

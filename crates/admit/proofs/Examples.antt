@@ -76,15 +76,19 @@ pub record Admitted : Type 0 where
   pub not_in_form : asked (put 26 1) ≡ not_taken 1
 
 pub admitted : Admitted
-unfolding any_below all_below when count_below upto test_bit with_bit with_if mask_below exceeds standing
-    dominates present between ranged past_size version_size place_size site_size writer_size run_size
-    master_at sites_at writers_at runs_at tail_size tail_at total_of needs_met causal_cut overlapping_cut
+unfolding any_below all_below when count_below upto test_bit with_bit with_if mask_below exceeds
+    standing
+    dominates present between ranged past_size version_size place_size site_size writer_size
+    run_size
+    master_at sites_at writers_at runs_at tail_size tail_at total_of needs_met causal_cut
+    overlapping_cut
     held dependency supersedes planned done_reads is_stale stale_mask zero_rows zero_version
     leaders_formed version_formed place_formed valid_job zero_job jobs_formed masks_formed
     zero_branch mark_formed branches_formed snapshot_formed run_formed held_count over site_formed
     well_formed answer refuse unless replied each_branch every_place every_version every_past
     causal_cuts overlapping_cuts master_covers counts_within
-    number_within admissible admit_cause admit_reply reply_of rule_of read_clock read_past_of read_version
+    number_within admissible admit_cause admit_reply reply_of rule_of read_clock read_past_of
+    read_version
     read_place read_site read_writer read_job read_jobs read_run read_tail_of counts_in store_of
     header_right shaped in_form on_store call_on read_masks rights_formed tail_formed barred
 admitted = record { taken = refl; refused = refl; lines = refl; not_in_form = refl }

@@ -13,7 +13,7 @@ use Rattle.masks.specs.Mask.{test_bit}
 use Rattle.masks.proofs.Bits.{test-none}
 use Rattle.clock.specs.Clock.{Clock}
 use Rattle.sizes.specs.declared.Counts.{Counts}
-use Rattle.sizes.specs.Bounds.{master_at, site_at, writer_at, run_at_of}
+use Rattle.sizes.specs.Bounds.{master_at}
 use Rattle.model.specs.Algebra.{Place, everything, needs_met}
 use Rattle.model.specs.Version.{Version, versions}
 use Rattle.model.specs.Store.{Writer, branch_of, Store, planned}
@@ -21,10 +21,10 @@ use Rattle.model.specs.Calls.Admit.{master_covers, counts_within, admissible}
 use Rattle.model.proofs.Cuts.{needs_met-intro}
 use Rattle.model.proofs.Formed.{Formed, well-out}
 use Rattle.model.proofs.Branches.{each-out, each_in}
-use Rattle.model.proofs.Admits.{Covered, Counted, covered_out, covered_in, counted-out, counted_in, admissible-out, admissible_in}
+use Rattle.model.proofs.Admits.{Covered, covered_out, covered_in, counted-out, counted_in, admissible-out, admissible_in}
 use Rattle.model.proofs.Sufficing.{Sufficing, own_rows, admissible-small, sufficing}
 use Rattle.layout.specs.Reading.{read_word_of, read_place, read_writer, store_of}
-use Rattle.layout.proofs.Readings.{counts_in_lem, last_in_lem, master_in, cache_in, writer_in, run_in}
+use Rattle.layout.proofs.Readings.{last_in_lem, master_in, cache_in, writer_in, run_in}
 use Rattle.layout.proofs.Follow.{form-fine}
 use Rattle.form.specs.Parts.{FormWith}
 use Rattle.form.proofs.Known.{form-counts}

@@ -9,7 +9,6 @@ use Prim.Native.Nat.{ℕ, ◌+◌, ◌*◌, ◌≤◌, ◌<◌}
 use native.Mathlib.Omega.{arith}
 use lib.Dec.{leb}
 use Rattle.words.specs.Tests.{Items, all_below}
-use Rattle.words.specs.Lists.{upto}
 use Rattle.words.proofs.Bools.{same_test}
 use Rattle.words.proofs.Tests.{all-at, all_same}
 use Rattle.words.proofs.Lists.{upto_in}
@@ -17,10 +16,10 @@ use Rattle.masks.specs.Mask.{test_bit}
 use Rattle.clock.specs.Clock.{Clock, standing, covering, dominates, clock_at}
 use Rattle.clock.proofs.Standings.{standing-same}
 use Rattle.sizes.specs.declared.Counts.{Counts}
-use Rattle.sizes.specs.Bounds.{max_keys, past_offset, writer_past_offset, Ranged, past_size, version_size, writer_size, writer_at, run_at_of, snapshot_at, key_at, row_at, past_row_at}
+use Rattle.sizes.specs.Bounds.{max_keys, past_offset, writer_past_offset, Ranged, version_size, writer_size, writer_at, run_at_of, snapshot_at, key_at, row_at, past_row_at}
 use Rattle.sizes.specs.Runs.{max_jobs, jobs_offset, plan_offset}
 use Rattle.sizes.proofs.Offsets.{largest, ordered, writer-lies, key-lies, past-row-lies}
-use Rattle.model.specs.Algebra.{Place, everything, needs_met}
+use Rattle.model.specs.Algebra.{Place, everything}
 use Rattle.model.specs.Version.{Version, versions}
 use Rattle.model.specs.Calls.Admit.{each_branch}
 use Rattle.model.proofs.Cuts.{needs_met-at, needs_met-intro}

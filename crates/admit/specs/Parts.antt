@@ -56,7 +56,8 @@ cache_test z l master last o =
     place_taken z (read_place z l master) last everything (read_place z l (site_at z o))
 
 abbrev pub run_test : Counts → List ℕ → ℕ → ℕ → Items
-run_test z l master last r = run_taken z (read_place z l master) last (read_run z l (run_at_of z r))
+run_test z l master last r = run_taken z (read_place z l master) last (read_run z l
+    (run_at_of z r))
 
 abbrev pub writer_test : Counts → List ℕ → ℕ → Items
 writer_test z l master w =

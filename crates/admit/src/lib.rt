@@ -1,4 +1,6 @@
 // Admit: whether a store read back from disk is taken. It writes nothing, and grows no set.
+#![tactic(auto)]
+
 mod place;
 
 ghost use Rattle.std.specs.Prelude.{◌≡◌, ◌+◌, ◌≤◌, ◌<◌, length};

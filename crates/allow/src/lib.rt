@@ -1,4 +1,6 @@
 // Allow: a site gets another allowance.
+#![tactic(auto)]
+
 ghost use Rattle.std.specs.Prelude.{◌≡◌};
 ghost use Rattle.std.proofs.Math.Bool.{So};
 ghost use Rattle.model.specs.Outcome.{answer};

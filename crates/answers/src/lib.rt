@@ -1,18 +1,20 @@
 // The answers of the calls as words: 0 ok, 1 broken, 2 refused, then the numbers that the text
 // prints. They are laid over the front of a lent slice, and the slice's other words stay.
+#![tactic(auto)]
+
 ghost use Rattle.std.specs.Prelude.{◌≡◌, [], ◌∷◌, ◌≤◌, length};
 ghost use Rattle.answers.specs.Answers.{answer_room, Lays, answered_words};
 
 // The answer of a call with one number: that number, or the number of the cause for which it is
 // refused.
-#[derive(Drop)]
+#[derive(Clone, Copy)]
 pub enum Answered {
     Done(u32),
     Refused(u32),
 }
 
 // How much room an answer needs.
-#[derive(Drop)]
+#[derive(Clone, Copy)]
 pub struct Room {}
 
 impl Room {
@@ -21,7 +23,7 @@ impl Room {
 
     // It is that of the definitions.
     pub fn rooms()
-        ensures* { do ⌜ (← (⟦Room::ANSWER⟧).entry) ≡ answer_room ⌝ }
+        ensures { Room.ANSWER ≡ answer_room }
     {}
 }
 

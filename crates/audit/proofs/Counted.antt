@@ -30,7 +30,8 @@ module _ (b : Record) (i k w : ℕ) (before : Clock) (ke : k ≡ keys_in b) (we 
       omega (arith, be u h, R.counted u (omega arith)))))
 
   counted-out : (x : ℕ) → So (counted b k w before x)
-      → ((j : ℕ) → j < i → rank b j ≡ clock_of b x (writer_at b j) → So (saved_at b j (key_of b x)))
+      → ((j : ℕ) → j < i → rank b j ≡ clock_of b x (writer_at b j) → So (saved_at b j
+      (key_of b x)))
       → ReadReadable b i x
   unfolding counted
   counted-out x p s =

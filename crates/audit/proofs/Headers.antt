@@ -24,7 +24,8 @@ layout-parts : (b : Record)
 unfolding layout_ok counts_ok areas_ok
 layout-parts b =
     ap (λ (x : Bool). leb 7 (length b) && x)
-    (four-and (leb 1 (keys_in b)) (leb (keys_in b) 32) (leb 1 (writers_in b)) (leb (writers_in b) 16)
+    (four-and (leb 1 (keys_in b)) (leb (keys_in b) 32) (leb 1 (writers_in b)) (leb (writers_in b)
+    16)
     _)
 
 pub layout-short : (b : Record) → length b < 7 → false ≡ layout_ok b

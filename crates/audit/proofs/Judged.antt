@@ -49,7 +49,8 @@ module _ (b : Record) (n : ℕ) (e : n ≡ issues_in b) where
       → i + 1 ≡ audit_number b
   unfolding audit_number
   unsound-found i l z p =
-      add-one i ∙ sym (first_found (issues_in b) unsound i (omega arith) p (first-zero i unsound z))
+      add-one i ∙ sym (first_found (issues_in b) unsound i (omega arith) p (first-zero i unsound
+      z))
 
   pub unsound-turn : (i : ℕ) → first_below_of i unsound ≡ 0 → unsound i ≡ false
       → first_below_of (i + 1) unsound ≡ 0

@@ -28,7 +28,8 @@ loop-ends n p i e a = sym (ap (λ (m : ℕ). all_below m p) (sym e) ∙ a)
 down_step : (p : Items) (j : ℕ) (r : Bool) → r ≡ p j → (k : ℕ) → k ≡ j + 1
     → all_below k p ≡ all_below j p && r
 down_step p j r e k h =
-    ap (λ (m : ℕ). all_below m p) h ∙ (all_more p j ∙ ap (λ (x : Bool). all_below j p && x) (sym e))
+    ap (λ (m : ℕ). all_below m p) h ∙ (all_more p j ∙ ap (λ (x : Bool). all_below j p && x)
+    (sym e))
 
 pub down-fails : (n : ℕ) (p : Items) (k j : ℕ) (r : Bool) → all_below k p ≡ all_below n p
     → k ≡ j + 1 → r ≡ p j → not r ≡ true → false ≡ all_below n p

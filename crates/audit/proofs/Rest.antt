@@ -66,7 +66,8 @@ and-swap false false = refl
 
 -- Where the counts reach every issue below j, each of them must be fine.
 walk-all : {b : Record} → Readable b → (i j : ℕ) (r : Clock) → j ≤ issues_in b
-    → ((u : ℕ) → u < writers_in b → issues_before b j u ≤ r u) → walk b i j r ≡ all_below j (fine b i)
+    → ((u : ℕ) → u < writers_in b → issues_before b j u ≤ r u) → walk b i j r ≡ all_below j (fine
+    b i)
 unfolding walk hit rank join all_below issues_before
 walk-all {b} R i zero r o f = refl
 walk-all {b} R i (suc j) r o f =

@@ -29,7 +29,8 @@ unfolding readable
 readable-parts b =
     let n = issues_in b in
     ap (λ (x : Bool). layout_ok b && x)
-    (sym (and_assoc (all_below n (issue_ok b)) (eqb (reads_before b n) (reads_in_of b)) (reads_ok b n)))
+    (sym (and_assoc (all_below n (issue_ok b)) (eqb (reads_before b n) (reads_in_of b)) (reads_ok
+    b n)))
 
 pub readable-unlaid : (b : Record) → layout_ok b ≡ false → false ≡ readable b
 readable-unlaid b e = rw (readable-parts b, e)

@@ -101,7 +101,8 @@ module _ (b : Record) (i j : ℕ) where
     unfolding hit
     visit-past h =
         step_past (clock_at l 0)
-        (gt-leb (rank b j) (clock_at l 0 (writer_at b j)) (omega (arith, clock_0 l (writer_at b j))))
+        (gt-leb (rank b j) (clock_at l 0 (writer_at b j)) (omega
+        (arith, clock_0 l (writer_at b j))))
 
     hit_in : rank b j ≤ get_or l (writer_at b j) 0 → So (hit b j (clock_at l 0))
     unfolding hit
@@ -119,7 +120,8 @@ module _ (b : Record) (i j : ℕ) where
     unfolding join
     visit-on R w e k h f m S =
         step-on (clock_at l 0) (hit_in h) f
-        ∙ walk_same R i j (join (clock_at l 0) (read_reach b j)) (clock_at m 0) (omega arith) (λ u o.
+        ∙ walk_same R i j (join (clock_at l 0) (read_reach b j)) (clock_at m 0) (omega arith) (λ u
+        o.
         omega (arith, S.counts u (omega arith), clock_0 l u, clock_0 m u))
 
 -- ---- over all issues before i

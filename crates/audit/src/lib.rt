@@ -1,4 +1,6 @@
 // Audit (CR 14): whether a record of issues is readable, and which issue's reads are no snapshot.
+#![tactic(auto)]
+
 mod header;
 mod issues;
 mod least;
@@ -21,7 +23,7 @@ use walk::first_unsound;
 
 // A record is unreadable; or judged, by the number from 1 of the first issue whose reads are no
 // snapshot, 0 for none.
-#[derive(Drop)]
+#[derive(Clone, Copy)]
 pub enum Audited {
     Unreadable,
     Judged(u32),

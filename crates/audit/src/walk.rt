@@ -105,7 +105,8 @@ fn visit(
     ranks: &mut [u32],
     reach: &mut [u32],
 ) -> bool
-    requires readable_of { ReadableOf words.now w n × (i < n) × (j < i) × KeysAmong words.now i keys }
+    requires readable_of { ReadableOf words.now w n × (i < n) × (j < i) × KeysAmong words.now i
+        keys }
     requires ranked { Ranked words.now w (j + 1) ranks.old × (length reach.old ≡ 16) }
     ensures reach_value { let b = words.now in
         walk b i (j + 1) (clock_at reach.old 0)

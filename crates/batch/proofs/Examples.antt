@@ -48,6 +48,8 @@ pub room-told :
     × (taken_at_of 1000 ≡ 3)
     × ((text_done [] [] 390 (bytes_of "\nx\ny")).answers ≡ bytes_of "unread\n")
     × ((text_done [] [] 391 (bytes_of "\nx\ny")).answers ≡ bytes_of "unread\nunread\n")
-unfolding whole_lines in_front_of lines_done line_done call_text call_leaves unread_text line_call fields_call
-    fields_of in_first_of asked form_of same_bytes takes calling numbers_of forecast_of lent_forecast
+unfolding whole_lines in_front_of lines_done line_done call_text call_leaves unread_text line_call
+    fields_call
+    fields_of in_first_of asked form_of same_bytes takes calling numbers_of forecast_of
+    lent_forecast
 room-told = (refl, refl, refl, refl, refl, refl, refl)

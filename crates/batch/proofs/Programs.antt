@@ -13,7 +13,7 @@ use Rattle.text.specs.Fields.{fields_of, numbers_of}
 use Rattle.layout.specs.Calls.{Call, after}
 use Rattle.command.specs.Commands.{scratch_room}
 use Rattle.lines.specs.Grammar.{max_line, Form, forms, form_of, takes, calling, asked, fields_call, line_call}
-use Rattle.script.specs.Script.{call_text, call_leaves, before, lines_of, outputs, buffer_after, with_call_of, calls_in}
+use Rattle.script.specs.Script.{call_text, call_leaves, before, lines_of, outputs, with_call_of, calls_in}
 use Rattle.script.proofs.Lines.{after_call, after-lines}
 use Rattle.batch.specs.Lines.{in_front_of, whole_lines}
 use Rattle.batch.specs.Lent.{query_forecast, store_forecast, forecast_of, lent_forecast, lent_call}
@@ -176,7 +176,8 @@ as_lines t = let k = both t in k.whole ∙ sym k.lines
 
 -- ---- lines behind lines
 
-with_append : (c : Option Call) (cs ds : List Call) → with_call_of c (cs ++ ds) ≡ with_call_of c cs ++ ds
+with_append : (c : Option Call) (cs ds : List Call) → with_call_of c (cs ++ ds) ≡ with_call_of c
+    cs ++ ds
 unfolding with_call_of
 with_append none cs ds = refl
 with_append (some c) cs ds = refl

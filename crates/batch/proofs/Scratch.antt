@@ -2,10 +2,8 @@
 -- not-forecast: any command but forecast has none. lent_none, scratch-none, lent-some,
 -- scratch-some: the call that is made, and what it leaves of the scratch.
 -- Assumes nothing.
-use denote.Enum.Declared.{tag_of}
-use types.Run.{OneOf, miss}
 use mathlib.Core.Path.{◌≡◌, refl}
-use mathlib.Core.List.{List, [], ◌∷◌}
+use mathlib.Core.List.{List}
 use mathlib.Core.Option.{Option, none, some}
 use Prim.Native.Nat.{ℕ, ◌≤◌}
 use lib.ListN.{length}
@@ -17,18 +15,12 @@ use Rattle.calls.specs.Performs.{scratch_after}
 use Rattle.command.specs.declared.Command.{Command}
 use Rattle.command.specs.declared.Command.TheVariants.{Unread, New, Open, Fetch, Evict, Prepare, Step, Issue, Drop, Look, Explain, Stale, Admit, Allow, Pick, Mayhold, Maysave, Fork, Join, Forecast, Audit}
 use Rattle.command.specs.Commands.{spelled}
-use Rattle.command.specs.contracts.Command.{the_type}
 use Rattle.batch.specs.Lent.{query_forecast, store_forecast, forecast_of, lent_forecast, lent_call, scratch_leaves}
 
--- The variants but forecast, by their place.
-abbrev pub others : List ℕ
-others =
-    0 ∷ 1 ∷ 2 ∷ 3 ∷ 4 ∷ 5 ∷ 6 ∷ 7 ∷ 8 ∷ 9 ∷ 10 ∷ 11 ∷ 12 ∷ 13 ∷ 14 ∷ 15 ∷ 16 ∷ 17 ∷ 18 ∷ 20 ∷ []
-
-pub not-forecast : (k : Command) → OneOf others (tag_of the_type k) → (ws : List ℕ)
+pub not-forecast : (k : Command) → ((r : ℕ) → k ≡ Forecast r → ⊥) → (ws : List ℕ)
     → forecast_of (spelled k ws) ≡ none
 unfolding forecast_of store_forecast query_forecast
-not-forecast (Forecast r) p ws = absurd (miss others 19 tt p)
+not-forecast (Forecast r) p ws = absurd (p r refl)
 not-forecast Unread p ws = refl
 not-forecast (New a b d e) p ws = refl
 not-forecast (Open r i n) p ws = refl

@@ -19,7 +19,7 @@ use Rattle.batch.specs.Lines.{whole_lines}
 use Rattle.batch.specs.Lent.{forecast_of, lent_call, scratch_leaves}
 use Rattle.batch.specs.Batch.{Batch, started, line_done, lines_done, text_done}
 use Rattle.batch.specs.Parts.{end_of}
-use Rattle.batch.specs.Claims.{calls_of, answers_to, scratch_to, HadRoom, Takes, TakesFront}
+use Rattle.batch.specs.Claims.{calls_of, answers_to, scratch_to, HadRoom, TakesFront}
 use Rattle.batch.proofs.Whole.{whole-none, whole-some, whole_append}
 use Rattle.batch.proofs.Lengths.{scratch-long}
 use Rattle.batch.proofs.Texts.{run-full, run_none, run-line}

@@ -25,7 +25,7 @@ use Rattle.script.specs.Tie.{Begun}
 use Rattle.script.proofs.Ties.{begun}
 use Rattle.batch.specs.Lines.{whole_lines}
 use Rattle.batch.specs.Batch.{text_done, DoesText}
-use Rattle.batch.specs.Claims.{calls_of, answers_to, scratch_to, HadRoom, Takes, TakesFront, AsProgram, AsLines}
+use Rattle.batch.specs.Claims.{calls_of, answers_to, scratch_to, HadRoom, TakesFront, AsProgram, AsLines}
 use Rattle.batch.specs.Lent.{forecast_of, lent_call}
 use Rattle.batch.proofs.Scratch.{scratch-none}
 use Rattle.batch.proofs.Programs.{calls-append, answers-append}

@@ -1,6 +1,6 @@
 -- A text of calls on a lent buffer: what its whole lines leave, answer and take.
--- Batch, point: what there is at a point of it. line_done: one line. lines_done: as many as there is
--- room for. text_done: a text. LeavesText, DoesText: what lent slices become.
+-- Batch, point: what there is at a point of it. line_done: one line. lines_done: as many as
+-- there is room for. text_done: a text. LeavesText, DoesText: what lent slices become.
 -- Assumes nothing.
 use Rattle.std.specs.Prelude.{◌≡◌, cond, List, [], ◌∷◌, ◌++◌, ℕ, ◌+◌, ◌≤◌, ◌<◌, leb, length}
 use Rattle.std.proofs.Math.Option.{Option}
@@ -41,7 +41,8 @@ line_done p s = record {
 }
 
 -- "As many whole lines as `out` has room for": a line is taken if behind the answers so far there
--- are line_room bytes, which no answer exceeds. A call is made before its answer's length is known.
+-- are line_room bytes, which no answer exceeds. A call is made before its answer's length is
+-- known.
 unfoldable pub lines_done : ℕ → Batch → List (List ℕ) → Batch
 lines_done room p [] = p
 lines_done room p (s ∷ ss) =

@@ -1,5 +1,6 @@
 -- What a text of calls promises, in terms of calls that are made one by one.
--- calls_of, answers_to, scratch_to: the calls of lines, their answers and the scratch. HadRoom: there
+-- calls_of, answers_to, scratch_to: the calls of lines, their answers and the scratch. HadRoom:
+-- there
 -- was room for each. Takes, TakesFront: which lines are taken, and what they come to. AsProgram,
 -- AsLines: as the program's lines.
 -- Assumes nothing.

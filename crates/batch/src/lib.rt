@@ -1,5 +1,7 @@
 // A text of calls: the call of each whole line is made on a lent buffer, and its answer put into a
 // lent slice of bytes. Whether the buffer is in form is tested once.
+#![tactic(auto)]
+
 mod line;
 
 ghost use Rattle.std.specs.Prelude.{◌≡◌, [], ◌≤◌, length, take, drop};
@@ -12,7 +14,7 @@ use print::Line;
 use script::Buffers;
 
 // How many bytes of a text were taken, and how many of answers were put.
-#[derive(Drop)]
+#[derive(Clone, Copy)]
 struct Taken {
     text: usize,
     answers: usize,

@@ -16,7 +16,7 @@ use script::ends::print_words;
 use words::wide;
 
 // After a line. ready: the buffer is in form. end: bytes of answers.
-#[derive(Drop)]
+#[derive(Clone, Copy)]
 pub struct Done {
     pub ready: bool,
     pub end: usize,

@@ -52,7 +52,8 @@ open_state_lem (suc (suc (suc n))) h p = absurd (omega arith)
 -- What it leaves.
 abbrev prepared_store : Store → ℕ → Store
 prepared_store s r =
-    with_run (with_caches s (prepare_caches s r)) r (with_snapshot (s.run r) (prepare_snapshot s r))
+    with_run (with_caches s (prepare_caches s r)) r (with_snapshot (s.run r)
+    (prepare_snapshot s r))
 
 prepare-leaves : (s : Store) (r : ℕ) → Fine s → prepare_cause s r ≡ 0
     → CarriedIn r (prepared_store s r)

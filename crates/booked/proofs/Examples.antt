@@ -171,30 +171,48 @@ pub record Computed : Type 0 where
       ≡ (0 ∷ 1 ∷ []) ∷ (0 ∷ 1 ∷ []) ∷ []
 
 pub computed : Computed
-unfolding any_below all_below only fold_below put_at upto blocks test_bit with_bit with_if mask_below
+unfolding any_below all_below only fold_below put_at upto blocks test_bit with_bit with_if
+    mask_below
     closure rounds round exceeds standing dominates present join between ranged past_size
-    version_size place_size site_size writer_size run_size master_at sites_at writers_at runs_at tail_size
+    version_size place_size site_size writer_size run_size master_at sites_at writers_at runs_at
+    tail_size
     tail_at total_of lacking held dependency supersedes leads_on merged_leaders larger merge draws
-    draw_set fetch_set fetched unfetchable evict_set evicted pull_set pulled fresh planned done_reads
-    with_master with_last with_sites with_cache with_caches with_writer with_run with_state with_snapshot
-    with_job_done zero_rows zero_version leaders_formed version_formed place_formed valid_job zero_job
-    free_formed jobs_formed rights_formed tail_formed masks_words read_masks zero_branch masks_formed
+    draw_set fetch_set fetched unfetchable evict_set evicted pull_set pulled fresh planned
+    done_reads
+    with_master with_last with_sites with_cache with_caches with_writer with_run with_state
+    with_snapshot
+    with_job_done zero_rows zero_version leaders_formed version_formed place_formed valid_job
+    zero_job
+    free_formed jobs_formed rights_formed tail_formed masks_words read_masks zero_branch
+    masks_formed
     mark_formed snapshot_formed branches_formed run_formed site_formed well_formed when count_below
     held_count over is_stale stale_mask site_with with_marks answer refuse unless allowed run_cause
-    barred unentitled step_barred fetch_cause fetch_done fetch_rule evict_cause evict_done evict_rule
-    listed_job listed_count listed_jobs list_valid open_cause opened_run open_done open_rule job_start
-    fetch_reads prepared_caches unpreparable uses_site sites_merged site_caches any_over prepare_cause
-    prepare_caches prepare_snapshot prepare_done prepare_rule read_start step_site step_reads step_start
-    step_fetch step_cache step_plan step_pull step_snapshot step_moved job_limit off_branch not_ready
-    job_cause step_cause step_broken step_done step_rule_of raise_cause issue_cause taken_in rows_set
-    new_past new_version issued_master issued_writer saved_store issued_store issued_number issue_done
+    barred unentitled step_barred fetch_cause fetch_done fetch_rule evict_cause evict_done
+    evict_rule
+    listed_job listed_count listed_jobs list_valid open_cause opened_run open_done open_rule
+    job_start
+    fetch_reads prepared_caches unpreparable uses_site sites_merged site_caches any_over
+    prepare_cause
+    prepare_caches prepare_snapshot prepare_done prepare_rule read_start step_site step_reads
+    step_start
+    step_fetch step_cache step_plan step_pull step_snapshot step_moved job_limit off_branch
+    not_ready
+    job_cause step_cause step_broken step_done step_rule_of raise_cause issue_cause taken_in
+    rows_set
+    new_past new_version issued_master issued_writer saved_store issued_store issued_number
+    issue_done
     issue_rule look_place look_limit look_cause row_numbers look_standing look_numbers look_reply
-    replied reply_of rule_of clock_words past_words version_words place_words site_words sites_words
+    replied reply_of rule_of clock_words past_words version_words place_words site_words
+    sites_words
     writer_words writers_words job_words jobs_words run_words runs_words tail_words header_words
-    store_words read_clock read_past_of read_version read_place read_site read_writer read_job read_jobs
-    read_run read_tail_of counts_in store_of written header_right shaped in_form new_cause new_on on_store
-    call_on leaves outcomes after with_tail_of allow_cause allow_done allow_rule taken_away right_cause
-    mayhold_cache mayhold_done mayhold_rule join_cause join_rule_of is_ok_of start advance follow unsettles
+    store_words read_clock read_past_of read_version read_place read_site read_writer read_job
+    read_jobs
+    read_run read_tail_of counts_in store_of written header_right shaped in_form new_cause new_on
+    on_store
+    call_on leaves outcomes after with_tail_of allow_cause allow_done allow_rule taken_away
+    right_cause
+    mayhold_cache mayhold_done mayhold_rule join_cause join_rule_of is_ok_of start advance follow
+    unsettles
     disturbs untouched read_off_of steps_of noted read_by left_out_of without
 computed = record {
   twin-begun = refl;

@@ -117,7 +117,8 @@ reads_so p (c ∷ cs) l R u =
     let m = leaves (call_on c l) l in
     let rest : read_by p cs m ≡ reads (store_of l).counts p cs
     (may_hold_by (store_of l).counts c (store_of l).tail.may_hold)
-    (run_after (store_of l).counts p (store_of l).tail.may_hold (steps_of p c) ((store_of l).run p)) =
+    (run_after (store_of l).counts p (store_of l).tail.may_hold (steps_of p c) ((store_of l).run
+    p)) =
     reads_so p cs m (call-carried p l R c e) (quiet-rest p c cs l u)
     ∙ rw (call-counts p l R c e, call-mayhold p l R c e, call-run p l R c e) refl in
     ap₂ (λ (x y : List Read). x ++ y) (call-notes p l R (steps-view c) e) rest
@@ -140,7 +141,8 @@ reads-without : (z : Counts) (p q : ℕ) → p ≢ q → (cs : List Call) (right
 unfolding reads without left_out_of notes run_after
 reads-without z p q n [] right a = refl
 reads-without z p q n (c ∷ cs) right a =
-    let to : Option (ℕ × ℕ) → List Read = λ x. reads z p (left_out_of x c (without q cs)) right a in
+    let to : Option (ℕ × ℕ) → List Read = λ x. reads z p (left_out_of x c (without q cs)) right a
+    in
     elim (stays-or-goes z p q n (steps-view c)) [
       | inl e ↦ ap to e ∙ ap (λ (x : List Read). notes z p right (steps_of p c) a ++ x)
           (reads-without z p q n cs (may_hold_by z c right)

@@ -1,5 +1,6 @@
 -- What offices may hold after a call: mayhold sets it, and no other call does.
--- may_hold_after: by the counts and the call alone. rule_mayhold: so it is, a clause for each call.
+-- may_hold_after: by the counts and the call alone. rule_mayhold: so it is, a clause for each
+-- call.
 -- Assumes nothing.
 use mathlib.Core.Path.{◌≡◌, refl}
 use mathlib.Core.Bool.{cond}
@@ -47,10 +48,14 @@ Leaves s x = (next_store x s).tail.may_hold ≡ s.tail.may_hold
 
 pub rule_mayhold : (c : StoreCall) (s : Store)
     → (next_store (rule_of c s) s).tail.may_hold ≡ may_hold_after s.counts c s.tail.may_hold
-unfolding rule_of open_rule open_done fetch_rule fetch_done evict_rule evict_done prepare_rule prepare_done
-    step_rule_of step_broken step_done issue_rule issue_done issued_store saved_store drop_rule drop_done
-    allow_rule allow_done pick_rule pick_done mayhold_rule mayhold_done maysave_rule right_cause unless
-    fork_rule_of fork_done join_rule_of join_broken join_done with_master with_last with_sites with_cache
+unfolding rule_of open_rule open_done fetch_rule fetch_done evict_rule evict_done prepare_rule
+    prepare_done
+    step_rule_of step_broken step_done issue_rule issue_done issued_store saved_store drop_rule
+    drop_done
+    allow_rule allow_done pick_rule pick_done mayhold_rule mayhold_done maysave_rule right_cause
+    unless
+    fork_rule_of fork_done join_rule_of join_broken join_done with_master with_last with_sites
+    with_cache
     with_caches with_marks with_writer with_run with_tail_of may_hold_after
 rule_mayhold (open_run r l) s =
     unless-cases (Leaves s) (open_cause s r l) (open_done s r l) (λ _. refl) (λ _. refl)

@@ -1,17 +1,16 @@
 -- What becomes of a prepared run: the jobs that its own accepted steps did, and nothing else.
 -- Assumes nothing.
 use mathlib.Core.Path.{◌≡◌, refl, sym, ap, ◌∙◌}
-use mathlib.Core.Bool.{Bool, cond, false, ◌&&◌, So}
+use mathlib.Core.Bool.{Bool, cond, So}
 use mathlib.Core.List.{List, [], ◌∷◌}
 use Prim.Native.Nat.{ℕ}
 use lib.Dec.{eqb}
 use Rattle.words.proofs.Bools.{test, eqb-eq}
-use Rattle.model.specs.Store.{Run, Store}
+use Rattle.model.specs.Store.{Store}
 use Rattle.model.specs.Outcome.{done, unless}
-use Rattle.model.specs.Calls.{step}
 use Rattle.layout.specs.Reading.{store_of}
-use Rattle.layout.specs.Calls.{Call, on, call_on, leaves, is_ok_of, after}
-use Rattle.booked.specs.Prepared.{disturbs, untouched, booked_cause, ran_on_of, steps_of, ran_by, ran_through, StaysPrepared}
+use Rattle.layout.specs.Calls.{Call, call_on, leaves, is_ok_of, after}
+use Rattle.booked.specs.Prepared.{untouched, booked_cause, ran_on_of, steps_of, ran_by, ran_through, StaysPrepared}
 use Rattle.booked.proofs.Carried.{cause_by, run_after}
 use Rattle.booked.proofs.Through.{CarriedAt, call-run, call-carried, carried-calls, quiet-rest, quiet-first, prepared-carried}
 use Rattle.booked.proofs.Independent.{Steps, is_step, no_step_lem, steps-view}

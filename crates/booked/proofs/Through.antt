@@ -15,7 +15,7 @@ use Rattle.words.proofs.Bools.{test, and_intro, and_left, and_right, not_elim}
 use Rattle.sizes.specs.Bounds.{counts_of, total_of}
 use Rattle.sizes.specs.declared.Counts.{Counts}
 use Rattle.model.specs.Store.{Store, fresh}
-use Rattle.model.specs.Outcome.{Outcome, done, answer, refuse, unless, allowed, step_row, open_state}
+use Rattle.model.specs.Outcome.{done, answer, refuse, unless, allowed, step_row, open_state}
 use Rattle.model.specs.Prepare.{prepare_rule}
 use Rattle.model.specs.Step.{job_cause}
 use Rattle.model.specs.Calls.{StoreCall, prepare, step, rule_of}
@@ -134,7 +134,8 @@ list-carried r (c ∷ cs) l R u =
     list-carried r cs (leaves (call_on c l) l) (call-carried r l R c (quiet-first r c cs l u))
     (quiet-rest r c cs l u)
 
-pub prepared-carried : (l : List ℕ) (r : ℕ) → So (in_form l) → So (is_ok_of (call_on (on (prepare r)) l))
+pub prepared-carried : (l : List ℕ) (r : ℕ) → So (in_form l) → So (is_ok_of
+    (call_on (on (prepare r)) l))
     → CarriedAt r (prepared r l)
 unfolding rule_of
 prepared-carried l r f p =

@@ -1,1 +1,2 @@
 // A prepared run goes through (change request 11): its statement in specs/, laws alone.
+#![tactic(auto)]

@@ -62,5 +62,6 @@ module _ (l : List ℕ) (z : Counts) (H : FormWith l z) (o k at : ℕ) (a : at �
       let found = gone-found l z H o at start (only k) h a same E p in
       let stored = gone-stored l z H o at start (only k) h a same master m b q in
       ends (evict o k) l (evict_done (store_of l) o k) (0 ∷ E ∷ []) m
-      (keyed-free (evict o k) l H.form _ _ 7 _ (evict_rule_lem l z H o k) in_range_lem (rw (← a) has))
+      (keyed-free (evict o k) l H.form _ _ 7 _ (evict_rule_lem l z H o k) in_range_lem (rw (← a)
+      has))
       (ap (λ (E : ℕ). 0 ∷ E ∷ []) found) stored

@@ -1,4 +1,6 @@
 // Fetch and evict: a site's cache takes keys from the master, or leaves them.
+#![tactic(auto)]
+
 ghost use Rattle.std.specs.Prelude.{◌≡◌};
 ghost use Rattle.std.proofs.Math.Bool.{So};
 ghost use Rattle.model.specs.Outcome.{answer};

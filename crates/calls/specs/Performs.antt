@@ -1,5 +1,6 @@
 -- A call that is made: the words of its answer, the buffer after it, and whether that is in form.
--- Does, Exported: one call. scratch_after: what a forecast leaves of its scratch. Audits: an audit.
+-- Does, Exported: one call. scratch_after: what a forecast leaves of its scratch. Audits: an
+-- audit.
 -- TurnedDown: one that isn't made. asks_new, TellsNew: whether it is new. Made, Performs: what a
 -- command asks for, which may be no call.
 -- Assumes nothing.

@@ -1,5 +1,7 @@
 // The one way to make a call, on any buffer: its answer's words are laid over a lent slice. The
 // exports test whether the buffer is in form (`ready`), the program knows it from the call before.
+#![tactic(auto)]
+
 pub mod audits;
 pub mod first;
 pub mod forecasts;
@@ -20,7 +22,7 @@ use later::{admit, allow, explain, fork, join, mayhold, maysave, pick, stale};
 use words::wide;
 
 // Whether the buffer is in form after a call, and how many words its answer has.
-#[derive(Drop)]
+#[derive(Clone, Copy)]
 pub struct Performed {
     pub ready: bool,
     pub count: usize,

@@ -3,12 +3,11 @@
 -- Assumes nothing.
 use mathlib.Core.Path.{◌≡◌, refl}
 use mathlib.Core.Bool.{So, false}
-use mathlib.Core.List.{List}
 use Prim.Native.Nat.{ℕ}
 use lib.Dec.{ltb}
 use Rattle.words.proofs.Bools.{test, clash}
 use Rattle.model.specs.Store.{Store}
-use Rattle.model.specs.Outcome.{Outcome, unless, replied}
+use Rattle.model.specs.Outcome.{Outcome, unless}
 use Rattle.model.specs.Caches.{fetch_cause, fetch_done, fetch_rule, evict_cause, evict_done, evict_rule}
 use Rattle.model.specs.Runs.{open_cause, open_done, open_rule, drop_cause, drop_done, drop_rule}
 use Rattle.model.specs.Prepare.{prepare_cause, prepare_done, prepare_rule}
@@ -21,7 +20,6 @@ use Rattle.model.specs.Calls.{StoreCall, open_run, fetch, evict, prepare, step, 
 use Rattle.model.proofs.Outcomes.{unless-cases, replied-cases}
 use Rattle.layout.specs.Reading.{store_of}
 use Rattle.layout.specs.Buffer.{in_form}
-use Rattle.layout.specs.Calls.{on, call_on}
 use Rattle.layout.proofs.Forms.{no-form, form_rule}
 use Rattle.consistency.specs.Roles.{role_of}
 use Rattle.consistency.specs.Claim.{is_broken}
@@ -35,9 +33,12 @@ whole : (n : ℕ) (x : Outcome) → Whole x → Whole (unless n x)
 unfolding is_broken
 whole n x e = unless-cases Whole n x (λ _. e) (λ _. refl)
 
-rule_breaks : (c : StoreCall) (s : Store) → So (is_broken (rule_of c s)) → So (may_break (role_of c))
-unfolding rule_of open_rule open_done fetch_rule fetch_done evict_rule evict_done prepare_rule prepare_done
-    issue_rule issue_done drop_rule drop_done allow_rule allow_done pick_rule pick_done mayhold_rule
+rule_breaks : (c : StoreCall) (s : Store) → So (is_broken (rule_of c s)) → So (may_break
+    (role_of c))
+unfolding rule_of open_rule open_done fetch_rule fetch_done evict_rule evict_done prepare_rule
+    prepare_done
+    issue_rule issue_done drop_rule drop_done allow_rule allow_done pick_rule pick_done
+    mayhold_rule
     mayhold_done maysave_rule fork_rule_of fork_done is_broken may_break role_of
 rule_breaks (open_run r l) s p = clash p (whole (open_cause s r l) (open_done s r l) refl)
 rule_breaks (fetch o k) s p = clash p (whole (fetch_cause s o k) (fetch_done s o k) refl)

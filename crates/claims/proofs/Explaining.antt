@@ -3,7 +3,7 @@
 -- path-broken: a path exactly if the step breaks its run. clear-ok: clear exactly if it is ok.
 -- At a point of a list: path-none, clear-exactly, clear-works.
 -- Assumes nothing.
-use mathlib.Core.Path.{◌≡◌, refl, sym, ap}
+use mathlib.Core.Path.{◌≡◌, refl, ap}
 use mathlib.Core.Bool.{Bool, true, false, So, cond}
 use mathlib.Core.List.{List, [], ◌∷◌}
 use mathlib.Core.Logic.{◌↔◌}
@@ -37,7 +37,8 @@ step_is P turned breaks works s r j n =
     cases (eqb (step_cause s r j n) 0) (any_below s.counts.keys (step_moved s r j n))
   where
     cases : (p q : Bool)
-        → P (cond p (cond q (step_broken s r j n) (step_done s r j n)) (refused (step_cause s r j n)))
+        → P (cond p (cond q (step_broken s r j n) (step_done s r j n)) (refused
+        (step_cause s r j n)))
     cases false q = turned _
     cases true true = breaks _ _
     cases true false = works _ _

@@ -3,12 +3,12 @@
 -- Assumes nothing.
 use mathlib.Core.Path.{◌≡◌, refl, sym, ap, subst, ◌∙◌}
 use mathlib.Core.Bool.{Bool, true, false, So, cond, true≢false}
-use mathlib.Core.Logic.{◌≢◌, ◌↔◌}
+use mathlib.Core.Logic.{◌≢◌}
 use mathlib.Core.List.{List, [], ◌∷◌, ◌++◌}
 use Prim.Native.Nat.{ℕ}
 use native.Mathlib.Omega.{arith}
 use lib.ListN.{length, get_or}
-use Rattle.words.proofs.Bools.{test, clash}
+use Rattle.words.proofs.Bools.{test}
 use Rattle.model.specs.Outcome.{Outcome, refused, broken, done, told, answer}
 use Rattle.model.specs.Step.{step_broken, step_done}
 use Rattle.model.specs.Calls.Forecast.{Ended, through, breaks_at, turned_at, ended_word, ended_numbers}
@@ -18,7 +18,7 @@ use Rattle.layout.specs.Reading.{store_of}
 use Rattle.layout.specs.Buffer.{in_form}
 use Rattle.layout.specs.Calls.{on, call_on, is_ok_of, leaves, after, outcomes}
 use Rattle.layout.proofs.Forms.{no-form, form_rule}
-use Rattle.claims.specs.Forecasts.{step_calls, stopped_by, end_of, jobs_of, step_outcomes, AllOk, StopsAt, Taken, ForecastTellsFirst}
+use Rattle.claims.specs.Forecasts.{step_calls, stopped_by, end_of, jobs_of, AllOk, StopsAt, ForecastTellsFirst}
 use Rattle.claims.proofs.Foretelling.{foretells}
 
 -- ---- no step is told
@@ -96,7 +96,8 @@ module _ (r : ℕ) where
   next j js l y =
       ap (λ (b : Bool). cond b (end js (leaves (one j l) l)) (stopped_by j (one j l))) y
 
-  stop : (j : ℕ) (js l : List ℕ) → is_ok_of (one j l) ≡ false → end (j ∷ js) l ≡ stopped_by j (one j l)
+  stop : (j : ℕ) (js l : List ℕ) → is_ok_of (one j l) ≡ false → end (j ∷ js) l ≡ stopped_by j (one
+      j l)
   unfolding end_of outcomes
   stop j js l y =
       ap (λ (b : Bool). cond b (end js (leaves (one j l) l)) (stopped_by j (one j l))) y
@@ -189,7 +190,8 @@ tells_first l m r T =
     let js = jobs_of l r in
     let a = (foretells l m r T).answers in
     let by : (e : Ended) → end r js l ≡ e
-    → answer (call_on (on (ask (forecast (length m) r))) l) ≡ words_of e = λ e q. a ∙ ap words_of q in
+    → answer (call_on (on (ask (forecast (length m) r))) l) ≡ words_of e = λ e q. a ∙ ap words_of
+    q in
     let of : (e : Ended) → answer (call_on (on (ask (forecast (length m) r))) l) ≡ words_of e
     → end r js l ≡ e = λ e q. words_same (end r js l) e (sym a ∙ q) in
     record {

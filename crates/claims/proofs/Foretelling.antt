@@ -2,21 +2,21 @@
 -- foretells, forecast-turned-by: statements of Forecasts.
 -- Assumes nothing.
 use mathlib.Core.Path.{◌≡◌, refl, sym, ap, subst, ◌∙◌}
-use mathlib.Core.Bool.{Bool, true, false, So, cond, true≢false}
+use mathlib.Core.Bool.{So, cond}
 use mathlib.Core.List.{List, [], ◌∷◌, ◌++◌}
 use Prim.Native.Nat.{ℕ, ◌<◌}
 use native.Mathlib.Omega.{arith}
 use lib.ListN.{length, get_or, take, drop}
-use Rattle.words.proofs.Bools.{test, clash, leb-gt}
+use Rattle.words.proofs.Bools.{leb-gt}
 use Rattle.sizes.specs.Bounds.{total_of}
 use Rattle.model.specs.Store.{Store}
-use Rattle.model.specs.Outcome.{Outcome, refused, broken, done, told, answer, allowed, run_cause, forecast_row}
+use Rattle.model.specs.Outcome.{Outcome, refused, broken, done, answer, allowed, run_cause, forecast_row}
 use Rattle.model.specs.Step.{step_rule_of, step_broken, step_done}
-use Rattle.model.specs.Calls.Forecast.{through_word, turned_word, undone, Ended, through, breaks_at, turned_at, walk_on, walk, ended_word, ended_numbers, forecast_cause, forecast_walk, forecast_reply}
+use Rattle.model.specs.Calls.Forecast.{turned_word, Ended, through, breaks_at, turned_at, walk_on, walk, ended_word, ended_numbers, forecast_cause, forecast_walk, forecast_reply}
 use Rattle.model.specs.Calls.{step, ask, forecast, reply_of, rule_of}
 use Rattle.model.proofs.Outcomes.{no-cause, no-lack}
 use Rattle.model.proofs.Forecasts.{step-cases}
-use Rattle.model.proofs.Turned.{TurnedBy, forecast-turned}
+use Rattle.model.proofs.Turned.{forecast-turned}
 use Rattle.layout.specs.Reading.{store_of}
 use Rattle.layout.specs.Buffer.{written, in_form}
 use Rattle.layout.specs.Forecast.{foreseen}
@@ -25,9 +25,9 @@ use Rattle.layout.proofs.Whole.{store-back}
 use Rattle.layout.proofs.Follow.{fine-form, form-fine}
 use Rattle.layout.proofs.Kept.{Kept}
 use Rattle.layout.proofs.Rules.Step.{step_kept}
-use Rattle.layout.proofs.Forms.{form_rule, form-kept, ask-told}
+use Rattle.layout.proofs.Forms.{form_rule, ask-told}
 use Rattle.layout.proofs.Foreseeing.{foreseen-done}
-use Rattle.claims.specs.Forecasts.{step_calls, stopped_by, end_of, stepped_to, jobs_of, step_outcomes, Foretells, Taken, ForecastForetells, ForecastTurned}
+use Rattle.claims.specs.Forecasts.{step_calls, stopped_by, end_of, stepped_to, jobs_of, step_outcomes, Taken, ForecastForetells, ForecastTurned}
 use Rattle.claims.proofs.Stepping.{stepped-form, stepped-counts, written_of}
 
 -- ---- the walk, and the steps as calls

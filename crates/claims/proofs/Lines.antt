@@ -81,10 +81,14 @@ elsewhere-marks c s r F o e =
     ∙ either_way (is_ok_of (rule_of c s)) (s.run r).mark)
 
 rule_marks : (c : StoreCall) (s : Store) (r : ℕ) → Fine s → Marks c s r (rule_of c s)
-unfolding rule_of open_rule open_done opened_run prepare_rule prepare_done step_rule_of step_broken step_done
-    issue_rule issue_done issued_store saved_store drop_rule drop_done fork_rule_of fork_done forked_run
-    join_rule_of join_broken join_done joined_run with_master with_last with_sites with_cache with_caches
-    with_marks with_writer with_run with_state with_snapshot with_job_done role_of is_on mark_by is_ok_of
+unfolding rule_of open_rule open_done opened_run prepare_rule prepare_done step_rule_of
+    step_broken step_done
+    issue_rule issue_done issued_store saved_store drop_rule drop_done fork_rule_of fork_done
+    forked_run
+    join_rule_of join_broken join_done joined_run with_master with_last with_sites with_cache
+    with_caches
+    with_marks with_writer with_run with_state with_snapshot with_job_done role_of is_on mark_by
+    is_ok_of
 rule_marks (open_run x l) s r F =
     unless-cases (Marks (open_run x l) s r) (open_cause s x l) (open_done s x l)
     (λ _. put-mark s.run x (opened_run l) r) (λ _. refl)
@@ -124,6 +128,7 @@ pub marked-by-calls : MarkedByCalls
 marked-by-calls l c r F =
     let s = store_of l in
     let m = (s.run r).mark in
-    let ok : is_ok_of (rule_of c s) ≡ is_ok_of (call_on (on c) l) = ap is_ok_of (sym (form_rule c l F)) in
+    let ok : is_ok_of (rule_of c s) ≡ is_ok_of (call_on (on c) l) = ap is_ok_of (sym
+    (form_rule c l F)) in
     ap (λ (t : Store). (t.run r).mark) (left-store c l F) ∙ rule_marks c s r (form-fine l F)
     ∙ ap (λ (b : Bool). cond b (mark_by (role_of c) r m) m) ok

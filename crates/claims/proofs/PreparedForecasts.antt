@@ -5,7 +5,6 @@ use mathlib.Core.Path.{◌≡◌, refl, ap, ◌∙◌}
 use mathlib.Core.Logic.{◌≢◌, ◌⊎◌, inl, inr}
 use mathlib.Core.List.{List, [], ◌∷◌}
 use Prim.Native.Nat.{ℕ, ◌≤◌}
-use native.Mathlib.Omega.{arith}
 use lib.ListN.{length}
 use Rattle.words.proofs.Bools.{test, ne_eqb, ge-ltb, gt-leb}
 use Rattle.sizes.specs.Bounds.{total_of}
@@ -41,7 +40,8 @@ open_by r j l (broken m t) e R = absurd ((carried_unstopped r l R j 0).0 m (ap a
 open_by r j l (done a t) e R = inl refl
 open_by r j l (told w a) e R = inl refl
 
-open_all : (r : ℕ) (js l : List ℕ) → CarriedAt r l → Open (end_of js (outcomes (step_calls r js) l))
+open_all : (r : ℕ) (js l : List ℕ) → CarriedAt r l → Open (end_of js
+    (outcomes (step_calls r js) l))
 unfolding end_of outcomes disturbs unsettles
 open_all r [] l R = inl refl
 open_all r (j ∷ js) l R =

@@ -4,7 +4,7 @@
 use mathlib.Core.Path.{◌≡◌, refl, sym, ap, subst, ◌∙◌}
 use mathlib.Core.Bool.{Bool, true, false, So, cond, true≢false, ◌||◌}
 use mathlib.Core.List.{List, [], ◌∷◌}
-use Prim.Native.Nat.{ℕ, zero}
+use Prim.Native.Nat.{ℕ}
 use lib.Dec.{eqb, ltb}
 use Rattle.words.specs.Tests.{any_below}
 use Rattle.words.proofs.Bools.{test, clash, or_right}
@@ -18,7 +18,7 @@ use Rattle.model.specs.Issue.{raise_cause, issue_cause, issue_done, issue_rule}
 use Rattle.model.specs.Calls.Allow.{allow_cause, allow_done, allow_rule}
 use Rattle.model.specs.Calls.Rights.{right_cause, mayhold_done, mayhold_rule, maysave_rule}
 use Rattle.model.specs.Calls.Fork.{fork_cause, fork_done, fork_rule_of, join_moved, join_cause, join_done, join_broken, join_rule_of}
-use Rattle.model.specs.Calls.Pick.{pick_turn, picked_run, pick_done, pick_rule}
+use Rattle.model.specs.Calls.Pick.{pick_turn, pick_done, pick_rule}
 use Rattle.model.specs.Calls.Look.{look_cause, look_reply}
 use Rattle.model.specs.Calls.Explain.{explain_reply}
 use Rattle.model.specs.Calls.Stale.{stale_cause, stale_reply}
@@ -28,7 +28,7 @@ use Rattle.model.specs.Calls.Forecast.{forecast_cause, forecast_reply}
 use Rattle.model.specs.Calls.{Query, look, explain, stale, admit, forecast, StoreCall, open_run, fetch, evict, prepare, step, issue, drop_run, allow, pick, mayhold, maysave, fork, join, ask, reply_of, rule_of}
 use Rattle.layout.specs.Reading.{store_of}
 use Rattle.layout.specs.Buffer.{in_form}
-use Rattle.layout.specs.Calls.{Call, new, audit, on, new_cause, new_on, on_store, call_on}
+use Rattle.layout.specs.Calls.{new, audit, on, new_cause, new_on, on_store, call_on}
 use Rattle.claims.specs.Refusals.{is_one_of, asked_refusals, store_refusals, refusals_of, RefusedAsListed, ElevenAlone}
 
 -- ---- rows of the refusal table
@@ -124,7 +124,8 @@ pick-taken s =
     test (ltb (pick_turn s) s.counts.runs) (λ y. rw y (taken _ refl)) (λ n. rw n (taken _ refl))
 
 asked : (q : Query) (s : Store) → In (0 ∷ asked_refusals q) (reply_of q s).cause
-unfolding reply_of asked_refusals look_reply look_cause explain_reply stale_reply stale_cause admit_reply
+unfolding reply_of asked_refusals look_reply look_cause explain_reply stale_reply stale_cause
+    admit_reply
     admit_cause forecast_reply forecast_cause run_cause
 asked (look p i k) s =
     row _ _ _ refl (row _ _ _ refl (row _ _ _ refl (row _ _ _ refl none)))
@@ -136,9 +137,12 @@ asked (forecast n r) s =
 
 rule_listed : (c : StoreCall) (s : Store) (n : ℕ) → rule_of c s ≡ refused n
     → In (store_refusals c) n
-unfolding rule_of store_refusals open_rule open_cause open_done run_cause fetch_rule fetch_cause fetch_done
-    evict_rule evict_cause evict_done prepare_rule prepare_cause prepare_done step_rule_of issue_rule
-    issue_done drop_rule drop_cause drop_done allow_rule allow_cause allow_done mayhold_rule mayhold_done
+unfolding rule_of store_refusals open_rule open_cause open_done run_cause fetch_rule fetch_cause
+    fetch_done
+    evict_rule evict_cause evict_done prepare_rule prepare_cause prepare_done step_rule_of
+    issue_rule
+    issue_done drop_rule drop_cause drop_done allow_rule allow_cause allow_done mayhold_rule
+    mayhold_done
     maysave_rule right_cause fork_rule_of fork_cause fork_done join_rule_of join_cause replied
 rule_listed (open_run r l) s n e =
     by-cause _ n _ _ (taken _ refl)

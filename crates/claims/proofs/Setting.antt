@@ -2,13 +2,10 @@
 -- rule_rights: a clause for each call. set-by-calls: on a buffer in form.
 -- Assumes nothing.
 use mathlib.Core.Path.{◌≡◌, refl, sym, ap, ◌∙◌}
-use mathlib.Core.Bool.{Bool, cond, So}
-use mathlib.Core.List.{List}
-use Prim.Native.Nat.{ℕ}
+use mathlib.Core.Bool.{Bool, cond}
 use lib.Dec.{eqb, ltb}
 use Rattle.words.specs.Tests.{any_below}
 use Rattle.words.proofs.Bools.{test}
-use Rattle.model.specs.Tail.{Tail}
 use Rattle.model.specs.Store.{Store, with_master, with_last, with_sites, with_cache, with_caches, with_marks, with_writer, with_run, with_tail_of}
 use Rattle.model.specs.Outcome.{Outcome}
 use Rattle.model.specs.Caches.{fetch_cause, fetch_done, fetch_rule, evict_cause, evict_done, evict_rule}
@@ -23,8 +20,7 @@ use Rattle.model.specs.Calls.Rights.{right_cause, mayhold_done, mayhold_rule, ma
 use Rattle.model.specs.Calls.{StoreCall, open_run, fetch, evict, prepare, step, issue, drop_run, allow, pick, mayhold, maysave, fork, join, ask, reply_of, rule_of}
 use Rattle.model.proofs.Outcomes.{next_store, unless-cases, replied-cases}
 use Rattle.layout.specs.Reading.{store_of}
-use Rattle.layout.specs.Buffer.{in_form}
-use Rattle.layout.specs.Calls.{on, call_on, leaves, is_ok_of}
+use Rattle.layout.specs.Calls.{on, call_on, is_ok_of}
 use Rattle.layout.proofs.Forms.{form_rule, left-store}
 use Rattle.claims.specs.Rights.{right_of_at, hold_after, save_after, SetByCalls}
 
@@ -35,11 +31,15 @@ Sets c s x =
     × ((next_store x s).tail.may_save ≡ save_after (right_of_at c) (is_ok_of x) s.tail.may_save)
 
 rule_rights : (c : StoreCall) (s : Store) → Sets c s (rule_of c s)
-unfolding rule_of open_rule open_done fetch_rule fetch_done evict_rule evict_done prepare_rule prepare_done
-    step_rule_of step_broken step_done issue_rule issue_done issued_store saved_store drop_rule drop_done
-    allow_rule allow_done pick_rule pick_done mayhold_rule mayhold_done maysave_rule with_master with_last
+unfolding rule_of open_rule open_done fetch_rule fetch_done evict_rule evict_done prepare_rule
+    prepare_done
+    step_rule_of step_broken step_done issue_rule issue_done issued_store saved_store drop_rule
+    drop_done
+    allow_rule allow_done pick_rule pick_done mayhold_rule mayhold_done maysave_rule with_master
+    with_last
     with_sites with_cache with_caches with_marks with_writer with_run with_tail_of
-    fork_rule_of fork_done join_rule_of join_broken join_done right_of_at hold_after save_after is_ok_of
+    fork_rule_of fork_done join_rule_of join_broken join_done right_of_at hold_after save_after
+    is_ok_of
 rule_rights (open_run r l) s =
     unless-cases (Sets (open_run r l) s) (open_cause s r l) (open_done s r l) (λ _. (refl, refl))
     (λ _. (refl, refl))
@@ -89,7 +89,8 @@ set-by-calls l c F =
     let s = store_of l in
     let rule = rule_rights c s in
     let next = left-store c l F in
-    let ok : is_ok_of (rule_of c s) ≡ is_ok_of (call_on (on c) l) = ap is_ok_of (sym (form_rule c l F)) in (
+    let ok : is_ok_of (rule_of c s) ≡ is_ok_of (call_on (on c) l) = ap is_ok_of (sym
+    (form_rule c l F)) in (
       ap (λ (t : Store). t.tail.may_hold) next ∙ rule.0
           ∙ ap (λ (b : Bool). hold_after (right_of_at c) b s.tail.may_hold) ok,
       ap (λ (t : Store). t.tail.may_save) next ∙ rule.1

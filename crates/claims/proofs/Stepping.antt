@@ -21,7 +21,8 @@ use Rattle.layout.proofs.Rules.{rule_kept}
 use Rattle.layout.proofs.Forms.{form-kept, left-store}
 use Rattle.claims.specs.Forecasts.{step_calls}
 
-pub stepped-form : (r : ℕ) (js l : List ℕ) → So (in_form l) → So (in_form (after (step_calls r js) l))
+pub stepped-form : (r : ℕ) (js l : List ℕ) → So (in_form l) → So (in_form
+    (after (step_calls r js) l))
 unfolding after
 stepped-form r [] l F = F
 stepped-form r (j ∷ js) l F =

@@ -6,19 +6,19 @@
 -- Assumes nothing.
 use mathlib.Core.Path.{◌≡◌, refl, ap, ◌∙◌}
 use mathlib.Core.Bool.{So}
-use mathlib.Core.Logic.{◌≢◌, ◌⊎◌, inl, inr}
+use mathlib.Core.Logic.{◌≢◌, inl, inr}
 use mathlib.Core.List.{List, [], ◌∷◌, ◌++◌}
 use Prim.Native.Nat.{ℕ, ◌≤◌}
 use native.Mathlib.Omega.{arith}
 use lib.ListN.{length, take, drop}
 use Rattle.sizes.specs.Bounds.{total_of}
-use Rattle.model.specs.Outcome.{Outcome, answer}
+use Rattle.model.specs.Outcome.{answer}
 use Rattle.model.specs.Calls.Forecast.{through_word, turned_word}
 use Rattle.model.specs.Calls.{step, ask, forecast}
 use Rattle.layout.specs.Reading.{store_of}
 use Rattle.layout.specs.Buffer.{in_form}
 use Rattle.layout.specs.Forecast.{foreseen}
-use Rattle.layout.specs.Calls.{on, call_on, is_ok_of, after, leaves, outcomes}
+use Rattle.layout.specs.Calls.{on, call_on, after, leaves, outcomes}
 use Rattle.booked.specs.Prepared.{Booked}
 use Rattle.claims.specs.Forecasts.{step_calls, stepped_to, jobs_of, step_outcomes, Taken, ForecastForetells, AllOk, StopsAt, ForecastTellsFirst, ForecastTurned, PreparedForecast}
 

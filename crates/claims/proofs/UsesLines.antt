@@ -59,7 +59,8 @@ module _ (marked : MarkedByCalls) (l : List ℕ) (r : ℕ) (F : So (in_form l)) 
       marked l (step x j n) r F
       ∙ test (is_ok_of (call_on (on (step x j n)) l)) (λ y. rw y refl) (λ y. rw y refl)
 
-  pub other-marks : (x : ℕ) → eqb r x ≡ false → (next l r (fork x)).mark ≡ ((store_of l).run r).mark
+  pub other-marks : (x : ℕ) → eqb r x ≡ false → (next l r (fork x)).mark ≡ ((store_of l).run
+      r).mark
   unfolding role_of mark_by
   other-marks x e =
       marked l (fork x) r F
@@ -128,7 +129,8 @@ module _ (marked : MarkedByCalls) (lasting : Lasting) (r : ℕ) where
       (and_right f (unfreed r cs (leaves x l)) p)
 
   -- After an accepted fork, and any calls that don't free the run, no fork of it is answered ok.
-  pub fork-once : ForksOpen → (l : List ℕ) → So (in_form l) → So (is_ok_of (call_on (on (fork r)) l))
+  pub fork-once : ForksOpen → (l : List ℕ) → So (in_form l) → So (is_ok_of
+      (call_on (on (fork r)) l))
       → let after-fork = leaves (call_on (on (fork r)) l) l in
       (cs : List StoreCall) → So (unfreed r cs after-fork)
       → ¬ (So (is_ok_of (call_on (on (fork r)) (after (map on cs) after-fork))))

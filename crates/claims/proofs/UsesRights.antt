@@ -4,11 +4,10 @@
 -- isn't answered ok.
 -- Assumes nothing.
 use mathlib.Core.Path.{◌≡◌, ap, ◌∙◌}
-use mathlib.Core.Bool.{Bool, true, false, So}
+use mathlib.Core.Bool.{false, So}
 use mathlib.Core.List.{List}
 use Prim.Native.Nat.{ℕ, ◌<◌}
 use Rattle.words.specs.Tests.{only}
-use Rattle.words.specs.Lists.{put_at}
 use Rattle.words.proofs.Bools.{test, clash}
 use Rattle.words.proofs.Lists.{put_at_same}
 use Rattle.masks.specs.Mask.{test_bit}

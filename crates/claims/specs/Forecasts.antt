@@ -1,5 +1,6 @@
 -- CR 12: what a forecast foretells, told of the steps as calls on the buffer.
--- step_calls: steps of a run. end_of: how their outcomes end. stepped_to: how far they go. Taken: the
+-- step_calls: steps of a run. end_of: how their outcomes end. stepped_to: how far they go. Taken:
+-- the
 -- forecast isn't refused. Foretells, ForecastForetells: its answer and scratch are theirs. AllOk,
 -- StopsAt, TellsFirst, ForecastTellsFirst: the answer, outcome by outcome. ForecastTurned: by
 -- which numbers a job is turned down. PreparedForecast: with CR 11, of a prepared run.

@@ -68,7 +68,8 @@ Unbarred s =
 
 abbrev pub StaysUnbarred : Type 0
 StaysUnbarred =
-    (l : List ℕ) (c : StoreCall) → So (in_form l) → Unbarred (store_of (leaves (call_on (on c) l) l))
+    (l : List ℕ) (c : StoreCall) → So (in_form l) → Unbarred (store_of
+    (leaves (call_on (on c) l) l))
 
 -- "a barred sheet in T stops the fetch"
 abbrev pub TakesEntitled : Type 0

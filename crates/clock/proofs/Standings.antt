@@ -178,6 +178,7 @@ differing-not Newer e = clash refl e
 differing-not Rival e = clash refl e
 
 -- One that is, with no smaller count, is newer.
-pub differing-newer : (a : Bool) → So (differing (standing_of a false)) → standing_of a false ≡ Newer
+pub differing-newer : (a : Bool) → So (differing (standing_of a false)) → standing_of a false ≡
+    Newer
 differing-newer false s = clash s refl
 differing-newer true s = refl

@@ -6,7 +6,7 @@ ghost use Rattle.clock.specs.Count.{max_word, count_after};
 use words::larger;
 
 // How many issues a writer has made.
-#[derive(Drop)]
+#[derive(Clone, Copy)]
 pub struct WriterCount(u32);
 
 // The largest count, and the largest issue number: no issue follows it.

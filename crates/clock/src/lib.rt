@@ -1,4 +1,6 @@
 // Clocks in a buffer of words.
+#![tactic(auto)]
+
 pub mod count;
 
 ghost use Rattle.std.specs.Prelude.{◌≡◌, ◌+◌, ◌≤◌, length};
@@ -8,7 +10,7 @@ ghost use Rattle.clock.specs.Clock.{standing, standing_of, standing_number, cove
 use count::{count_at, set_count};
 
 // How two clocks stand.
-#[derive(Drop)]
+#[derive(Clone, Copy)]
 pub enum Standing {
     Equal,
     Older,

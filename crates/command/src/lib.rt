@@ -1,8 +1,9 @@
 // A call as the program reads it from a line.
+#![tactic(auto)]
 
 // What is asked for. Open's second and third number tell where among the lent numbers its job
 // words begin, and how many they are; audit's two the same of its record's words.
-#[derive(Drop)]
+#[derive(Clone, Copy)]
 pub enum Command {
     Unread,
     New(u32, u32, u32, u32),

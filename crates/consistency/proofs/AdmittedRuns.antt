@@ -20,7 +20,6 @@ use Rattle.model.proofs.FormedPlaces.{PlaceFormed}
 use Rattle.model.proofs.Formed.{well-out}
 use Rattle.model.proofs.Plans.{free-out, free-or-plan, run-place}
 use Rattle.model.proofs.Admits.{Covered, Admissible}
-use Rattle.layout.specs.Calls.{on}
 use Rattle.layout.proofs.Parts.{FitPlace}
 use Rattle.layout.proofs.Runs.{fit-branch}
 use Rattle.layout.proofs.Follow.{Fine}

@@ -55,7 +55,8 @@ admit-ok l = (there, back)
         ))
         (λ n. absurd (false≢true (rw (no-form (ask admit) l n) at p)))
 
-    back : So (in_form l) × So (admissible (store_of l)) → So (is_ok_of (call_on (on (ask admit)) l))
+    back : So (in_form l) × So (admissible (store_of l)) → So (is_ok_of
+        (call_on (on (ask admit)) l))
     back r = rw (form_rule (ask admit) l r.0, r.1) refl
 
 -- ---- the invariant

@@ -71,6 +71,7 @@ module _ {A : Type 0} {alg : Algebra A} {S : Writes A} (L : CopyLaws alg S) (K :
     merged-has : (N o k : ℕ) (x : S.Write) → o < N → So (sites o) → So (plan k)
         → S.includes k (cache o k) x → S.includes k (merged N k) x
     unfolding sites_merged fold_below
+    merged-has zero o k x l s p q = absurd (omega (arith, l))
     merged-has (suc n) o k x l s p q =
         test (sites n && plan k)
         (λ y. rw y ((L.merge_in k (merged n k) (cache n k) x).1 (⊎_elim

@@ -120,7 +120,8 @@ rivals-lead = (
     last = 1;
     included = refl;
     own = refl;
-    latest = both-cases (λ i. writer_of unseen i ≡ 1 → i ≤ 1) (λ _. omega arith) (λ _. omega arith);
+    latest = both-cases (λ i. writer_of unseen i ≡ 1 → i ≤ 1) (λ _. omega arith) (λ _. omega
+        arith);
     free = both-cases (λ i. i ≢ 1 → ¬ (HappensBefore unseen 0 1 0 i))
         (λ _ b. absurd (omega (arith, before-order sound b))) (λ n _. n refl);
   },

@@ -10,7 +10,7 @@ use mathlib.Core.List.{List, [], ◌∷◌, ◌++◌, map}
 use Prim.Native.Nat.{ℕ}
 use native.Mathlib.Omega.{arith}
 use lib.ListN.{replicate}
-use Rattle.words.specs.Tests.{none, any_below, all_below, only}
+use Rattle.words.specs.Tests.{any_below, all_below, only}
 use Rattle.words.specs.Numbers.{fold_below, count_below, largest, when}
 use Rattle.words.specs.Lists.{put_at, upto, blocks}
 use Rattle.words.proofs.Bools.{eqb-eq}
@@ -120,28 +120,40 @@ pub record Computed : Type 0 where
 pub computed : Computed
 unfolding any_below all_below only fold_below count_below largest when put_at upto blocks test_bit
     with_bit with_if mask_below closure rounds round exceeds standing dominates present join
-    between ranged past_size version_size place_size site_size writer_size run_size master_at sites_at
+    between ranged past_size version_size place_size site_size writer_size run_size master_at
+    sites_at
     writers_at runs_at tail_size tail_at total_of lacking held dependency supersedes leads_on
     merged_leaders larger merge draws draw_set fetch_set fetched unfetchable held_count over
     pull_set pulled fresh barred step_barred rights_formed tail_formed masks_words read_masks
     planned done_reads with_master with_last site_with with_marks with_caches with_sites with_cache
-    with_writer with_run with_state is_stale stale_mask site_formed with_job_done zero_rows zero_version
-    leaders_formed version_formed place_formed valid_job zero_job free_formed jobs_formed masks_formed
+    with_writer with_run with_state is_stale stale_mask site_formed with_job_done zero_rows
+    zero_version
+    leaders_formed version_formed place_formed valid_job zero_job free_formed jobs_formed
+    masks_formed
     zero_branch mark_formed snapshot_formed branches_formed run_formed well_formed answer refuse
     unless allowed run_cause listed_job listed_count listed_jobs list_valid open_cause opened_run
-    open_done open_rule fetch_cause fetch_done fetch_rule read_start step_site step_reads step_start
-    step_fetch step_cache step_plan step_pull step_snapshot step_moved job_limit off_branch not_ready
-    job_cause step_cause step_broken step_done step_rule_of same_version stays stays_other moved_keys
-    moved_set forked_run fork_cause fork_done fork_rule_of joined_place joined_branch joined_run join_moved
-    join_cause join_done join_broken join_rule_of raise_cause issue_cause taken_in rows_set new_past
-    new_version issued_master issued_writer saved_store issued_store issued_number issue_done issue_rule
+    open_done open_rule fetch_cause fetch_done fetch_rule read_start step_site step_reads
+    step_start
+    step_fetch step_cache step_plan step_pull step_snapshot step_moved job_limit off_branch
+    not_ready
+    job_cause step_cause step_broken step_done step_rule_of same_version stays stays_other
+    moved_keys
+    moved_set forked_run fork_cause fork_done fork_rule_of joined_place joined_branch joined_run
+    join_moved
+    join_cause join_done join_broken join_rule_of raise_cause issue_cause taken_in rows_set
+    new_past
+    new_version issued_master issued_writer saved_store issued_store issued_number issue_done
+    issue_rule
     rule_of clock_words past_words version_words place_words site_words sites_words writer_words
     writers_words job_words jobs_words run_words runs_words tail_words header_words store_words
-    read_clock read_past_of read_version read_place read_site read_writer read_job read_jobs read_run
-    read_tail_of counts_in store_of written header_right shaped in_form new_cause new_on on_store call_on
+    read_clock read_past_of read_version read_place read_site read_writer read_job read_jobs
+    read_run
+    read_tail_of counts_in store_of written header_right shaped in_form new_cause new_on on_store
+    call_on
     leaves is_ok_of writer_of leads in_past reaches held_copy needs_copy meets_copy union held_book
     merge_book needs_book meets_book read_copy writer_list list_of fresh_book with_book_caches
-    with_book_run book_open book_fetch book_step_job book_fork book_join entry book_issue book_issued
+    with_book_run book_open book_fetch book_step_job book_fork book_join entry book_issue
+    book_issued
     book_rule book_ok book_step start read_now role_of finish_by finish advance follow
 computed = record {
   lines = refl;

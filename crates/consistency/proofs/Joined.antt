@@ -1,5 +1,6 @@
 -- A join on versions and on copies (CR 10): both branches of a run as one.
--- joined-closed: the union of two cuts is one. copy_joined, joined_book: the book's; book-join: they
+-- joined-closed: the union of two cuts is one. copy_joined, joined_book: the book's; book-join:
+-- they
 -- are. joined-.., join-follows: the store's stand for them. Joined, first-keeps, second-keeps:
 -- what was read on a line is so on the card after it.
 -- Assumes nothing.

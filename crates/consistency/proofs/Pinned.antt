@@ -60,7 +60,8 @@ module _ (s : Store) (b : Book) (f : ℕ → List ReadSet) where
   step-finishes r j n = put_at_same f r (read_now r j n s b ∷ f r)
 
   -- CR 10: after the fork each stands on both lines, once joined on line 0.
-  pub fork-finishes : (r : ℕ) → finish_by (working r forks) s b f r ≡ map (on_lines both_lines) (f r)
+  pub fork-finishes : (r : ℕ) → finish_by (working r forks) s b f r ≡ map (on_lines both_lines) (f
+      r)
   unfolding finish_by
   fork-finishes r = put_at_same f r (map (on_lines both_lines) (f r))
 

@@ -67,7 +67,8 @@ module _ {A B : Type 0} {X : Algebra A} {Y : Algebra B} {K : ℕ} {Rel : ℕ →
     pub draw_set-same : (s s' : Items) → Agree K s s'
         → Agree K (draw_set X K S p₁ p₂ s) (draw_set Y K S' q₁ q₂ s')
     unfolding draw_set
-    draw_set-same s s' f = closure-same K (draws X K S p₁ p₂) (draws Y K S' q₁ q₂) s s' draws-same f
+    draw_set-same s s' f = closure-same K (draws X K S p₁ p₂) (draws Y K S' q₁ q₂) s s' draws-same
+        f
 
   module _ (m c : Place A) (m' c' : Place B) (s s' : Items) (rm : Related K Rel m m')
       (rc : Related K Rel c c') (e : Agree K s s') where
@@ -78,7 +79,8 @@ module _ {A B : Type 0} {X : Algebra A} {Y : Algebra B} {K : ℕ} {Rel : ℕ →
     pub fetched-rel : Related K Rel (fetched X K m c s) (fetched Y K m' c' s')
     unfolding fetched
     fetched-rel k l =
-        cond-rel (Rel k) (fetch_set X K m c s k) (fetch_set Y K m' c' s' k) (m k) (c k) (m' k) (c' k)
+        cond-rel (Rel k) (fetch_set X K m c s k) (fetch_set Y K m' c' s' k) (m k) (c k) (m' k) (c'
+        k)
         (fetch_set-same k l) (rm k l) (rc k l)
 
   module _ (c : Place A) (c' : Place B) (s s' : Items) (r : Related K Rel c c')

@@ -1,6 +1,6 @@
 -- A step on versions and on copies: the cache after its fetch, and the snapshot that it leaves.
--- copy_branch, copy_cache, copy_pull, copy_snapshot, copy_next, copy_run: the book's; book-step: they
--- are; either: a branch of both.
+-- copy_branch, copy_cache, copy_pull, copy_snapshot, copy_next, copy_run: the book's; book-step:
+-- they are; either: a branch of both.
 -- ..-related: the store's stand for them. ..-closed: they are cuts. ..-out: outside of C.
 -- step-named: its merges name somebody.
 -- Assumes nothing.
@@ -86,8 +86,10 @@ module _ (s : Store) (b : Book) (r j n : ℕ) where
 
   pub book-step : Follows s b → r < s.counts.runs
       → book_step_job r j n b
-      ≡ with_book_run (with_book_caches b (put_at b.cache (step_site s r j n) copy_cache)) r copy_run
-  unfolding book_step_job copy_run copy_next copy_snapshot copy_cache step_site step_reads step_plan
+      ≡ with_book_run (with_book_caches b (put_at b.cache (step_site s r j n) copy_cache)) r
+      copy_run
+  unfolding book_step_job copy_run copy_next copy_snapshot copy_cache step_site step_reads
+      step_plan
   book-step F l = rw (← F.counts, ← (F.run r l).jobs, ← (F.run r l).job)
 
   -- Branch m after the step on branch n, of the store and of the book: that branch, or as it was.

@@ -110,13 +110,14 @@ module _ (t : Trace) (H : HoldsAt t) where
 
 -- ---- lists after an admission
 
-module _ (claim : AfterAdmission) (l : List ℕ) (ok : So (is_ok_of (call_on (on (ask admit)) l))) where
-  pub admitted-point : (sofar : List Call) (c : Call) (rest : List Call)
-      → HoldsAt (follow sofar (admitted l))
-  admitted-point sofar c rest = claim l ok (sofar ++ (c ∷ rest)) sofar (c ∷ rest) refl
+module _ (claim : AfterAdmission) (l : List ℕ) (ok : So (is_ok_of (call_on (on (ask admit)) l)))
+  where
+    pub admitted-point : (sofar : List Call) (c : Call) (rest : List Call)
+        → HoldsAt (follow sofar (admitted l))
+    admitted-point sofar c rest = claim l ok (sofar ++ (c ∷ rest)) sofar (c ∷ rest) refl
 
-  pub admitted-end : (cs : List Call) → HoldsAt (follow cs (admitted l))
-  admitted-end cs = claim l ok cs cs [] (sym (append-nil cs))
+    pub admitted-end : (cs : List Call) → HoldsAt (follow cs (admitted l))
+    admitted-end cs = claim l ok cs cs [] (sym (append-nil cs))
 
 -- ---- lists from new
 

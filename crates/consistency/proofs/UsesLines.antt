@@ -4,7 +4,7 @@
 -- step-on, same-shared: two on one line. joined-shared: once their lines are joined. still_read,
 -- some_read: what was read is on the card, and by whom.
 -- Assumes nothing.
-use mathlib.Core.Path.{◌≡◌, refl, sym, ◌∙◌}
+use mathlib.Core.Path.{◌≡◌, refl}
 use mathlib.Core.Bool.{So}
 use mathlib.Core.Logic.{◌≢◌, inl, inr}
 use mathlib.Core.List.{List, [], ◌∷◌, map}
@@ -15,7 +15,7 @@ use Rattle.words.specs.Lists.{put_at}
 use Rattle.words.proofs.Bools.{lt-ltb}
 use Rattle.words.proofs.Lists.{put_at_same}
 use Rattle.masks.specs.Mask.{test_bit}
-use Rattle.model.specs.Store.{forked_mark, branch_of, Store}
+use Rattle.model.specs.Store.{forked_mark, branch_of}
 use Rattle.model.specs.Calls.{step, fork, join}
 use Rattle.layout.specs.Reading.{store_of}
 use Rattle.layout.specs.Calls.{on, call_on, is_ok_of}
@@ -65,6 +65,7 @@ module _ (t : Trace) (H : HoldsAt t) (r n k : ℕ) (h : k < (store_of t.buffer).
 -- One of these stands on these lines.
 on_these : {x : ReadSet} (lines : Items) (xs : List ReadSet) → Among x (map (on_lines lines) xs)
     → x.on ≡ lines
+on_these lines [] i = elim i [ ]
 on_these lines (y ∷ ys) first = refl
 on_these lines (y ∷ ys) (later i) = on_these lines ys i
 

@@ -41,7 +41,8 @@ module _ (lasting : Lasting) (l : List ℕ) (r : ℕ) (F : So (in_form l)) where
 
   -- and a step leaves it in use, with its jobs.
   pub step-goes-on : (j n : ℕ) → ((store_of l).run r).state ≢ free_state
-      → ((next (step r j n)).state ≢ free_state) × ((next (step r j n)).jobs ≡ ((store_of l).run r).jobs)
+      → ((next (step r j n)).state ≢ free_state) × ((next (step r j n)).jobs ≡
+      ((store_of l).run r).jobs)
   unfolding role_of frees
   step-goes-on j n u =
       let G = (lasting l (step r j n) r F).lasts u refl in

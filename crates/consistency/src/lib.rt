@@ -1,1 +1,2 @@
 // Demand 3: its statement in specs/.
+#![tactic(auto)]

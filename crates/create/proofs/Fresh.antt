@@ -72,7 +72,8 @@ module _ (z : Counts) where
   version-zero : version_words z unheld ≡ zeros (version_size z)
   unfolding version_words version_size
   version-zero =
-      zero-join (0 ∷ 0 ∷ []) (past_words z zero_past) past_offset (past_size z) (version_size z) refl
+      zero-join (0 ∷ 0 ∷ []) (past_words z zero_past) past_offset (past_size z) (version_size z)
+      refl
       past-zero refl
 
   place-zero : place_words z empty_place ≡ zeros (place_size z)
@@ -82,7 +83,8 @@ module _ (z : Counts) where
   site-zero : site_words z no_site ≡ zeros (site_size z)
   unfolding site_words site_size
   site-zero =
-      zero-join (place_words z empty_place) (zeros site_rest) (place_size z) site_rest (site_size z)
+      zero-join (place_words z empty_place) (zeros site_rest) (place_size z) site_rest (site_size
+      z)
       place-zero refl refl
 
   sites-zero : sites_words z (λ o. no_site) ≡ zeros (z.sites * site_size z)
@@ -109,7 +111,8 @@ module _ (z : Counts) where
   run-zero : run_words z free_run ≡ zeros (run_size z)
   unfolding run_words run_size
   run-zero =
-      zero-join (front_words z free_run) (rest_words z free_run) (run_front z) (run_rest z) (run_size z)
+      zero-join (front_words z free_run) (rest_words z free_run) (run_front z) (run_rest z)
+      (run_size z)
       front-zero rest-zero refl
 
   runs-zero : runs_words z (λ r. free_run) ≡ zeros (z.runs * run_size z)
@@ -132,8 +135,7 @@ zeroed z = record {
 -- One area of zeros more.
 next : (h x y : List ℕ) (m n : ℕ) → x ≡ h ++ zeros m → y ≡ zeros n → x ++ y ≡ h ++ zeros (m + n)
 next h x y m n p q =
-    ap₂ ◌++◌ p q
-    ∙ append_assoc h (zeros m) (zeros n)
+    ap₂ ◌++◌ p q ∙ append_assoc h (zeros m) (zeros n)
     ∙ ap (λ (t : List ℕ). h ++ t) (replicate-append-replicate m n 0)
 
 zero-words : (z : Counts) (n : ℕ) → total_of z ≡ header_size + n
@@ -159,8 +161,7 @@ filled l n h =
     let e : length (zeros n) ≡ n = length-replicate n 0 in
     let k : 0 + length (zeros n) ≡ n = omega arith in
     put-table l 0 n (λ _. 0)
-    ∙ ap (sets l 0) (zero-table n)
-    ∙ sets-eq (zeros n) l 0 (omega arith)
+    ∙ ap (sets l 0) (zero-table n) ∙ sets-eq (zeros n) l 0 (omega arith)
     ∙ ap (λ (j : ℕ). zeros n ++ drop j l) k
 
 -- The header over the first of them.
@@ -171,8 +172,7 @@ unfolding header_words
 headed z n rest = refl
 
 zero-stored : (l m n : List ℕ) (z : Counts) (at : Sizes) → Room (length l) z at
-    → m ≡ put l 0 at.total (λ _. 0) → n ≡ sets m 0 (header_words z 0)
-    → n ≡ written (zeroed z) l
+    → m ≡ put l 0 at.total (λ _. 0) → n ≡ sets m 0 (header_words z 0) → n ≡ written (zeroed z) l
 unfolding written
 zero-stored l m n z at R p q =
     let t = total_of z in
@@ -200,8 +200,7 @@ unfolding put_at
 one_more s k n =
     fun_ext (λ o. test (eqb o n)
     (λ y. let e : o ≡ n = eqb-eq o n y in
-    rw (y, e, ge-ltb n n (omega arith), lt-ltb n (suc n) (omega arith)))
-    (λ y. rw y (same o y)))
+    rw (y, e, ge-ltb n n (omega arith), lt-ltb n (suc n) (omega arith))) (λ y. rw y (same o y)))
   where
     same : (o : ℕ) → eqb o n ≡ false → allowed s k n o ≡ allowed s k (suc n) o
     same o y =
@@ -220,8 +219,7 @@ allowances s l (suc n) h =
     let z = s.counts in
     let t = with_sites s (allowed s z.keys n) in
     ap (λ (m : List ℕ). set m (allowance_at z (site_at z n)) z.keys)
-    (allowances s l n (omega arith))
-    ∙ put-allowance t l n z.keys (omega arith)
+    (allowances s l n (omega arith)) ∙ put-allowance t l n z.keys (omega arith)
     ∙ ap (λ (f : ℕ → Site). written (with_sites s f) l) (one_more s z.keys n)
 
 -- All of them, and the tail: a fresh store.

@@ -1,4 +1,6 @@
 // The call new: a fresh store written into a buffer of any content.
+#![tactic(auto)]
+
 pub mod tail;
 
 ghost use Rattle.std.specs.Prelude.{◌≡◌, ◌≤◌, length};

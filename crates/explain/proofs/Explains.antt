@@ -105,7 +105,8 @@ module _ (s : Store) (r j n : ℕ) where
       cases : (p q : Bool) → any_below K (step_moved s r j n) ≡ q → Both
           (cond p (told (cond q path_word clear_word) (cond q (explain_path s r j n) []))
           (refused (step_cause s r j n)))
-          (cond p (cond q (step_broken s r j n) (step_done s r j n)) (refused (step_cause s r j n)))
+          (cond p (cond q (step_broken s r j n) (step_done s r j n)) (refused
+          (step_cause s r j n)))
       cases false q e = turned (step_cause s r j n)
       cases true true e = breaking e _
       cases true false e = working _ _
@@ -132,7 +133,8 @@ module _ (s : Store) (r j n : ℕ) where
       → Path K (explain_edge s r j n) (explain_start s r j n) (explain_goal s r j n) l
       → So (test_bit (mask_below K (step_moved s r j n)) (last_of l))
   path-moved l p =
-      let e = path-last K (explain_edge s r j n) (explain_goal s r j n) (explain_start s r j n) l p in
+      let e = path-last K (explain_edge s r j n) (explain_goal s r j n) (explain_start s r j n) l
+      p in
       test-mask K (step_moved s r j n) (last_of l) e.0 ∙ rw moved-reached e.1
 
   explains-both : {x y : Outcome} → Both x y → ExplainsOutcome s r j n x y

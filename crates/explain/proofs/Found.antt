@@ -132,7 +132,8 @@ module _ (l : List ℕ) (z : Counts) (r j n : ℕ) (v : Visit) (t : Trial)
       path-same K (drawn_edge z l v t) (explain_edge s r j n) (drawn_start z l v)
       (explain_start s r j n) (test_bit v.read) (λ a d i h _. edge a d i h)
       (λ d _. ap (λ (p : Items). p d) start)
-      ∙ ap₂ (λ (x m : ℕ). shortest_path x (explain_edge s r j n) (explain_start s r j n) (test_bit m))
+      ∙ ap₂ (λ (x m : ℕ). shortest_path x (explain_edge s r j n) (explain_start s r j n) (test_bit
+      m))
       (sym (ap (λ (y : Counts). y.keys) counts)) (found-read l z r j n v t F)
 
   -- ---- the answer

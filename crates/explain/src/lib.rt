@@ -1,6 +1,8 @@
 // Explain: why a step would break its run, found without a store. A path of keys: the first a read
 // of the job that the snapshot lacks, each next one drawn in by the one before, the last a key
 // that the branch has read.
+#![tactic(auto)]
+
 mod drawing;
 pub mod put;
 
@@ -20,7 +22,7 @@ use sizes::Counts;
 use trial::{Trial, Tried, Visit, try_job};
 
 // The step would go through; or break, by a path of so many keys; or is refused, for this cause.
-#[derive(Drop)]
+#[derive(Clone, Copy)]
 pub enum Finding {
     Clear,
     Path(usize),
@@ -28,7 +30,7 @@ pub enum Finding {
 }
 
 // A finding, and the keys of its path from the first on.
-#[derive(Drop)]
+#[derive(Clone, Copy)]
 pub struct Explained {
     pub finding: Finding,
     pub keys: [u32; 32],

@@ -172,6 +172,7 @@ module _ (l : List ℕ) (z : Counts) (H : FormWith l z) (o : ℕ) (h : o < z.sit
       let P = (place-laws z).fits l in
       let M : FitPlace z s.master = rw (master_in l z H.counts) (P (master_at z)) in
       let C : FitPlace z (s.site o).cache = rw (cache_in l z H.counts o h) (P (site_at z o)) in
-      let put : k ≡ put_mark z (put_place z l (site_at z o) (takes m)) (master_at z) (site_at z o) =
+      let put : k ≡ put_mark z (put_place z l (site_at z o) (takes m)) (master_at z) (site_at z o)
+      =
       rw (master_in l z H.counts, cache_in l z H.counts o h, ← p, ← q) e in
       put ∙ cache-stored l z H o (takes m) h (fit-choice z (test_bit m) _ _ M C)

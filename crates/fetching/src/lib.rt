@@ -1,4 +1,6 @@
 // A fetch at a site, in three parts: T is found, asked for the causes of a refusal, and taken.
+#![tactic(auto)]
+
 ghost use Rattle.std.specs.Prelude.{◌≡◌, ◌<◌, ◌^◌};
 ghost use Rattle.masks.specs.Mask.{test_bit, mask_below};
 ghost use Rattle.model.specs.Version.{versions};

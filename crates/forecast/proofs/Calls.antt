@@ -1,7 +1,7 @@
 -- What forecast comes to on a buffer in form: forecast-refused, forecast-done.
 -- few-foretold: how many words its answer has.
 -- Assumes nothing.
-use mathlib.Core.Path.{◌≡◌, refl, sym, ap, ap₂, ◌∙◌}
+use mathlib.Core.Path.{◌≡◌, refl, sym, ap, ◌∙◌}
 use mathlib.Core.Bool.{So}
 use mathlib.Core.Logic.{◌≢◌}
 use mathlib.Core.List.{List, [], ◌∷◌}
@@ -65,7 +65,8 @@ module _ (l m : List ℕ) (r : ℕ) (F : So (in_form l)) where
       let s = store_of l in
       let w = forecast_walk r s in
       let K = walk_kept r _ s (form-fine l F) in (
-        ap foretold_words (p ∙ ap (λ (t : Store). foretold_of (forecast_walk r t).ended) copy-store)
+        ap foretold_words (p ∙ ap (λ (t : Store). foretold_of (forecast_walk r t).ended)
+            copy-store)
             ∙ ended-words w.ended ∙ sym (ap answer (ask-told (forecast (length m) r) l F e)),
         q ∙ ap (λ (t : Store). written (forecast_walk r t).store copy) copy-store
             ∙ written_twice s w.store m K.1 ∙ sym (foreseen-done l m r F e),

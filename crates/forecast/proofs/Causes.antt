@@ -2,7 +2,7 @@
 -- total-found: the total. mark-index: where the mark is. cause-..: a cause found, or none. Free,
 -- forecast-free: what was passed.
 -- Assumes nothing.
-use mathlib.Core.Path.{◌≡◌, refl, sym, ap, ◌∙◌}
+use mathlib.Core.Path.{◌≡◌, refl, ap}
 use mathlib.Core.Logic.{◌≢◌}
 use mathlib.Core.List.{List}
 use Prim.Native.Nat.{ℕ, ◌≤◌, ◌<◌}
@@ -58,31 +58,32 @@ module _ (l : List ℕ) (z : Counts) (room r : ℕ) (H : FormWith l z) where
     cause-run n e h = rw (rest, run-rest (store_of l) forecast_row r _, ← e, ne_eqb n 0 h)
 
     -- Where it finds nothing: the mark at an index.
-    module _ (e : run_cause (store_of l) forecast_row r 0 ≡ 0) (at : ℕ) (p : at ≡ mark_at z r) where
-      here : ((store_of l).run r).mark ≡ get_or l at 0
-      here = rw p (mark-found l z r H (cause-below l z forecast_row r H e)).1
+    module _ (e : run_cause (store_of l) forecast_row r 0 ≡ 0) (at : ℕ) (p : at ≡ mark_at z r)
+      where
+        here : ((store_of l).run r).mark ≡ get_or l at 0
+        here = rw p (mark-found l z r H (cause-below l z forecast_row r H e)).1
 
-      pub cause-forked : get_or l at 0 ≡ forked_mark → 14 ≡ forecast_cause (store_of l) room r
-      unfolding refuse
-      cause-forked h =
-          rw (
-            rest,
-            run-rest (store_of l) forecast_row r _,
-            e,
-            here,
-            eq-eqb (get_or l at 0) forked_mark h,
-          )
+        pub cause-forked : get_or l at 0 ≡ forked_mark → 14 ≡ forecast_cause (store_of l) room r
+        unfolding refuse
+        cause-forked h =
+            rw (
+              rest,
+              run-rest (store_of l) forecast_row r _,
+              e,
+              here,
+              eq-eqb (get_or l at 0) forked_mark h,
+            )
 
-      pub cause-none : get_or l at 0 ≢ forked_mark → 0 ≡ forecast_cause (store_of l) room r
-      unfolding refuse
-      cause-none h =
-          rw (
-            rest,
-            run-rest (store_of l) forecast_row r _,
-            e,
-            here,
-            ne_eqb (get_or l at 0) forked_mark h,
-          )
+        pub cause-none : get_or l at 0 ≢ forked_mark → 0 ≡ forecast_cause (store_of l) room r
+        unfolding refuse
+        cause-none h =
+            rw (
+              rest,
+              run-rest (store_of l) forecast_row r _,
+              e,
+              here,
+              ne_eqb (get_or l at 0) forked_mark h,
+            )
 
 -- ---- where none holds
 

@@ -63,7 +63,8 @@ tells-done s j (Stepped.Done a b c) l t e = refl
 tells-done s j (Stepped.Broken k) l t e = absurd (omega (arith, ap head e))
 tells-done s j (Stepped.Refused k) l t e = absurd (omega (arith, ap head e))
 
-stepped-tells : (s : Store) (r j : ℕ) (x : Stepped) → stepped_words x ≡ answer (step_rule_of r j 0 s)
+stepped-tells : (s : Store) (r j : ℕ) (x : Stepped) → stepped_words x ≡ answer (step_rule_of r j 0
+    s)
     → stopped_at j x ≡ foretold_of (walk r (j ∷ []) s).ended
 unfolding walk step_broken step_done
 stepped-tells s r j x =

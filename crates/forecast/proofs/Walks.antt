@@ -4,7 +4,7 @@
 use mathlib.Core.Path.{◌≡◌, refl, sym, ap, ◌∙◌}
 use mathlib.Core.Bool.{So}
 use mathlib.Core.Logic.{◌≢◌}
-use mathlib.Core.List.{List, [], ◌++◌}
+use mathlib.Core.List.{List, []}
 use Prim.Native.Nat.{ℕ, ◌+◌, ◌≤◌, ◌<◌}
 use native.Mathlib.Omega.{arith}
 use Rattle.model.specs.Store.{Store}
@@ -47,7 +47,8 @@ Foretells r l₀ x m =
     × (m ≡ written (forecast_walk r (store_of l₀)).store l₀)
 
 pub goes-start : (r finished n : ℕ) (l : List ℕ) → So (in_form l)
-    → n ≡ ((store_of l).run r).jobs → finished ≡ ((store_of l).run r).done → Goes r finished n l 0 l
+    → n ≡ ((store_of l).run r).jobs → finished ≡ ((store_of l).run r).done → Goes r finished n l 0
+    l
 unfolding forecast_walk
 goes-start r finished n l F e f = record {
   form = F;

@@ -1,5 +1,7 @@
 // Forecast (CR 12): the jobs of a run that aren't done are stepped on a copy of the store, lowest
 // first, until one breaks the run or is refused.
+#![tactic(auto)]
+
 ghost use Rattle.std.specs.Prelude.{◌≡◌, ◌≤◌, ◌<◌, length};
 ghost use Rattle.std.proofs.Math.Bool.{So};
 ghost use Rattle.sizes.specs.Bounds.{total_of};
@@ -28,7 +30,7 @@ use words::copy_from;
 
 // All steps are done; or this job breaks the run, with the mask of the keys that move; or this job
 // is turned down, for this cause; or the forecast is refused.
-#[derive(Drop)]
+#[derive(Clone, Copy)]
 pub enum Foretold {
     Through,
     Breaks(u32, u32),

@@ -40,7 +40,8 @@ fork_rule : (r : ℕ) (s : Store)
 unfolding rule_of fork_rule_of fork_cause
 fork_rule r s = refl
 
-pub fork-refused : (l : List ℕ) (r n : ℕ) → So (in_form l) → n ≡ mark_cause (store_of l) fork_row 0 r
+pub fork-refused : (l : List ℕ) (r n : ℕ) → So (in_form l) → n ≡ mark_cause (store_of l) fork_row
+    0 r
     → n ≢ 0 → Ends (fork r) l (2 ∷ n ∷ []) l
 fork-refused l r n F e h =
     let s = store_of l in
@@ -93,7 +94,8 @@ module _ (l : List ℕ) (z : Counts) (r : ℕ) (H : FormWith l z) (h : r < z.run
       let some : So (any_below s.counts.keys (join_moved s r)) =
       test (any_below s.counts.keys (join_moved s r)) (λ y. y)
       (λ o. absurd (n (mask ∙ join-still s r o))) in
-      let rule : rule_of (join r) s ≡ unless (mark_cause s join_row forked_mark r) (join_broken s r) =
+      let rule : rule_of (join r) s ≡ unless (mark_cause s join_row forked_mark r) (join_broken s
+      r) =
       join_rule r s ∙ rw some in
       let put : (y : Counts) → s.counts ≡ y → set (written s l) (run_at_of y r) broken_state
       ≡ written (with_run s r (with_state (s.run r) broken_state)) l =
@@ -112,7 +114,8 @@ module _ (l : List ℕ) (z : Counts) (r : ℕ) (H : FormWith l z) (h : r < z.run
       let none : any_below s.counts.keys (join_moved s r) ≡ false =
       any-no s.counts.keys (join_moved s r) (λ k i. sym (moved_item s.counts x y k i)
       ∙ ap (λ (n : ℕ). test_bit n k) (sym mask ∙ e) ∙ test-none k) in
-      let rule : rule_of (join r) s ≡ unless (mark_cause s join_row forked_mark r) (join_done s r) =
+      let rule : rule_of (join r) s ≡ unless (mark_cause s join_row forked_mark r) (join_done s r)
+      =
       join_rule r s ∙ rw none in
       ends-done (join r) l (mark_cause s join_row forked_mark r) (join_done s r) H.form rule free
       (0 ∷ 0 ∷ []) m refl f

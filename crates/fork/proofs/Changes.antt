@@ -72,7 +72,8 @@ branch-stored s l r n p x h =
 pub second-stored : (s : Store) (l : List ℕ) (r : ℕ) (p : Place Version) (x m : ℕ)
     → r < s.counts.runs → let z = s.counts in
     let a = s.run r in
-    set (set (put_place z (written s l) (snapshot_at z r 1) p) (read_at_of z r 1) x) (mark_at z r) m
+    set (set (put_place z (written s l) (snapshot_at z r 1) p) (read_at_of z r 1) x) (mark_at z r)
+    m
     ≡ written (with_run s r (run_with a a.state a.done a.branch m (branch_with x p))) l
 unfolding with_run with_job_done
 second-stored s l r p x m h =

@@ -63,11 +63,13 @@ module _ (l : List ℕ) (z : Counts) (r : ℕ) (H : FormWith l z) (h : r < z.run
       run-branch z a F n
 
   -- What branch n has read is on its card.
-  pub read_held : (n : ℕ) → ReadHeld z (branch_at z l (get_or l (read_at_of z r n) 0) (snapshot_at z r n))
+  pub read_held : (n : ℕ) → ReadHeld z (branch_at z l (get_or l (read_at_of z r n) 0)
+      (snapshot_at z r n))
   read_held n = subst (ReadHeld z) (sym (branch-at n)) (formed n).has
 
   -- The keys that a join would move, by what stands at the indices p, q, i and j.
-  pub moved_at : (p q i j : ℕ) → p ≡ snapshot_at z r 0 → q ≡ snapshot_at z r 1 → i ≡ read_at_of z r 0
+  pub moved_at : (p q i j : ℕ) → p ≡ snapshot_at z r 0 → q ≡ snapshot_at z r 1 → i ≡ read_at_of z
+      r 0
       → j ≡ read_at_of z r 1
       → moved_set z (branch_at z l (get_or l i 0) p) (branch_at z l (get_or l j 0) q)
       ≡ moved_set z a.branch a.second
@@ -88,7 +90,8 @@ module _ (l : List ℕ) (z : Counts) (r : ℕ) (H : FormWith l z) (h : r < z.run
   unfolding forked_run
   forked-left m x f g =
       let stored : (y : Counts) → s.counts ≡ y
-      → set (set (put_place y (written s l) (snapshot_at y r 1) a.branch.snapshot) (read_at_of y r 1)
+      → set (set (put_place y (written s l) (snapshot_at y r 1) a.branch.snapshot) (read_at_of y r
+      1)
       a.branch.read) (mark_at y r) forked_mark
       ≡ written (with_run s r (forked_run a)) l =
       λ y e. rw (← e)
@@ -156,7 +159,8 @@ module _ (l : List ℕ) (z : Counts) (r : ℕ) (H : FormWith l z) (h : r < z.run
       )
       (ap (λ (w : List ℕ). set w (read_at_of z r 0) x)
       (place-ext z l (snapshot_at z r 0) _ (all z) (λ k i. all-merged m k i (held_at k i)))
-      ∙ ap (λ (w : List ℕ). set (put_place z w (snapshot_at z r 0) (all z)) (read_at_of z r 0) x) again
+      ∙ ap (λ (w : List ℕ). set (put_place z w (snapshot_at z r 0) (all z)) (read_at_of z r 0) x)
+      again
       ∙ stored z counts)
 
   -- And then of the second, which is cleared in n, and the mark.

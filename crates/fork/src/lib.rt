@@ -1,5 +1,7 @@
 // Fork and join (CR 10): a run gets a second branch, and the two become one again. What a join
 // would move is found first, and nothing is stored before that.
+#![tactic(auto)]
+
 ghost use Rattle.std.specs.Prelude.{◌≡◌, not, ◌≤◌, ◌<◌, eqb, length, set};
 ghost use Rattle.std.proofs.Math.Bool.{So};
 ghost use Rattle.sizes.specs.Bounds.{read_at_of, mark_at};
@@ -27,7 +29,7 @@ use version::moved::moved_keys;
 use words::{copy, zero};
 
 // The branches are one; or the keys that were read and would move; or the cause's number.
-#[derive(Drop)]
+#[derive(Clone, Copy)]
 pub enum Joined {
     Done,
     Broken(u32),

@@ -35,7 +35,8 @@ flat-present z l v =
     any-rows set W z.keys
     ∙ any_same z.keys (λ d. any_below W (λ w. set (d * W + w))) (λ d. any_below W (row d))
     (λ d i. any_same W (λ w. set (d * W + w)) (row d) (λ w j.
-    let e : v + (past_offset + 0 * W) + (d * W + w) ≡ v + (past_offset + d * W) + w = omega arith in
+    let e : v + (past_offset + 0 * W) + (d * W + w) ≡ v + (past_offset + d * W) + w = omega arith
+    in
     rw e))
 
 pub flat_rows : (z : Counts) (l : List ℕ) (at k : ℕ) → k < z.keys

@@ -31,7 +31,8 @@ use Rattle.form.proofs.Runs.{job-words, run-words}
 -- One job more.
 pub reads-step : (l : List ℕ) (at mask j : ℕ) → j < max_jobs
     → reads_of (j + 1) (read_jobs l at) mask
-    ≡ bit_or (reads_of j (read_jobs l at) mask) (when (test_bit mask j) (get_or l (job_at_of at j + 1) 0))
+    ≡ bit_or (reads_of j (read_jobs l at) mask) (when (test_bit mask j)
+    (get_or l (job_at_of at j + 1) 0))
 unfolding reads_of
 reads-step l at mask j h =
     let f : ℕ → ℕ = λ j. when (test_bit mask j) (read_jobs l at j).reads in
@@ -107,7 +108,8 @@ read_low z a M n =
 
 module _ (z : Counts) (l : List ℕ) (at : ℕ) where
   pub jobs-test : let n = get_or l (at + jobs_offset) 0 in
-      between max_jobs n && all_below max_jobs (λ i. job_formed z n i (read_jobs l (at + plan_offset) i))
+      between max_jobs n && all_below max_jobs (λ i. job_formed z n i
+      (read_jobs l (at + plan_offset) i))
       ≡ jobs_formed z (read_run z l at)
   unfolding jobs_formed job_formed
   jobs-test = rw (run-words z l at)
@@ -123,7 +125,8 @@ module _ (z : Counts) (l : List ℕ) (at : ℕ) where
       let done = get_or l (at + done_offset) 0 in
       let reads = reads_of n (read_jobs l (at + plan_offset)) done in
       ltb done (2 ^ n)
-      && eqb (bit_or (get_or l (at + read_offset) 0) (get_or l (at + (front + second_read_offset)) 0))
+      && eqb (bit_or (get_or l (at + read_offset) 0) (get_or l (at + (front + second_read_offset))
+      0))
       reads
       ≡ masks_formed z (read_run z l at)
   unfolding masks_formed

@@ -117,7 +117,8 @@ carried-test z a b J low =
 
 -- Where there are no jobs, each is without words.
 no-jobs : (z : Counts) (job : ℕ → Job)
-    → all_below max_jobs (λ i. job_formed z 0 i (job i)) ≡ all_below max_jobs (λ i. zero_job (job i))
+    → all_below max_jobs (λ i. job_formed z 0 i (job i)) ≡ all_below max_jobs (λ i. zero_job
+    (job i))
 unfolding job_formed
 no-jobs z job =
     all_same max_jobs (λ i. job_formed z 0 i (job i)) (λ i. zero_job (job i))

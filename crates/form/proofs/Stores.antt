@@ -70,4 +70,5 @@ store-test l =
     (sym (site_in l z refl o h))))
     (ap (λ (t : Bool). t && tail_formed z (read_tail_of z l (tail_at z)))
     (all_same z.runs (λ r. run_formed z (read_run z l (run_at_of z r)))
-    (λ r. run_formed z ((store_of l).run r)) (λ r h. ap (run_formed z) (sym (run_in l z refl r h))))))
+    (λ r. run_formed z ((store_of l).run r)) (λ r h. ap (run_formed z)
+    (sym (run_in l z refl r h))))))

@@ -60,7 +60,8 @@ pub fn masks_formed(words: &[u32], z: Counts, at: usize) -> bool
 pub fn snapshot_formed(words: &[u32], z: Counts, at: usize, read: usize, card: usize) -> bool
     requires run_area { RunArea (length words.now) z at × Area (length words.now) z card }
     requires so { So (jobs_formed z (read_run z words.now at)) }
-    requires read_in_bounds { (read < length words.now) × (read_word_of words.now read < 2 ^ z.keys) }
+    requires read_in_bounds { (read < length words.now) ×
+        (read_word_of words.now read < 2 ^ z.keys) }
     ensures { result ≡ snapshot_formed z (read_run z words.now at)
         (branch_at z words.now (read_word_of words.now read) card) }
 {

@@ -1,5 +1,7 @@
 // The program: writes every script of one to three calls after `new 2 2 2 1` with its answers to
 // standard output, a line each.
+#![tactic(auto)]
+
 ghost use Rattle.std.specs.Prelude.{◌≡◌, ◌⊎◌, ◌+◌, ◌*◌, ◌-◌, ◌≤◌, ◌<◌, length, take};
 ghost use Rattle.std.proofs.Math.Bool.{So};
 ghost use Rattle.listing.specs.Lines.{lines_from};
@@ -8,6 +10,7 @@ ghost use Rattle.streams.specs.Streams.{Hands};
 ghost use Rattle.histories.specs.Written.{chunk_room, Written};
 
 use lister::Listing;
+use std::io::Write;
 use streams::{Output, hand_over};
 
 // The bytes that are handed to write at once.
@@ -21,17 +24,19 @@ struct Listed {
 }
 
 // Hands the next lines to write, as many as there is room for.
-fn turn(
+fn turn<W: Write>(
     listed: Listed,
     store: &mut [u32],
     digits: &mut [u32],
     words: &mut [u32],
     answer: &mut [u32],
     out: &mut [u8],
+    to: &mut W,
 ) -> Listed
     requires lines_lt_line_count { (listed.lines < line_count)
         × (listed.output.all ≤ history_room * listed.lines) }
-    requires history_room_in_bounds { (history_room ≤ length out.old) × (length out.old ≤ chunk_room) }
+    requires history_room_in_bounds { (history_room ≤ length out.old)
+        × (length out.old ≤ chunk_room) }
     requires longest_in_bounds { longest ≤ length digits.old }
     requires lent { Lent store.old words.old answer.old }
     ensures lines_lt_lines { (listed.lines < result.lines) × (result.lines ≤ line_count) }
@@ -41,7 +46,7 @@ fn turn(
     ensures all_bound { result.output.all ≤ history_room * result.lines }
 {
     let filled = lister::fill(out, listed.lines, store, digits, words, answer);
-    let output = hand_over(listed.output, out, filled.end);
+    let output = hand_over(listed.output, to, out, filled.end);
     Listed {
         lines: filled.next,
         output,
@@ -49,14 +54,16 @@ fn turn(
 }
 
 // All lines, or those up to a write that failed.
-fn run(
+fn run<W: Write>(
     store: &mut [u32],
     digits: &mut [u32],
     words: &mut [u32],
     answer: &mut [u32],
     out: &mut [u8],
+    to: &mut W,
 ) -> Listed
-    requires history_room_in_bounds { (history_room ≤ length out.old) × (length out.old ≤ chunk_room) }
+    requires history_room_in_bounds { (history_room ≤ length out.old)
+        × (length out.old ≤ chunk_room) }
     requires longest_in_bounds { longest ≤ length digits.old }
     requires lent { Lent store.old words.old answer.old }
     ensures written { Written result.lines result.output }
@@ -65,7 +72,7 @@ fn run(
     let output = Output::none();
     let mut listed = Listed { lines: 0, output };
     while listed.lines < Listing::LINES {
-        listed = turn(listed, store, digits, words, answer, out);
+        listed = turn(listed, store, digits, words, answer, out, to);
         let failed = listed.output.failed();
         if failed {
             return listed;
@@ -74,11 +81,19 @@ fn run(
     listed
 }
 
-fn main() {
+fn main(rt: HostRuntime) {
     let mut store = [0u32; Listing::STORE];
     let mut digits = [0u32; Listing::DIGITS];
     let mut words = [0u32; Listing::WORDS];
     let mut answer = [0u32; Listing::ANSWER];
     let mut out = [0u8; CHUNK];
-    run(&mut store, &mut digits, &mut words, &mut answer, &mut out);
+    let mut to = rt.stdout();
+    run(
+        &mut store,
+        &mut digits,
+        &mut words,
+        &mut answer,
+        &mut out,
+        &mut to,
+    );
 }

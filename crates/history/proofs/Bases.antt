@@ -11,7 +11,8 @@ use Rattle.history.specs.Listing.{no_base}
 use Rattle.history.specs.Book.{Book, fresh_book, with_book_caches, with_book_run, book_open, book_fetch, book_evict, book_mayhold, book_prepare, book_step_job, book_fork, book_join, book_issue, book_issued, book_rule, book_ok, book_step}
 
 pub rule_base : (c : StoreCall) (b : Book) → (book_rule c b).base ≡ b.base
-unfolding book_rule book_open book_fetch book_evict book_mayhold book_prepare book_step_job book_issued
+unfolding book_rule book_open book_fetch book_evict book_mayhold book_prepare book_step_job
+    book_issued
     book_issue book_fork book_join with_book_caches with_book_run
 rule_base (open_run r l) b = refl
 rule_base (fetch o k) b = refl

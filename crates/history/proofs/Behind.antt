@@ -75,7 +75,7 @@ before-grow {h} t (was_read_of {d = d} {j = j} {e = e} {i = i} l p q) =
     (rw (saved_low t h e i l) q)
 before-grow t (chain a b) = chain (before-grow t a) (before-grow t b)
 
-before-shrink : {K W : ℕ} {h : History} {d j e i : ℕ} (t : Issue) → Sound K W (t ∷ h)
+before-shrink : {K W : ℕ} {h : History} (t : Issue) {d j e i : ℕ} → Sound K W (t ∷ h)
     → i < length h → HappensBefore (t ∷ h) d j e i → HappensBefore h d j e i
 before-shrink {h} t s k (together {d = d} {e = e} {i = i} l p q n) =
     together {d = d} {e = e} {i = i} k (saved_low t h d i k ∙˙ p) (saved_low t h e i k ∙˙ q) n

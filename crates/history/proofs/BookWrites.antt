@@ -135,7 +135,8 @@ module _ (K W : ℕ) (h : History) (B : Base) where
   write-nothing_in k (inl i) p = false≢true p
   write-nothing_in k (inr x) p = omega (arith, p.1, p.2)
 
-  pub write-nothing-behind : (d : ℕ) (x : BookWrite) → StandsBehind K W h d (plain_copy_of none) x → ⊥
+  pub write-nothing-behind : (d : ℕ) (x : BookWrite) → StandsBehind K W h d (plain_copy_of none) x
+      → ⊥
   write-nothing-behind d (inl j) p = let r = reaches_some K h none d j p in false≢true r.2
   write-nothing-behind d (inr x) p = omega (arith, p.1, p.2)
 

@@ -61,7 +61,8 @@ module _ (K : ℕ) (h : History) where
   -- ---- a union
 
   pub counted-rows : (a b : Copy) (d : ℕ)
-      → (counted K h (union K h a b)).past d ≡ join ((counted K h a).past d) ((counted K h b).past d)
+      → (counted K h (union K h a b)).past d ≡ join ((counted K h a).past d) ((counted K h b).past
+      d)
   counted-rows a b d =
       counted-row (union K h a b) d
       ∙ ap (tally K h) (fun_ext (reaches-union K h a b d))

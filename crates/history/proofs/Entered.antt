@@ -1,6 +1,6 @@
 -- An issue entered: the new version and the writers' pasts are copies counted.
--- read_any: what the issue's run read. entered_past, entered: the new version, as a store makes it.
--- new_version-counted: the new version's copy.
+-- read_any: what the issue's run read. entered_past, entered: the new version, as a store makes
+-- it. new_version-counted: the new version's copy.
 -- writer-past, other-past: the writers.
 -- Assumes nothing.
 use mathlib.Core.Path.{◌≡◌, refl, sym, ap, ap₂, ◌∙◌, fun_ext}
@@ -66,7 +66,8 @@ module _ (K : ℕ) (e : Issue) (h : History) where
       → tally K (e ∷ h) (own d) u ≡ suc (count_below (length h) mine)
   own-yes d u k w =
       let p : So (own d (length h)) = and_intro (eq-eqb (length h) (length h) refl) k in
-      let low = rw (writer_of_top e h) at (tally-at K (e ∷ h) (own d) (length h) (omega arith) p) in
+      let low = rw (writer_of_top e h) at (tally-at K (e ∷ h) (own d) (length h) (omega arith) p)
+      in
       rw w (omega (arith, low, tally-total K (e ∷ h) (own d) e.writer, writer-count K e h))
 
   own-no : (d u : ℕ) → e.keys d && eqb u e.writer ≡ false → tally K (e ∷ h) (own d) u ≡ 0

@@ -103,7 +103,8 @@ module _ (K : ℕ) (e : Issue) (h : History) where
       (by-grow e.writer))
 
   pub other-count : (w : ℕ) → e.writer ≢ w
-      → count_below (suc (length h)) (by_writer K (e ∷ h) w) ≡ count_below (length h) (by_writer K h w)
+      → count_below (suc (length h)) (by_writer K (e ∷ h) w) ≡ count_below (length h) (by_writer K
+      h w)
   unfolding count_below by_writer
   other-count w ne =
       let low = count_same (length h) (by_writer K (e ∷ h) w) (by_writer K h w) (by-grow w) in

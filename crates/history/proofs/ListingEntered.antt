@@ -1,7 +1,7 @@
 -- An issue entered in a book that begins at an admission (CR 6): the new version and the writers'
 -- pasts are copies with lists, counted.
--- listed_as: issues with a list. entered_rows, entered_version: the new version, as a store makes it.
--- new-counted: the new version's copy. writer-rows, other-rows: the writers.
+-- listed_as: issues with a list. entered_rows, entered_version: the new version, as a store makes
+-- it. new-counted: the new version's copy. writer-rows, other-rows: the writers.
 -- Assumes nothing.
 use mathlib.Core.Path.{◌≡◌, refl, sym, ap, fun_ext}
 use mathlib.Core.Bool.{cond, ◌&&◌, So}

@@ -16,7 +16,8 @@ pub record PastLaws (K : ℕ) (h : History) : Type 0 where
   -- an issue's own writes
   pub own : (i d : ℕ) → i < length h → So (saved h d i) → So (in_past K h i d i)
   -- earlier writes by the same writer
-  pub session : (i d j : ℕ) → i < length h → j ≤ i → writer_of h j ≡ writer_of h i → So (saved h d j)
+  pub session : (i d j : ℕ) → i < length h → j ≤ i → writer_of h j ≡ writer_of h i → So (saved h d
+      j)
       → So (in_past K h i d j)
   -- a chain
   pub trans : (i d j e k : ℕ) → i < length h → So (in_past K h i d j) → So (in_past K h j e k)

@@ -104,7 +104,8 @@ leads-from K e h i p =
 
 unfoldable pub top_past : ℕ → Issue → History → ℕ → Items
 top_past K e h d j =
-    (eqb j (length h) && e.keys d) || any_below (length h) (λ x. leads K e h x && in_past K h x d j)
+    (eqb j (length h) && e.keys d) || any_below (length h) (λ x. leads K e h x && in_past K h x d
+    j)
 
 pub past_top : (K : ℕ) (e : Issue) (h : History) (d j : ℕ)
     → in_past K (e ∷ h) (length h) d j ≡ top_past K e h d j

@@ -125,8 +125,7 @@ abbrev pub is_copy : Bool → Book → ℕ → Version → BookCopy → Bool
 is_copy masks b k v c =
     let z = b.counts in
     let n = counted_copy z.keys b.history b.base c in
-    eqb v.issue n.issue
-    && (implies masks
+    eqb v.issue n.issue && (implies masks
     (eqb v.leaders (mask_below z.writers (leading z.keys b.history k c.later)))
     && all_below z.keys (λ d. all_below z.writers (λ w. eqb (v.past d w) (n.past d w))))
 
@@ -197,38 +196,36 @@ pub record Scripted : Type 0 where
   pub past-empty : from-admitted written (past-calls 0) ≡ true
 
 pub scripted : Scripted
-unfolding any_below all_below only fold_below count_below largest when put_at upto blocks test_bit
-    with_bit with_if mask_below closure rounds round exceeds standing dominates present join
-    between past_size version_size place_size site_size writer_size run_size master_at sites_at
-    writers_at runs_at tail_size tail_at total_of lacking held dependency supersedes leads_on
-    merged_leaders larger merge draws draw_set fetch_set fetched unfetchable held_count over
-    evict_set evicted barred unentitled step_barred read_masks masks_words
-    pull_set pulled fresh planned with_master with_last with_sites with_cache site_with with_marks
-    with_caches with_writer with_run with_state with_snapshot with_job_done valid_job refuse unless
-    allowed run_cause fetch_cause fetch_done fetch_rule evict_cause evict_done evict_rule listed_job
-    listed_count listed_jobs list_valid open_cause opened_run open_done open_rule drop_cause drop_done
-    drop_rule job_start fetch_reads prepared_caches unpreparable uses_site sites_merged site_caches
-    any_over
-    prepare_cause prepare_caches prepare_snapshot prepare_done prepare_rule read_start step_site
-    step_reads step_start step_fetch step_cache step_plan step_pull step_snapshot step_moved job_limit
-    off_branch not_ready job_cause step_cause step_broken step_done step_rule_of raise_cause issue_cause
-    taken_in rows_set new_past new_version issued_master issued_writer saved_store issued_store
-    issued_number
-    issue_done issue_rule look_place look_limit look_cause row_numbers look_standing look_numbers
-    look_reply replied reply_of rule_of clock_words past_words version_words place_words site_words
-    sites_words writer_words writers_words job_words jobs_words run_words runs_words tail_words
-    header_words store_words read_clock read_past_of read_version read_place read_site read_writer read_job
-    read_jobs read_run read_tail_of counts_in store_of is_ok_of writer_of leads in_past reaches held_copy
-    needs_copy meets_copy union held_book merge_book needs_book meets_book read_copy shift counted_copy
-    writer_list list_of last_in by_writer counted last_by behind_other leading fresh_book
-    with_book_caches with_book_run book_open book_fetch book_evict book_prepare book_step_job entry
-    book_issue book_issued book_rule book_ok book_step needs_met causal_cut overlapping_cut each_branch
-    every_place
-    same_version stays stays_other moved_keys moved_set forked_run fork_cause fork_done fork_rule_of
-    joined_place joined_branch joined_run join_moved join_cause join_done join_broken join_rule_of
-    book_fork book_join
-    every_version every_past causal_cuts overlapping_cuts master_covers counts_within number_within
-    admissible admit_cause admit_reply breaks explain_reply base_of admitted_run admitted_book
+unfolding any_below all_below only fold_below count_below largest when put_at upto blocks
+    test_bit with_bit with_if mask_below closure rounds round exceeds standing dominates present
+    join between past_size version_size place_size site_size writer_size run_size master_at
+    sites_at writers_at runs_at tail_size tail_at total_of lacking held dependency supersedes
+    leads_on merged_leaders larger merge draws draw_set fetch_set fetched unfetchable held_count
+    over evict_set evicted barred unentitled step_barred read_masks masks_words pull_set pulled
+    fresh planned with_master with_last with_sites with_cache site_with with_marks with_caches
+    with_writer with_run with_state with_snapshot with_job_done valid_job refuse unless allowed
+    run_cause fetch_cause fetch_done fetch_rule evict_cause evict_done evict_rule listed_job
+    listed_count listed_jobs list_valid open_cause opened_run open_done open_rule drop_cause
+    drop_done drop_rule job_start fetch_reads prepared_caches unpreparable uses_site sites_merged
+    site_caches any_over prepare_cause prepare_caches prepare_snapshot prepare_done prepare_rule
+    read_start step_site step_reads step_start step_fetch step_cache step_plan step_pull
+    step_snapshot step_moved job_limit off_branch not_ready job_cause step_cause step_broken
+    step_done step_rule_of raise_cause issue_cause taken_in rows_set new_past new_version
+    issued_master issued_writer saved_store issued_store issued_number issue_done issue_rule
+    look_place look_limit look_cause row_numbers look_standing look_numbers look_reply replied
+    reply_of rule_of clock_words past_words version_words place_words site_words sites_words
+    writer_words writers_words job_words jobs_words run_words runs_words tail_words header_words
+    store_words read_clock read_past_of read_version read_place read_site read_writer read_job
+    read_jobs read_run read_tail_of counts_in store_of is_ok_of writer_of leads in_past reaches
+    held_copy needs_copy meets_copy union held_book merge_book needs_book meets_book read_copy
+    shift counted_copy writer_list list_of last_in by_writer counted last_by behind_other leading
+    fresh_book with_book_caches with_book_run book_open book_fetch book_evict book_prepare
+    book_step_job entry book_issue book_issued book_rule book_ok book_step needs_met causal_cut
+    overlapping_cut each_branch every_place same_version stays stays_other moved_keys moved_set
+    forked_run fork_cause fork_done fork_rule_of joined_place joined_branch joined_run join_moved
+    join_cause join_done join_broken join_rule_of book_fork book_join every_version every_past
+    causal_cuts overlapping_cuts master_covers counts_within number_within admissible admit_cause
+    admit_reply breaks explain_reply base_of admitted_run admitted_book
 scripted = record {
   later = refl;
   reading = refl;

@@ -19,7 +19,8 @@ use Rattle.history.specs.Copies.{last_in, by_writer}
 
 -- ---- a count up to the largest of some numbers
 
-count-max : (m n : ℕ) (p : Items) → count_below (max m n) p ≡ max (count_below m p) (count_below n p)
+count-max : (m n : ℕ) (p : Items) → count_below (max m n) p ≡ max (count_below m p) (count_below n
+    p)
 count-max m n p =
     elim (dec_le m n) [
       | yes l ↦ let e : max m n ≡ n = omega arith in rw e (omega (arith, count-mono m n p l))
@@ -80,7 +81,8 @@ module _ (K : ℕ) (h : History) where
       largest-same (length h) (λ i. when (p i) (suc i)) (λ i. when (q i) (suc i))
       (λ i l. rw (f i l))
 
-  pub last-union : (p q : Items) → last_in K h (λ i. p i || q i) ≡ max (last_in K h p) (last_in K h q)
+  pub last-union : (p q : Items) → last_in K h (λ i. p i || q i) ≡ max (last_in K h p) (last_in K
+      h q)
   unfolding last_in
   last-union p q =
       let f : Items → ℕ → ℕ = λ s i. when (s i) (suc i) in
@@ -105,7 +107,8 @@ module _ (K : ℕ) (h : History) where
       elim (dec_le i j) [
         | yes l ↦ l
         | no l ↦
-            let more = count-between (suc j) (suc i) i (by_writer K h w) (omega arith) (omega arith)
+            let more = count-between (suc j) (suc i) i (by_writer K h w) (omega arith) (omega
+            arith)
             (by-writer i w e) in
             omega arith
       ]

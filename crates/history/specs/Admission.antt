@@ -1,6 +1,7 @@
 -- The book that begins at an admission (CR 6): "with needs listed at admission in place of the
 -- earlier history".
--- base_of: what it takes over. admitted_copy, admitted_place, admitted_run: what stands on the store.
+-- base_of: what it takes over. admitted_copy, admitted_place, admitted_run: what stands on the
+-- store.
 -- admitted_book: all of it.
 -- Assumes nothing.
 use Rattle.std.specs.Prelude.{[]}

@@ -1,7 +1,7 @@
 -- Copies (document 01: "a copy: a set of saves, empty if not held"), what the rules ask of them,
 -- and a copy counted.
--- Copy; reaches; held_copy, needs_copy, meets_copy, union. last_in, counted; CountedAs: a version that
--- is. leading: the writers that lead in a copy (CR 3).
+-- Copy; reaches; held_copy, needs_copy, meets_copy, union. last_in, counted; CountedAs: a version
+-- that is. leading: the writers that lead in a copy (CR 3).
 -- Assumes nothing.
 use Rattle.std.specs.Prelude.{◌≡◌, Bool, not, ◌&&◌, ◌||◌, ℕ, suc, eqb, length}
 use Rattle.words.specs.Tests.{Items, any_below, all_below}

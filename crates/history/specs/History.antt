@@ -1,6 +1,6 @@
 -- The history of issues, and what happens before a write (document 01: "save", "stands behind").
--- Issue, History; writer_of, saved, read_by, rows_of: what stands in it. HappensBefore: the paper's
--- four clauses. in_past: the same, computed (proofs/Behind has the equivalence).
+-- Issue, History; writer_of, saved, read_by, rows_of: what stands in it. HappensBefore: the
+-- paper's four clauses. in_past: the same, computed (proofs/Behind has the equivalence).
 -- A write ("save") is a key in an issue. Issues are told by position, counted from 0: issue
 -- number i + 1 is at i.
 -- Assumes nothing.

@@ -1,8 +1,9 @@
 -- The book's copies. In a book that begins at an admission (CR 6) what stood on the desk then
 -- isn't entered but listed.
--- Base: the admitted desk; no_base: none. BookCopy: a copy with its list; plain_copy_of: with none.
--- held_book, needs_book, meets_book, merge_book, book_copies: what the rules ask. read_copy: the copies
--- that a run had read, together. shift, counted_copy: a copy counted.
+-- Base: the admitted desk; no_base: none. BookCopy: a copy with its list; plain_copy_of: with
+-- none.
+-- held_book, needs_book, meets_book, merge_book, book_copies: what the rules ask. read_copy: the
+-- copies that a run had read, together. shift, counted_copy: a copy counted.
 -- An admitted save of key d is told by its writer u and a count n of u, as if each issue of u up
 -- to its count had saved d. The sets of them that occur are "n up to a count": a set is a clock.
 -- Assumes nothing.

@@ -1,1 +1,2 @@
 // The history model (document 01's book): definitions in specs/.
+#![tactic(auto)]

@@ -31,11 +31,13 @@ pub issue-refused : (l : List ℕ) (r w S n : ℕ) → So (in_form l)
     → n ≡ issue_cause (store_of l) r w S → n ≢ 0 → Ends (issue r w S) l (2 ∷ n ∷ []) l
 issue-refused l r w S n F e h =
     let s = store_of l in
-    let rule : rule_of (issue r w S) s ≡ unless n (issue_done s r w S) = rw e (issue_rule_lem r w S s) in
+    let rule : rule_of (issue r w S) s ≡ unless n (issue_done s r w S) = rw e (issue_rule_lem r w
+    S s) in
     ends-refused (issue r w S) l n (issue_done s r w S) F rule h
 
 issued-counts : (s : Store) (r w S : ℕ) → (issued_store s r w S).counts ≡ s.counts
-unfolding issued_store saved_store with_marks with_caches with_sites with_master with_writer with_last
+unfolding issued_store saved_store with_marks with_caches with_sites with_master with_writer
+    with_last
 issued-counts s r w S = test (eqb S 0) (λ t. rw t) (λ t. rw t)
 
 pub issue-done : (l : List ℕ) (z : Counts) (r w S n : ℕ) (m₁ m : List ℕ) → FormWith l z

@@ -3,7 +3,7 @@
 -- jobs-high: a run has 8 jobs at most. run-words, writer-words: they lie in the buffer.
 -- barred-word: a mask against the one of what a writer may save.
 -- Assumes nothing.
-use mathlib.Core.Path.{◌≡◌, ap, ◌∙◌}
+use mathlib.Core.Path.{◌≡◌, ap}
 use mathlib.Core.Bool.{not}
 use mathlib.Core.List.{List}
 use Prim.Native.Nat.{ℕ, ◌+◌, ◌^◌, ◌≤◌, ◌<◌}

@@ -103,7 +103,8 @@ module _ (s : Store) (l : List ℕ) (z : Counts) (F : FitStore s) (e : s.counts 
       let t = marks_to s n in
       let here : site_to s n n ≡ s.site n = rw (ge-ltb n n (omega arith)) in
       mark-put t l z (marks-fit s F n) e n h
-      ∙ ap (λ (x : Site). written (with_sites s (put_at (site_to s n) n (site_with s x x.cache))) l)
+      ∙ ap (λ (x : Site). written (with_sites s (put_at (site_to s n) n (site_with s x x.cache)))
+      l)
       here
       ∙ ap (λ (t : Store). written t l) (marks-more s F n)
 

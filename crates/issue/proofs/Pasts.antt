@@ -7,7 +7,7 @@ use Prim.Native.Nat.{ℕ, suc, ◌+◌, ◌≤◌, ◌<◌}
 use native.Mathlib.Nat.{add-zero}
 use native.Mathlib.Numerals.{add-one}
 use native.Mathlib.Omega.{arith}
-use lib.ListN.{length, get_or, set}
+use lib.ListN.{length, set}
 use lib.Seq.{sets, set-get_or}
 use Rattle.clock.specs.Clock.{Clock}
 use Rattle.sizes.specs.declared.Counts.{Counts}
@@ -24,7 +24,8 @@ use Rattle.issue.specs.Saves.{with_past}
 -- ---- writers: a count, and a past behind it
 
 pub writer-past : (z : Counts) (l : List ℕ) (at : ℕ) (p : ℕ → Clock)
-    → put_past z l (at + writer_past_offset) p ≡ put_writer z l at (with_past (read_writer z l at) p)
+    → put_past z l (at + writer_past_offset) p ≡ put_writer z l at (with_past (read_writer z l at)
+    p)
 unfolding writer_words read_writer
 writer-past z l at p =
     ap (λ (j : ℕ). sets l j (past_words z p)) (add-one at)

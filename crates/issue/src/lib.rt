@@ -1,4 +1,6 @@
 // Issue: a writer saves keys from a finished run. Causes are all tested before a word is stored.
+#![tactic(auto)]
+
 mod marks;
 mod past;
 

@@ -112,21 +112,26 @@ pub record Buffers : Type 0 where
       map in_form (put (may_hold_at z 0) 0 ∷ put (may_save_at z 0) 0 ∷ []) ≡ replicate 2 true
   pub right-high : let z = counts_of 1 1 1 1 in
       map in_form (put (may_hold_at z 0) 2 ∷ put (may_save_at z 0) 2 ∷ []) ≡ replicate 2 false
-  pub held-mask : map in_form (sets right 10 (1 ∷ 0 ∷ 1 ∷ []) ∷ sets right 10 (1 ∷ 2 ∷ 1 ∷ []) ∷ [])
+  pub held-mask : map in_form (sets right 10 (1 ∷ 0 ∷ 1 ∷ []) ∷ sets right 10 (1 ∷ 2 ∷ 1 ∷ []) ∷
+      [])
       ≡ replicate 2 false
   pub calls : Asked
 
 pub buffers : Buffers
 unfolding put_at with_sites any_below all_below upto blocks present between ranged past_size
     version_size place_size site_at
-    site_size writer_size run_size master_at sites_at writers_at runs_at tail_size tail_at total_of held
+    site_size writer_size run_size master_at sites_at writers_at runs_at tail_size tail_at
+    total_of held
     fresh zero_rows zero_version leaders_formed version_formed place_formed zero_job zero_branch
     free_formed run_formed site_formed rights_formed tail_formed
     barred test_bit well_formed when count_below held_count over
     is_stale stale_mask mask_below with_if exceeds standing masks_words read_masks clock_words
-    past_words version_words place_words site_words sites_words writer_words writers_words job_words
-    jobs_words run_words runs_words tail_words header_words store_words read_clock read_past_of read_version
-    read_place read_site read_writer read_job read_jobs read_run read_tail_of counts_in store_of header_right
+    past_words version_words place_words site_words sites_words writer_words writers_words
+    job_words
+    jobs_words run_words runs_words tail_words header_words store_words read_clock read_past_of
+    read_version
+    read_place read_site read_writer read_job read_jobs read_run read_tail_of counts_in store_of
+    header_right
     shaped in_form answer refuse unless allowed run_cause drop_cause drop_done drop_rule rule_of
     new_cause new_on on_store call_on
 buffers = record {

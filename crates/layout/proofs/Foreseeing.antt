@@ -1,19 +1,17 @@
 -- Laws of the scratch buffer that a forecast leaves.
 -- foreseen-..: by the call's cause. walk_kept: each step keeps the store fine.
 -- Assumes nothing.
-use mathlib.Core.Path.{◌≡◌, refl, ap, ◌∙◌}
-use mathlib.Core.Bool.{Bool, false, So, cond, ◌&&◌}
+use mathlib.Core.Path.{◌≡◌, refl, ◌∙◌}
+use mathlib.Core.Bool.{false, So}
 use mathlib.Core.Logic.{◌≢◌}
 use mathlib.Core.List.{List, [], ◌∷◌}
 use Prim.Native.Nat.{ℕ}
-use lib.Dec.{eqb}
 use lib.ListN.{length}
-use Rattle.words.proofs.Bools.{ne_eqb, eq-eqb, and-false-right}
+use Rattle.words.proofs.Bools.{ne_eqb, and-false-right}
 use Rattle.model.specs.Store.{Store}
 use Rattle.model.specs.Outcome.{Outcome, refused, broken, done, told}
 use Rattle.model.specs.Step.{step_rule_of}
 use Rattle.model.specs.Calls.Forecast.{Walked, walk_on, walk, forecast_cause, forecast_walk}
-use Rattle.model.proofs.Outcomes.{next_store}
 use Rattle.layout.specs.Reading.{store_of}
 use Rattle.layout.specs.Buffer.{written, in_form}
 use Rattle.layout.specs.Forecast.{foreseen}

@@ -81,21 +81,28 @@ pub record Foreseen : Type 0 where
   pub open_run_lem : foreseen (before 1) (replicate 91 7) 0 ≡ stopped 1 1
 
 pub foreseen-words : Foreseen
-unfolding any_below all_below only fold_below put_at upto blocks test_bit with_bit with_if mask_below
+unfolding any_below all_below only fold_below put_at upto blocks test_bit with_bit with_if
+    mask_below
     closure rounds round exceeds standing dominates present join between ranged past_size
-    version_size place_size site_size writer_size run_size master_at sites_at writers_at runs_at tail_size
+    version_size place_size site_size writer_size run_size master_at sites_at writers_at runs_at
+    tail_size
     tail_at total_of lacking held dependency supersedes leads_on merged_leaders larger merge draws
     draw_set fetch_set fetched unfetchable pull_set pulled planned done_reads with_sites with_cache
-    with_run with_state with_job_done zero_rows zero_version leaders_formed version_formed place_formed
+    with_run with_state with_job_done zero_rows zero_version leaders_formed version_formed
+    place_formed
     valid_job zero_job free_formed jobs_formed rights_formed tail_formed masks_words read_masks
     zero_branch masks_formed mark_formed snapshot_formed branches_formed run_formed site_formed
     well_formed when count_below held_count over is_stale stale_mask site_with answer refuse unless
     allowed run_cause barred step_barred read_start step_site step_reads step_start step_fetch
-    step_cache step_plan step_pull step_snapshot step_moved job_limit off_branch not_ready job_cause
+    step_cache step_plan step_pull step_snapshot step_moved job_limit off_branch not_ready
+    job_cause
     step_cause step_broken step_done step_rule_of replied reply_of rule_of clock_words past_words
-    version_words place_words site_words sites_words writer_words writers_words job_words jobs_words
-    run_words runs_words tail_words header_words store_words read_clock read_past_of read_version read_place
-    read_site read_writer read_job read_jobs read_run read_tail_of counts_in store_of written header_right
+    version_words place_words site_words sites_words writer_words writers_words job_words
+    jobs_words
+    run_words runs_words tail_words header_words store_words read_clock read_past_of read_version
+    read_place
+    read_site read_writer read_job read_jobs read_run read_tail_of counts_in store_of written
+    header_right
     shaped in_form on_store call_on leaves undone_at undone walk_on walk ended_word ended_numbers
     forecast_cause forecast_walk forecast_reply foreseen
 foreseen-words = record {

@@ -2,8 +2,8 @@
 -- can change places: document 01's "Header, 10 words", "A run is ..".
 -- Assumes nothing.
 use mathlib.Core.Path.{◌≡◌, refl}
-use mathlib.Core.List.{List, [], ◌∷◌, ◌++◌}
-use Prim.Native.Nat.{ℕ, ◌+◌, ◌*◌}
+use mathlib.Core.List.{[], ◌∷◌}
+use Prim.Native.Nat.{◌+◌, ◌*◌}
 use Rattle.words.specs.Lists.{blocks}
 use Rattle.sizes.specs.Bounds.{counts_of, past_size, version_size, place_size, site_size, writer_size, run_size, master_at, sites_at, writers_at, runs_at, tail_size, tail_at, total_of}
 use Rattle.model.specs.Store.{Run}
@@ -12,7 +12,8 @@ use Rattle.layout.specs.Words.{clock_words, past_words, version_words, place_wor
 -- K = 1, W = 2, N = 3, P = 4, the last issue number 9.
 pub header : header_words (counts_of 1 2 3 4) 9
     ≡ 1 ∷ 2 ∷ 3 ∷ 4 ∷ 9 ∷ 10 ∷ 14 ∷ 32 ∷ 38 ∷ 196 ∷ []
-unfolding header_words past_size version_size place_size site_size writer_size run_size master_at sites_at
+unfolding header_words past_size version_size place_size site_size writer_size run_size master_at
+    sites_at
     writers_at runs_at tail_size tail_at total_of
 header = refl
 

@@ -141,7 +141,8 @@ sites-laws z = many z.sites (site-laws z) no_site
 pub record FitWriter (z : Counts) (x : Writer) : Type 0 where
   pub past : FitPast z x.past
 
-pub writer-laws : (z : Counts) → Laws (writer_size z) (writer_words z) (read_writer z) (FitWriter z)
+pub writer-laws : (z : Counts) → Laws (writer_size z) (writer_words z) (read_writer z) (FitWriter
+    z)
 unfolding writer_size writer_words read_writer
 writer-laws z = record {
   long = λ x. omega (arith, (past-laws z).long x.past);

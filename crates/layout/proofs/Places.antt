@@ -62,7 +62,8 @@ unfolding place_size
 key-room z k v h = rw ((version-laws z).long v) (slot-end k z.keys (version_size z) h)
 
 key-stored : (z : Counts) (p : Place Version) (k : ℕ) (v : Version) → k < z.keys
-    → sets (place_words z p) (k * version_size z) (version_words z v) ≡ place_words z (put_at p k v)
+    → sets (place_words z p) (k * version_size z) (version_words z v) ≡ place_words z (put_at p k
+    v)
 unfolding place_words
 key-stored z p k v h = many-put z.keys (version-laws z) p k v h
 

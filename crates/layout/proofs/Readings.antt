@@ -29,7 +29,8 @@ unfolding store_of
 last_in_lem l = refl
 
 -- Mask i of n at an index.
-pub masks-word : (n : ℕ) (l : List ℕ) (at i : ℕ) → i < n → read_masks n l at i ≡ read_word_of l (at + i)
+pub masks-word : (n : ℕ) (l : List ℕ) (at i : ℕ) → i < n → read_masks n l at i ≡ read_word_of l
+    (at + i)
 unfolding read_masks
 masks-word n l at i h =
     upto_in n 0 (λ i. read_word_of l (at + i * 1)) i h ∙ ap (read_word_of l) (omega arith)
@@ -112,10 +113,12 @@ module _ (z : Counts) (l : List ℕ) where
       → present z.writers ((read_place z l at k).past d)
       ≡ present z.writers (clock_at l (row_at z (key_at z at k) d))
   present-word at k d h i =
-      present-same z.writers ((read_place z l at k).past d) (clock_at l (row_at z (key_at z at k) d))
+      present-same z.writers ((read_place z l at k).past d) (clock_at l
+      (row_at z (key_at z at k) d))
       (λ w j. row_word at k d w h i j)
 
 -- Job i of the jobs at an index.
-pub job-at : (l : List ℕ) (at i : ℕ) → i < max_jobs → read_jobs l at i ≡ read_job l (at + i * job_size)
+pub job-at : (l : List ℕ) (at i : ℕ) → i < max_jobs → read_jobs l at i ≡ read_job l (at + i *
+    job_size)
 unfolding read_jobs
 job-at l at i h = upto_in max_jobs no_job (λ i. read_job l (at + i * job_size)) i h

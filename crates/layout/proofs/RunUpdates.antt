@@ -91,7 +91,8 @@ put_rest s l r i x y h j e f =
     (into-rest (front-laws z) (rest-laws z) (s.run r) y i x j e f)
 
 pub put-state : (s : Store) (l : List ℕ) (r x : ℕ) → r < s.counts.runs
-    → set (written s l) (run_at_of s.counts r) x ≡ written (with_run s r (with_state (s.run r) x)) l
+    → set (written s l) (run_at_of s.counts r) x ≡ written (with_run s r (with_state (s.run r) x))
+    l
 unfolding with_state
 put-state s l r x h =
     let e : run_at_of s.counts r ≡ run_at_of s.counts r + 0 = omega arith in

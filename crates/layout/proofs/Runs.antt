@@ -2,7 +2,7 @@
 -- FitRun, FitRuns: nothing of a run stands outside of the counts; fit-branch: a card of it.
 -- front-laws, rest-laws: the two segments of a run. run-laws, runs-laws: its words are read back.
 -- Assumes nothing.
-use mathlib.Core.Path.{◌≡◌, refl, sym, ap, ap₂, ◌∙◌}
+use mathlib.Core.Path.{◌≡◌, sym, ap, ap₂, ◌∙◌}
 use mathlib.Core.List.{List, ◌∷◌, ◌++◌}
 use Prim.Native.Nat.{ℕ, suc, ◌+◌, ◌*◌}
 use native.Mathlib.Nat.{add-zero}

@@ -62,7 +62,8 @@ pub record Taken : Type 0 where
       → answer (call_on (new 32 16 8 8) l) ≡ ok₁ max_total
 
 pub in_range_lem : Taken
-unfolding call_on new_on new_cause ranged between refuse unless answer past_size version_size place_size
+unfolding call_on new_on new_cause ranged between refuse unless answer past_size version_size
+    place_size
     site_size writer_size run_size master_at sites_at writers_at runs_at tail_size tail_at total_of
 in_range_lem = record {
   smallest = λ l h. rw (le-leb (total_of (counts_of 1 1 1 1)) (length l) h);
@@ -92,31 +93,42 @@ pub record Scripted : Type 0 where
       ≡ ok₁ (total_of (counts_of 3 2 2 2)) ∷ longer-answers
 
 pub scripted : Scripted
-unfolding any_below all_below only fold_below put_at upto blocks test_bit with_bit with_if mask_below
+unfolding any_below all_below only fold_below put_at upto blocks test_bit with_bit with_if
+    mask_below
     closure rounds round exceeds standing dominates present join between ranged past_size
-    version_size place_size site_size writer_size run_size master_at sites_at writers_at runs_at tail_size
+    version_size place_size site_size writer_size run_size master_at sites_at writers_at runs_at
+    tail_size
     tail_at total_of lacking held dependency supersedes leads_on merged_leaders larger
     merge draws draw_set fetch_set
     fetched unfetchable evict_set evicted pull_set pulled fresh planned done_reads with_master
     with_last with_sites with_cache with_caches with_writer with_run with_state with_snapshot
-    with_job_done zero_rows zero_version leaders_formed version_formed place_formed valid_job zero_job
+    with_job_done zero_rows zero_version leaders_formed version_formed place_formed valid_job
+    zero_job
     free_formed jobs_formed rights_formed tail_formed masks_words read_masks
     zero_branch masks_formed mark_formed snapshot_formed branches_formed run_formed site_formed
     well_formed when count_below held_count over is_stale stale_mask site_with
     with_marks answer refuse unless allowed run_cause
-    barred unentitled step_barred fetch_cause fetch_done fetch_rule evict_cause evict_done evict_rule
+    barred unentitled step_barred fetch_cause fetch_done fetch_rule evict_cause evict_done
+    evict_rule
     listed_job listed_count
     listed_jobs list_valid open_cause opened_run open_done open_rule drop_cause drop_done drop_rule
     job_start fetch_reads prepared_caches unpreparable uses_site sites_merged site_caches any_over
     prepare_cause
-    prepare_caches prepare_snapshot prepare_done prepare_rule read_start step_site step_reads step_start
-    step_fetch step_cache step_plan step_pull step_snapshot step_moved job_limit off_branch not_ready
-    job_cause step_cause step_broken step_done step_rule_of raise_cause issue_cause taken_in rows_set new_past
-    new_version issued_master issued_writer saved_store issued_store issued_number issue_done issue_rule
-    look_place look_limit look_cause row_numbers look_standing look_numbers look_reply replied reply_of
+    prepare_caches prepare_snapshot prepare_done prepare_rule read_start step_site step_reads
+    step_start
+    step_fetch step_cache step_plan step_pull step_snapshot step_moved job_limit off_branch
+    not_ready
+    job_cause step_cause step_broken step_done step_rule_of raise_cause issue_cause taken_in
+    rows_set new_past
+    new_version issued_master issued_writer saved_store issued_store issued_number issue_done
+    issue_rule
+    look_place look_limit look_cause row_numbers look_standing look_numbers look_reply replied
+    reply_of
     rule_of clock_words past_words version_words place_words site_words sites_words writer_words
     writers_words job_words jobs_words run_words runs_words tail_words header_words store_words
-    read_clock read_past_of read_version read_place read_site read_writer read_job read_jobs read_run
-    read_tail_of counts_in store_of written header_right shaped in_form new_cause new_on on_store call_on
+    read_clock read_past_of read_version read_place read_site read_writer read_job read_jobs
+    read_run
+    read_tail_of counts_in store_of written header_right shaped in_form new_cause new_on on_store
+    call_on
     leaves outcomes after
 scripted = record { case_a = refl; case_a_past = refl; longer = refl }

@@ -67,7 +67,8 @@ header-words l H =
     let w = sym H.writers in
     let r = sym H.runs in
     let t = sym H.total in
-    λ i. read_word_of l 0 ∷ read_word_of l 1 ∷ read_word_of l 2 ∷ read_word_of l 3 ∷ read_word_of l 4
+    λ i. read_word_of l 0 ∷ read_word_of l 1 ∷ read_word_of l 2 ∷ read_word_of l 3 ∷ read_word_of
+    l 4
     ∷ m i ∷ o i ∷ w i ∷ r i ∷ t i ∷ []
 
 words-header : (l : List ℕ) → header_words (counts_in l) (read_word_of l 4) ≡ window l 0 10
@@ -76,7 +77,8 @@ unfolding header_words window counts_in
 words-header l e =
     record { master = at 5; sites = at 6; writers = at 7; runs = at 8; total = at 9 }
   where
-    at : (i : ℕ) → get_or (window l 0 10) i 0 ≡ get_or (header_words (counts_in l) (read_word_of l 4)) i 0
+    at : (i : ℕ) → get_or (window l 0 10) i 0 ≡ get_or (header_words (counts_in l)
+        (read_word_of l 4)) i 0
     at i = ap (λ (m : List ℕ). get_or m i 0) (sym e)
 
 -- ---- the whole test

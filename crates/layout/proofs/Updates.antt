@@ -5,7 +5,7 @@
 use mathlib.Core.Path.{◌≡◌, refl, sym, ap, ◌∙◌, fun_ext}
 use mathlib.Core.Bool.{Bool, true, false, cond}
 use mathlib.Core.List.{List, [], ◌∷◌, ◌++◌}
-use Prim.Native.Nat.{ℕ, ◌+◌, ◌*◌, ◌≤◌, ◌<◌}
+use Prim.Native.Nat.{ℕ, ◌+◌, ◌≤◌, ◌<◌}
 use native.Mathlib.Nat.{add-zero}
 use native.Mathlib.Omega.{arith}
 use lib.Dec.{eqb}
@@ -14,7 +14,7 @@ use lib.Seq.{sets}
 use Rattle.words.specs.Lists.{put_at}
 use Rattle.words.proofs.Stores.{sets-left, sets_behind, sets-all}
 use Rattle.words.proofs.Lists.{put_at_same}
-use Rattle.sizes.specs.Bounds.{place_size, site_size, writer_size, master_at, sites_at, writers_at, site_at, stale_at, allowance_at, tail_size, tail_at, round_at_of, may_hold_at, may_save_at, writer_at}
+use Rattle.sizes.specs.Bounds.{place_size, site_size, writer_size, master_at, site_at, stale_at, allowance_at, tail_size, tail_at, round_at_of, may_hold_at, may_save_at, writer_at}
 use Rattle.model.specs.Algebra.{Place}
 use Rattle.model.specs.Version.{Version}
 use Rattle.model.specs.Marks.{stale_mask}
@@ -97,7 +97,8 @@ put-writer-part s l = put-row-part (writer-laws s.counts) (writers-area s l) s.w
 -- ---- whole parts
 
 -- A part put twice.
-pub put-twice : {A : Type 0} (f : ℕ → A) (i : ℕ) (x y : A) → put_at (put_at f i x) i y ≡ put_at f i y
+pub put-twice : {A : Type 0} (f : ℕ → A) (i : ℕ) (x y : A) → put_at (put_at f i x) i y ≡ put_at f
+    i y
 unfolding put_at
 put-twice {A} f i x y = fun_ext (λ j. last (eqb j i) j)
   where

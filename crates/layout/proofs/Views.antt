@@ -11,8 +11,6 @@ use lib.Seq.{sets}
 use Rattle.words.specs.Lists.{blocks, put_at}
 use Rattle.words.proofs.Stores.{sets-left, sets_behind}
 use Rattle.sizes.specs.Bounds.{master_at, sites_at, writers_at, runs_at, tail_at, total_of}
-use Rattle.model.specs.Algebra.{Place}
-use Rattle.model.specs.Version.{Version}
 use Rattle.model.specs.Store.{Writer, Run, Store, with_master, with_sites, with_tail_of}
 use Rattle.layout.specs.Words.{header_words, place_words, sites_words, writers_words, runs_words, tail_words, store_words}
 use Rattle.layout.specs.Buffer.{written}

@@ -162,7 +162,8 @@ alike z n₁ n₂ m₁ m₂ o₁ o₂ w₁ w₂ r₁ r₂ t₁ t₂ F G e =
     (sites_long s ∙ sym (sites_long t)) a.0 in
     let c = append-same (to_master s) (sites_words z o₁) (to_master t) (sites_words z o₂)
     (master-long s ∙ sym (master-long t)) b.0 in
-    let d = append-same (header_words z n₁) (place_words z m₁) (header_words z n₂) (place_words z m₂)
+    let d = append-same (header_words z n₁) (place_words z m₁) (header_words z n₂) (place_words z
+    m₂)
     (header-long s ∙ sym (header-long t)) c.0 in
     let n = same-last z n₁ n₂ d.0 in
     let p = (place-laws z).same m₁ m₂ F.master G.master d.1 in
@@ -173,7 +174,8 @@ alike z n₁ n₂ m₁ m₂ o₁ o₂ w₁ w₂ r₁ r₂ t₁ t₂ F G e =
     λ i. store_with z (n i) (p i) (q i) (u i) (v i) (y i)
 
 header-back : (s : Store) (l : List ℕ)
-    → header_words (counts_in (written s l)) (read_word_of (written s l) 4) ≡ window (written s l) 0 10
+    → header_words (counts_in (written s l)) (read_word_of (written s l) 4) ≡ window (written s l)
+    0 10
 unfolding written store_words header_words counts_in window
 header-back s l = refl
 

@@ -19,7 +19,8 @@ header_right l z =
     eqb (read_word_of l master_offset) (master_at z)
     && (eqb (read_word_of l sites_at_offset) (sites_at z)
     && (eqb (read_word_of l writers_at_offset) (writers_at z)
-    && (eqb (read_word_of l runs_at_offset) (runs_at z) && eqb (read_word_of l total_offset) (total_of z))))
+    && (eqb (read_word_of l runs_at_offset) (runs_at z)
+    && eqb (read_word_of l total_offset) (total_of z))))
 
 -- "the buffer has 10 words and the total; counts, offsets and total are as above"
 unfoldable pub shaped : List ℕ → Bool

@@ -3,7 +3,7 @@
 -- line-long, line-bare, line-unread, line_read: the call of a line that is too long, of one field,
 -- of more that are no numbers, or are.
 -- Assumes nothing.
-use mathlib.Core.Path.{◌≡◌, refl, sym, ◌∙◌}
+use mathlib.Core.Path.{◌≡◌, sym, ◌∙◌}
 use mathlib.Core.Bool.{false, So}
 use mathlib.Core.List.{List, [], ◌∷◌}
 use mathlib.Core.Option.{Option, none, some}

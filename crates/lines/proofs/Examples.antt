@@ -30,7 +30,8 @@ pub case_lines :
     × (line_call (bytes_of "evict 0 1") ≡ some (on (evict 0 1)))
     × (line_call (bytes_of "prepare 0") ≡ some (on (prepare 0)))
     × (line_call (bytes_of "drop 0") ≡ some (on (drop_run 0)))
-unfolding line_call fields_call fields_of in_first_of asked form_of same_bytes takes calling numbers_of
+unfolding line_call fields_call fields_of in_first_of asked form_of same_bytes takes calling
+    numbers_of
     number_before number_of is_empty digits_only value_from
 case_lines = (
   refl,
@@ -60,7 +61,8 @@ pub read-lines :
     × (line_call (bytes_of "admit") ≡ some (on (ask admit)))
     × (line_call (bytes_of "mayhold 0 4294967295") ≡ some (on (mayhold 0 4294967295)))
     × (line_call (bytes_of "maysave 1 6") ≡ some (on (maysave 1 6)))
-unfolding line_call fields_call fields_of in_first_of asked form_of same_bytes takes calling numbers_of
+unfolding line_call fields_call fields_of in_first_of asked form_of same_bytes takes calling
+    numbers_of
     number_before number_of is_empty digits_only value_from
 read-lines = (refl, refl, refl, refl, refl, refl, refl, refl)
 
@@ -75,7 +77,8 @@ pub unread-lines :
     × (line_call (bytes_of "fetch 0 -1") ≡ none)
     × (line_call (bytes_of "fetch 0 0x1") ≡ none)
     × (line_call (bytes_of "mayhold 0 4294967296") ≡ none)
-unfolding line_call fields_call fields_of in_first_of asked form_of same_bytes takes calling numbers_of
+unfolding line_call fields_call fields_of in_first_of asked form_of same_bytes takes calling
+    numbers_of
     number_before number_of is_empty digits_only value_from
 unread-lines = (refl, refl, refl, refl, refl, refl, refl, refl, refl)
 
@@ -93,7 +96,8 @@ pub unread-calls :
     × (line_call (bytes_of "admit ") ≡ none)
     × (line_call (bytes_of "mayhold 0") ≡ none)
     × (line_call (bytes_of "maysave 0 1 2") ≡ none)
-unfolding line_call fields_call fields_of in_first_of asked form_of same_bytes takes calling numbers_of
+unfolding line_call fields_call fields_of in_first_of asked form_of same_bytes takes calling
+    numbers_of
     number_before number_of is_empty digits_only value_from
 unread-calls = (refl, refl, refl, refl, refl, refl, refl, refl, refl, refl, refl, refl)
 
@@ -110,7 +114,8 @@ pub bare-words :
     × (line_call (bytes_of "look") ≡ none)
     × (line_call (bytes_of "pick") ≡ some (on pick))
     × (line_call (bytes_of "pick 0") ≡ none)
-unfolding line_call fields_call fields_of in_first_of asked form_of same_bytes takes calling numbers_of
+unfolding line_call fields_call fields_of in_first_of asked form_of same_bytes takes calling
+    numbers_of
     number_before number_of is_empty digits_only value_from
 bare-words = (refl, refl, refl, refl, refl, refl, refl, refl, refl, refl, refl)
 
@@ -129,7 +134,8 @@ pub branch-lines :
     × (line_call (bytes_of "fork") ≡ none)
     × (line_call (bytes_of "fork 0 1") ≡ none)
     × (line_call (bytes_of "join 0 1") ≡ none)
-unfolding line_call fields_call fields_of in_first_of asked form_of same_bytes takes calling numbers_of
+unfolding line_call fields_call fields_of in_first_of asked form_of same_bytes takes calling
+    numbers_of
     number_before number_of is_empty digits_only value_from
 branch-lines = (
   refl,
@@ -151,6 +157,7 @@ branch-lines = (
 pub long-lines :
     (line_call (bytes_of "drop " ++ replicate 395 48) ≡ some (on (drop_run 0)))
     × (line_call (bytes_of "drop " ++ replicate 396 48) ≡ none)
-unfolding line_call fields_call fields_of in_first_of asked form_of same_bytes takes calling numbers_of
+unfolding line_call fields_call fields_of in_first_of asked form_of same_bytes takes calling
+    numbers_of
     number_before number_of is_empty digits_only value_from
 long-lines = (refl, refl)

@@ -2,8 +2,8 @@
 -- row-agrees: a row of a table that agrees. found, passed, ended: a word sought in it.
 -- counted, uncounted: the counts of numbers; in_table, some_number: what a right one tells.
 -- Assumes nothing.
-use mathlib.Core.Path.{◌≡◌, refl, sym, ◌∙◌}
-use mathlib.Core.Bool.{Bool, true, false, So, ◌&&◌}
+use mathlib.Core.Path.{◌≡◌, refl, sym}
+use mathlib.Core.Bool.{true, false, So, ◌&&◌}
 use mathlib.Core.List.{List, [], ◌∷◌}
 use mathlib.Core.Option.{Option, none, some}
 use Prim.Native.Nat.{ℕ, zero, suc, ◌+◌, ◌-◌, ◌<◌, ◌≤◌}
@@ -66,7 +66,8 @@ module _ (w : List ℕ) (r : Row) where
   found_in (f ∷ fs) (suc i) a e = found_in fs i a e
 
   passed_in : (fs : List Form) (i : ℕ) → So (is_row (form_at fs i) r)
-      → same_bytes w (first_of r.word) ≡ false → form_of (drop (suc i) fs) w ≡ form_of (drop i fs) w
+      → same_bytes w (first_of r.word) ≡ false → form_of (drop (suc i) fs) w ≡ form_of (drop i fs)
+      w
   unfolding is_row form_at form_of
   passed_in [] i a e = clash a refl
   passed_in (f ∷ fs) zero a e = let g = rw (row_of f r a).word at e in rw g

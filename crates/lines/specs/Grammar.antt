@@ -1,6 +1,6 @@
 -- The program's lines: "One call a line".
--- max_line: how long one is. forms: each command's word, the counts of numbers that may stand after
--- it, and its call. line_call: the call of a line, none for `unread`.
+-- max_line: how long one is. forms: each command's word, the counts of numbers that may stand
+-- after it, and its call. line_call: the call of a line, none for `unread`.
 -- Assumes nothing.
 use Rattle.std.specs.Prelude.{Bool, false, cond, ◌&&◌, List, [], ◌∷◌, ℕ, zero, suc, leb, length, get_or, drop}
 use Rattle.std.proofs.Math.Option.{Option, none, some}

@@ -1,4 +1,6 @@
 // The program's lines: a call read from one.
+#![tactic(auto)]
+
 mod table;
 
 ghost use Rattle.std.specs.Prelude.{◌≡◌, ◌≤◌, ◌<◌, length, get_or, take};
@@ -12,7 +14,7 @@ use table::{command_number, has_count};
 use text::Count;
 
 // How long a line may be.
-#[derive(Drop)]
+#[derive(Clone, Copy)]
 pub struct Longest {}
 
 impl Longest {
@@ -21,7 +23,7 @@ impl Longest {
 
     // It is that of the definitions.
     pub fn lengths()
-        ensures* { do ⌜ (← (⟦Longest::LINE⟧).entry) ≡ max_line ⌝ }
+        ensures { Longest.LINE ≡ max_line }
     {}
 }
 

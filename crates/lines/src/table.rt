@@ -7,7 +7,7 @@ ghost use Rattle.lines.specs.Rows.{is_row, agree};
 use crate::Longest;
 
 // A command's word, spaces behind it, and the least and the most numbers after it.
-#[derive(Drop)]
+#[derive(Clone, Copy)]
 struct Row {
     word: [u8; 8],
     least: usize,

@@ -97,7 +97,8 @@ replies-end m l ds j h = rw (drop_of_length-le ds h, append-nil)
 -- Its parts: the calls, what follows them, the answers, the line's end.
 pub line-parts : (m l ds : List ℕ) {k a b c r : List ℕ} → desk_room ≤ length l → k ≡ desk_in l
     → a ≡ m ++ joined (call_texts ds) → b ≡ a ++ bytes_of ": "
-    → c ≡ b ++ joined (reply_texts k ds) → r ≡ c ++ (10 ∷ []) → r ≡ m ++ whole_line (map call_at ds)
+    → c ≡ b ++ joined (reply_texts k ds) → r ≡ c ++ (10 ∷ []) → r ≡ m ++ whole_line (map call_at
+    ds)
 unfolding history_line answers_in
 line-parts m l ds {k = k} {b = b} h d e f g i =
     let cs = map call_at ds in

@@ -1,5 +1,7 @@
 // Every script of one to three calls after `new 2 2 2 1`, a line each: the listing's text, as many
 // whole lines at a time as there is room for.
+#![tactic(auto)]
+
 mod replies;
 mod small;
 
@@ -13,7 +15,7 @@ use replies::{put_replies, start};
 use small::put_calls;
 
 // The first line that isn't put yet, and how many bytes the lines before it have.
-#[derive(Drop)]
+#[derive(Clone, Copy)]
 pub struct Filled {
     pub next: usize,
     pub end: usize,
@@ -21,7 +23,7 @@ pub struct Filled {
 
 // How many calls and lines there are, and how much the buffers hold that are lent: the words of
 // the store; digits, a script's calls by their numbers; words and answer, for one call.
-#[derive(Drop)]
+#[derive(Clone, Copy)]
 pub struct Listing {}
 
 impl Listing {
@@ -47,13 +49,13 @@ impl Listing {
 
     // They are those of the definitions.
     pub fn limits()
-        ensures* calls { do ⌜ (← (⟦Listing::CALLS⟧).entry) ≡ length (calls 2 2 2) ⌝ }
-        ensures* lines { do ⌜ (← (⟦Listing::LINES⟧).entry) ≡ length listing ⌝ }
-        ensures* room { do ⌜ (← (⟦Listing::ROOM⟧).entry) ≡ history_room ⌝ }
-        ensures* store { do ⌜ (← (⟦Listing::STORE⟧).entry) ≡ desk_room ⌝ }
-        ensures* digits { do ⌜ (← (⟦Listing::DIGITS⟧).entry) ≡ longest ⌝ }
-        ensures* words { do ⌜ (← (⟦Listing::WORDS⟧).entry) ≡ words_room ⌝ }
-        ensures* answer { do ⌜ (← (⟦Listing::ANSWER⟧).entry) ≡ answer_room ⌝ }
+        ensures calls { Listing.CALLS ≡ length (calls 2 2 2) }
+        ensures lines { Listing.LINES ≡ length listing }
+        ensures room { Listing.ROOM ≡ history_room }
+        ensures store { Listing.STORE ≡ desk_room }
+        ensures digits { Listing.DIGITS ≡ longest }
+        ensures words { Listing.WORDS ≡ words_room }
+        ensures answer { Listing.ANSWER ≡ answer_room }
     {}
 }
 

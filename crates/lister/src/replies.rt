@@ -30,7 +30,8 @@ fn put_reply(
     reply: &mut [u32],
 ) -> usize
     requires body_room_in_bounds { (at + body_room ≤ length out.old) × So (in_form store.old) }
-    requires words_room_in_bounds { (words_room ≤ length words.old) × (answer_room ≤ length reply.old) }
+    requires words_room_in_bounds { (words_room ≤ length words.old) ×
+        (answer_room ≤ length reply.old) }
     ensures upper_bound { (result ≤ at + body_room) × (take result out.new ≡ take at out.old
         ++ answer_body (answer (call_on (on (call_at i)) store.old))) }
     ensures store_after { (store.new
@@ -56,7 +57,8 @@ pub fn put_replies(
     requires digits_nonzero { (0 < length digits.now)
         × (at + reply_room * length digits.now ≤ length out.old) }
     requires digits_len_bound { (length digits.now ≤ longest) × So (in_form store.old) }
-    requires words_room_in_bounds { (words_room ≤ length words.old) × (answer_room ≤ length reply.old) }
+    requires words_room_in_bounds { (words_room ≤ length words.old) ×
+        (answer_room ≤ length reply.old) }
     ensures { (result ≤ at + reply_room * length digits.now)
         × (take result out.new ≡ take at out.old
         ++ joined (map answer_body (map answer

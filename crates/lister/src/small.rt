@@ -10,14 +10,14 @@ use command::Command;
 
 // A call. count: how many words it has, its kind and its numbers. command: what asks for it, with
 // these words lent beside it.
-#[derive(Drop)]
+#[derive(Clone, Copy)]
 pub struct Small {
     pub count: usize,
     pub command: Command,
 }
 
 // A word of up to 8 bytes, spaces behind it.
-#[derive(Drop)]
+#[derive(Clone, Copy)]
 struct Word {
     bytes: [u8; 8],
 }

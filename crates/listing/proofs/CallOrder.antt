@@ -1,7 +1,7 @@
 -- The calls stand in their order: by kind, then by their numbers from the left.
 -- Sorted: each before all later ones. calls-sorted: the 26 calls.
 -- Assumes nothing.
-use mathlib.Core.Path.{◌≡◌, refl}
+use mathlib.Core.Path.{refl}
 use mathlib.Core.Bool.{Bool, true, false, ◌&&◌, ◌||◌, So, false≢true}
 use mathlib.Core.Logic.{inl, inr, ⊎_elim}
 use mathlib.Core.List.{List, [], ◌∷◌}
@@ -42,7 +42,8 @@ unfoldable all_after_lem : StoreCall → List StoreCall → Bool
 all_after_lem c [] = true
 all_after_lem c (d ∷ ds) = earlier (call_words c) (call_words d) && all_after_lem c ds
 
-all_after-all : (c : StoreCall) (l : List StoreCall) → So (all_after_lem c l) → AllOf (CallBefore c) l
+all_after-all : (c : StoreCall) (l : List StoreCall) → So (all_after_lem c l) → AllOf (CallBefore
+    c) l
 unfolding all_after_lem AllOf CallBefore
 all_after-all c [] p = tt
 all_after-all c (d ∷ ds) p =

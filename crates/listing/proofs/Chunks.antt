@@ -43,7 +43,8 @@ each_rows {B = B} f d (x ∷ xs) = ap (λ (l : List B). f x ++ l) (each_rows f d
 pub lines-all : lines_from 0 18278 ≡ listing_text
 unfolding lines_from listing_text
 lines-all =
-    rows_ext 18278 (λ j. whole_line (get_or listing (0 + j) [])) (λ j. whole_line (get_or listing j []))
+    rows_ext 18278 (λ j. whole_line (get_or listing (0 + j) [])) (λ j. whole_line
+    (get_or listing j []))
     (λ j. ap (λ (i : ℕ). whole_line (get_or listing i [])) (zero-add j))
     ∙ ap (λ (n : ℕ). rows n (λ j. whole_line (get_or listing j []))) (sym length-listing)
     ∙ sym (each_rows whole_line [] listing)

@@ -43,13 +43,15 @@ pub new-taken : (l : List ℕ) → words ≤ length l → new_cause l (counts_of
 unfolding new_cause ranged between refuse
 new-taken l h = rw (le-leb words (length l) h)
 
-pub new-leaves : (l : List ℕ) → words ≤ length l → desk_in l ≡ written (fresh (counts_of 2 2 2 1)) l
+pub new-leaves : (l : List ℕ) → words ≤ length l → desk_in l ≡ written (fresh (counts_of 2 2 2 1))
+    l
 unfolding desk_in after call_on leaves
 new-leaves l h =
     ap (λ (x : Outcome). leaves x l) (new-done l (counts_of 2 2 2 1) (new-taken l h))
 
 pub room-suffices : (n : ℕ) → desk_room ≤ n → words ≤ n
-unfolding past_size version_size place_size site_size writer_size run_size master_at sites_at writers_at
+unfolding past_size version_size place_size site_size writer_size run_size master_at sites_at
+    writers_at
     runs_at tail_size tail_at total_of
 room-suffices n h = omega arith
 

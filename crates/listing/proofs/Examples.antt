@@ -43,8 +43,10 @@ use Rattle.listing.proofs.Members.{all_in, calls-all}
 -- ---- texts
 
 -- Each of the 26 texts asks for its call.
-texts-read : map (λ c. line_call (call_text c)) (calls 2 2 2) ≡ map (λ c. some (on c)) (calls 2 2 2)
-unfolding calls rows firsts kind_word call_text kind_of arguments_of numbers_text decimal_of digits_of_at
+texts-read : map (λ c. line_call (call_text c)) (calls 2 2 2) ≡ map (λ c. some (on c)) (calls 2 2
+    2)
+unfolding calls rows firsts kind_word call_text kind_of arguments_of numbers_text decimal_of
+    digits_of_at
     line_call fields_call fields_of in_first_of asked form_of same_bytes takes calling numbers_of
     number_before number_of is_empty digits_only value_from
 texts-read = refl
@@ -91,8 +93,10 @@ unfolding any_below all_below only when count_below held_count over fold_below p
     with_marks answer refuse unless allowed run_cause fetch_cause fetch_done fetch_rule
     evict_cause evict_done evict_rule listed_job listed_count listed_jobs list_valid open_cause
     opened_run open_done open_rule drop_cause drop_done drop_rule read_start step_site step_reads
-    step_start step_fetch step_cache step_plan step_pull step_snapshot step_moved job_limit not_ready
-    job_cause step_cause step_broken step_done step_rule_of raise_cause issue_cause taken_in rows_set
+    step_start step_fetch step_cache step_plan step_pull step_snapshot step_moved job_limit
+    not_ready
+    job_cause step_cause step_broken step_done step_rule_of raise_cause issue_cause taken_in
+    rows_set
     new_past new_version issued_master issued_writer saved_store issued_store issued_number
     issue_done issue_rule rule_of clock_words past_words version_words place_words site_words
     sites_words writer_words writers_words job_words jobs_words run_words runs_words tail_words

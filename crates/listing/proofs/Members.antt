@@ -9,7 +9,7 @@ use Prim.Native.Nat.{ℕ, zero, suc, ◌<◌, ◌^◌}
 use native.Mathlib.Omega.{arith}
 use native.Mathlib.Nat.{not-suc-le-zero, suc_inj, suc-ne-zero}
 use lib.ListN.{length}
-use Rattle.model.specs.Calls.{StoreCall, open_run, fetch, evict, prepare, step, issue, drop_run, ask}
+use Rattle.model.specs.Calls.{StoreCall, open_run, fetch, evict, prepare, step, issue, drop_run, allow, pick, mayhold, maysave, fork, join, ask}
 use Rattle.listing.specs.Scripts.{firsts, rows, each, scripts, In, AllOf}
 use Rattle.listing.specs.Calls.{one_job, calls, InRange}
 
@@ -205,6 +205,12 @@ calls_have K W N (drop_run r) p =
     (inr (in_append_right (drop_run 0) (rows W (λ w. firsts (2 ^ K) (λ S. issue 0 w S))) _
     (inl refl))))))
 calls_have K W N (prepare r) p = absurd p
+calls_have K W N (allow o m) p = absurd p
+calls_have K W N pick p = absurd p
+calls_have K W N (mayhold o m) p = absurd p
+calls_have K W N (maysave w m) p = absurd p
+calls_have K W N (fork r) p = absurd p
+calls_have K W N (join r) p = absurd p
 calls_have K W N (ask q) p = absurd p
 
 pub calls-all : (K W N : ℕ) (c : StoreCall) → In c (calls K W N) ↔ InRange K W N c

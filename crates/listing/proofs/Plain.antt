@@ -2,8 +2,8 @@
 -- none is a line feed (10).
 -- Plain: such bytes. line_plain: those of each line.
 -- Assumes nothing.
-use mathlib.Core.Path.{◌≡◌, refl}
-use mathlib.Core.Bool.{Bool, true, false, ◌&&◌, So}
+use mathlib.Core.Path.{refl}
+use mathlib.Core.Bool.{Bool, true, ◌&&◌, So}
 use mathlib.Core.List.{List, [], ◌∷◌, ◌++◌, map}
 use Prim.Native.Nat.{ℕ, zero, suc, ◌+◌, ◌/◌, ◌%◌, ◌≤◌}
 use native.Mathlib.Omega.{arith}

@@ -36,7 +36,8 @@ get_d_each v f h (x ∷ xs) d e zero r hk hr =
     rw z (get_or-append (f x) (each f xs) e r (rw (h x) hr))
 get_d_each v f h (x ∷ xs) d e (suc k) r hk hr =
     let z : suc k * v + r ≡ length (f x) + (k * v + r) = rw (h x) (omega arith) in
-    rw z (get_d_right (f x) (each f xs) e (k * v + r) ∙ get_d_each v f h xs d e k r (omega arith) hr)
+    rw z (get_d_right (f x) (each f xs) e (k * v + r) ∙ get_d_each v f h xs d e k r (omega arith)
+    hr)
 
 -- ---- scripts over any list
 

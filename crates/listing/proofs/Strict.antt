@@ -44,7 +44,8 @@ call-irrefl c p = lex_irrefl ◌<◌ (λ n h. omega arith) (kind_of c ∷ argume
 pub call-trans : (c d e : StoreCall) → CallBefore c d → CallBefore d e → CallBefore c e
 unfolding CallBefore
 call-trans c d e p q =
-    lex-trans ◌<◌ (λ x y z h k. omega arith) (kind_of c ∷ arguments_of c) (kind_of d ∷ arguments_of d)
+    lex-trans ◌<◌ (λ x y z h k. omega arith) (kind_of c ∷ arguments_of c) (kind_of d ∷
+    arguments_of d)
     (kind_of e ∷ arguments_of e) p q
 
 pub before-irrefl : (a : List StoreCall) → Before a a → ⊥

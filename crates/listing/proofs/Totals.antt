@@ -10,7 +10,7 @@ use native.Mathlib.Omega.{arith}
 use native.Mathlib.Decide.{dec_lt}
 use lib.Dec.{eqb}
 use lib.ListN.{length, get_or, drop}
-use Rattle.model.specs.Calls.{StoreCall, open_run, fetch, evict, prepare, step, issue, drop_run, ask}
+use Rattle.model.specs.Calls.{StoreCall, open_run, fetch, evict, prepare, step, issue, drop_run, allow, pick, mayhold, maysave, fork, join, ask}
 use Rattle.listing.specs.Scripts.{AllOf, Lex}
 use Rattle.listing.specs.Calls.{InRange, kind_of, arguments_of, CallBefore, Before}
 
@@ -52,7 +52,8 @@ known l =
     (cond (eqb (get_or l 0 0) 4) (issue (get_or l 1 0) (get_or l 2 0) (get_or l 3 0))
     (drop_run (get_or l 1 0))))))
 
-known-again : (K W N : ℕ) (c : StoreCall) → InRange K W N c → known (kind_of c ∷ arguments_of c) ≡ c
+known-again : (K W N : ℕ) (c : StoreCall) → InRange K W N c → known (kind_of c ∷ arguments_of c) ≡
+    c
 unfolding known kind_of arguments_of InRange
 known-again K W N (open_run r l) p = refl
 known-again K W N (fetch o k) p = refl
@@ -61,6 +62,12 @@ known-again K W N (prepare r) p = absurd p
 known-again K W N (step r j n) p = rw p.2
 known-again K W N (issue r w S) p = refl
 known-again K W N (drop_run r) p = refl
+known-again K W N (allow o m) p = absurd p
+known-again K W N pick p = absurd p
+known-again K W N (mayhold o m) p = absurd p
+known-again K W N (maysave w m) p = absurd p
+known-again K W N (fork r) p = absurd p
+known-again K W N (join r) p = absurd p
 known-again K W N (ask q) p = absurd p
 
 anything : (l : List ℕ) → AllOf (λ n. Unit {0}) l

@@ -1,5 +1,6 @@
 -- A script's line.
--- call_text: a call as it is typed. answers_of: the answers. history_line: the line, without its end.
+-- call_text: a call as it is typed. answers_of: the answers. history_line: the line, without its
+-- end.
 -- listing_text: all lines; lines_from: some of them.
 -- Assumes nothing.
 use Rattle.std.specs.Prelude.{List, [], ◌∷◌, ◌++◌, map, ℕ, ◌+◌, get_or, replicate}
@@ -51,7 +52,8 @@ answers_of cs = answers_in (replicate desk_room 0) cs
 
 -- "calls joined by `; `, then `: `, then the answers joined alike".
 unfoldable pub history_line : List StoreCall → List ℕ
-history_line cs = joined (map call_text cs) ++ bytes_of ": " ++ joined (map answer_body (answers_of cs))
+history_line cs = joined (map call_text cs) ++ bytes_of ": " ++ joined (map answer_body
+    (answers_of cs))
 
 -- "on a line of its own": a line feed (10) ends it.
 abbrev pub whole_line : List StoreCall → List ℕ

@@ -1,6 +1,7 @@
 -- Lists built by rule over anything: here over calls.
 -- firsts, rows: over numbers below a bound. each: over a list. scripts: all lists of n elements;
--- script_at: one of them. In, AllOf: some element, each element. Lex: the first difference decides.
+-- script_at: one of them. In, AllOf: some element, each element. Lex: the first difference
+-- decides.
 -- Assumes nothing.
 use Rattle.std.specs.Prelude.{◌≡◌, ◌⊎◌, List, [], ◌∷◌, ◌++◌, map, ℕ, zero, suc, ◌/◌, ◌%◌, ◌^◌, length, get_or}
 

@@ -1,1 +1,2 @@
 // Every small history, listed: definitions in specs/, laws in proofs/. Crate lister has the code.
+#![tactic(auto)]

@@ -116,7 +116,8 @@ module _ (l : List ℕ) (p i k : ℕ) where
       → (m : ℕ) → m ≡ (read_place z l (place_at z p i) k).leaders
       → (s : Standing) → s ≡ standing z.writers (clock_at l (own_row_at z p i k))
       (clock_at l (row_at z (key_at z (master_at z) k) k))
-      → Says (Done (record { 0 = read_word_of l (key_at z (place_at z p i) k) }) m (own_row_at z p i k)
+      → Says (Done (record { 0 = read_word_of l (key_at z (place_at z p i) k) }) m (own_row_at z p
+      i k)
       z.writers s)
   unfolding look_numbers seen shown answer OwnRow own_row_at read_version
   look-done z d F T m e s q =

@@ -1,5 +1,7 @@
 // The call look: the issue number, the leading writers and the own row of a version, read in a
 // buffer, and how it stands against the master's.
+#![tactic(auto)]
+
 mod row;
 
 ghost use Rattle.std.specs.Prelude.{◌≡◌, ◌≤◌, ◌<◌, length};
@@ -27,14 +29,14 @@ use words::wide;
 
 // The issue number, the mask of leading writers, where the own row's counts begin and how many
 // they are, and the standing; or the number of the cause for which a look is refused.
-#[derive(Drop)]
+#[derive(Clone, Copy)]
 pub enum Looked {
     Done(IssueNumber, u32, usize, usize, Standing),
     Refused(u32),
 }
 
 // The kinds of places that a look names.
-#[derive(Drop)]
+#[derive(Clone, Copy)]
 pub struct PlaceKinds {}
 
 impl PlaceKinds {
@@ -43,7 +45,7 @@ impl PlaceKinds {
 
     // It is that of the definitions.
     pub fn counted()
-        ensures* { do ⌜ (← (⟦PlaceKinds::COUNT⟧).entry) ≡ place_kinds ⌝ }
+        ensures { PlaceKinds.COUNT ≡ place_kinds }
     {}
 }
 
@@ -61,7 +63,7 @@ fn limit(z: Counts, place: u32) -> usize
 }
 
 // Where place i of the kind begins: of a run, the snapshot of branch 0.
-fn place_at_lem(z: Counts, place: u32, i: usize) -> usize
+fn place_at(z: Counts, place: u32, i: usize) -> usize
     requires ranged { Ranged z }
     requires i_bound { i < look_limit z place }
     ensures { result ≡ place_at z place i }
@@ -89,7 +91,7 @@ fn cause(words: &[u32], z: Counts, place: u32, i: usize, k: usize) -> u32
     if z.keys <= k {
         return 3;
     }
-    let at = place_at_lem(z, place, i);
+    let at = place_at(z, place, i);
     if !held(words, z, at, k) {
         return 8;
     }
@@ -111,7 +113,7 @@ pub fn look(words: &[u32], place: u32, number: u32, key: u32) -> Looked
     if no != 0 {
         return Looked::Refused(no);
     }
-    let at = place_at_lem(z, place, i);
+    let at = place_at(z, place, i);
     let version = z.key_at(at, k);
     let issue = version_issue(words, version);
     let leaders = leaders_of(words, z, at, k);

@@ -1,4 +1,6 @@
 // Masks of items below 32: bit k stands for item k.
+#![tactic(auto)]
+
 ghost use Rattle.std.specs.Prelude.{◌≡◌, ◌≤◌, ◌<◌};
 ghost use Rattle.words.specs.Numbers.{when, count_below};
 ghost use Rattle.masks.specs.Mask.{test_bit, with_bit, with_if, without};

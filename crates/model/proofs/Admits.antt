@@ -153,7 +153,8 @@ module _ (s : Store) where
       let rows = every_past s (master_covers s) in
       let counts = every_past s (counts_within s) in
       let numbers = every_version s (number_within s) in
-      let cuts = and_left (causal_cuts s) (overlapping_cuts s && (rows && (counts && numbers))) h in
+      let cuts = and_left (causal_cuts s) (overlapping_cuts s && (rows && (counts && numbers))) h
+      in
       let h₂ = and_right (causal_cuts s) (overlapping_cuts s && (rows && (counts && numbers))) h in
       let h₃ = and_right (overlapping_cuts s) (rows && (counts && numbers)) h₂ in
       let h₄ = and_right rows (counts && numbers) h₃ in

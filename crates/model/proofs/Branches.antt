@@ -15,7 +15,7 @@ use Rattle.masks.specs.Mask.{test_bit}
 use Rattle.masks.proofs.Bits.{test-none}
 use Rattle.sizes.specs.declared.Counts.{Counts}
 use Rattle.model.specs.Algebra.{implies}
-use Rattle.model.specs.Version.{unheld, held}
+use Rattle.model.specs.Version.{held}
 use Rattle.model.specs.Store.{Job, Branch, Run, forked_mark, joined_mark, branch_of, no_branch, planned}
 use Rattle.model.specs.Form.{zero_version, version_formed, place_formed, zero_branch, mark_formed, snapshot_formed}
 use Rattle.model.specs.Calls.Admit.{each_branch}

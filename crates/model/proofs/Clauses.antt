@@ -105,7 +105,8 @@ pub record Versions : Type 0 where
 
 abbrev free-jobs : List Bool
 free-jobs =
-    tells free_run (run 0 1 0 0 no_jobs empty_place) ∷ tells free_run (run 0 0 1 0 no_jobs empty_place)
+    tells free_run (run 0 1 0 0 no_jobs empty_place) ∷ tells free_run (run 0 0 1 0 no_jobs
+    empty_place)
     ∷ tells free_run (run 0 0 0 1 no_jobs empty_place)
     ∷ tells free_run (run 0 0 0 0 (put_at no_jobs 0 (job 1 0 0)) empty_place)
     ∷ tells free_run (run 0 0 0 0 (put_at no_jobs 0 (job 0 1 0)) empty_place)
@@ -122,7 +123,8 @@ free-card =
 abbrev free-second : List Bool
 free-second =
     map (λ a. tells free_run a)
-    (lined free_run 1 0 empty_place ∷ lined free_run 2 0 empty_place ∷ lined free_run 0 1 empty_place
+    (lined free_run 1 0 empty_place ∷ lined free_run 2 0 empty_place ∷ lined free_run 0 1
+    empty_place
     ∷ lined free_run 0 0 card_1
     ∷ lined free_run 0 0 (place (led 0 0 ([] ∷ (0 ∷ 1 ∷ []) ∷ []) ∷ []))
     ∷ lined free_run 0 0 (place (unheld ∷ led 1 0 [] ∷ [])) ∷ [])
@@ -136,7 +138,8 @@ state =
 
 abbrev number : List Bool
 number =
-    tells (jobbed 1 0 no_job) (jobbed 0 0 no_job) ∷ tells (jobbed 8 0 no_job) (jobbed 9 0 no_job) ∷ []
+    tells (jobbed 1 0 no_job) (jobbed 0 0 no_job) ∷ tells (jobbed 8 0 no_job) (jobbed 9 0 no_job)
+    ∷ []
 
 abbrev beyond : List Bool
 beyond =
@@ -205,9 +208,12 @@ pub record Clauses : Type 0 where
   pub of-round : rounds ≡ true ∷ true ∷ false ∷ []
 
 pub clauses : Clauses
-unfolding any_below all_below put_at test_bit with_bit with_if mask_below present between held fresh
-    planned done_reads with_master with_sites with_cache with_run with_tail_of zero_rows zero_version
-    leaders_formed version_formed place_formed valid_job zero_job zero_branch free_formed jobs_formed
+unfolding any_below all_below put_at test_bit with_bit with_if mask_below present between held
+    fresh
+    planned done_reads with_master with_sites with_cache with_run with_tail_of zero_rows
+    zero_version
+    leaders_formed version_formed place_formed valid_job zero_job zero_branch free_formed
+    jobs_formed
     masks_formed mark_formed snapshot_formed branches_formed run_formed site_formed rights_formed
     tail_formed barred well_formed is_stale stale_mask site_with exceeds standing when count_below
     held_count over

@@ -128,24 +128,32 @@ pub record Computed : Type 0 where
 
 pub computed : Computed
 unfolding needs_met causal_cut overlapping_cut concurrent done_reads zero_rows zero_version
-    leaders_formed version_formed place_formed zero_job zero_branch free_formed jobs_formed masks_formed
+    leaders_formed version_formed place_formed zero_job zero_branch free_formed jobs_formed
+    masks_formed
     mark_formed snapshot_formed branches_formed run_formed site_formed rights_formed tail_formed
     well_formed is_stale stale_mask site_with with_marks stale_cause stale_reply when count_below
-    held_count over any_over any_below all_below only fold_below put_at upto blocks test_bit with_bit
+    held_count over any_over any_below all_below only fold_below put_at upto blocks test_bit
+    with_bit
     with_if mask_below closure rounds round exceeds standing dominates present join between
-    lacking held dependency supersedes leads_on merged_leaders larger merge draws draw_set fetch_set
+    lacking held dependency supersedes leads_on merged_leaders larger merge draws draw_set
+    fetch_set
     fetched unfetchable evict_set evicted pull_set pulled fresh planned with_master with_last
     with_sites with_cache with_caches with_writer with_run with_state with_snapshot with_job_done
     with_tail_of valid_job answer refuse unless allowed run_cause fetch_cause fetch_done fetch_rule
     evict_cause evict_done evict_rule listed_job listed_count listed_jobs list_valid open_cause
-    opened_run open_done open_rule drop_cause drop_done drop_rule job_start fetch_reads prepared_caches
+    opened_run open_done open_rule drop_cause drop_done drop_rule job_start fetch_reads
+    prepared_caches
     unpreparable uses_site sites_merged site_caches unentitled prepare_cause prepare_caches
-    prepare_snapshot prepare_done prepare_rule read_start step_site step_reads step_start step_fetch
+    prepare_snapshot prepare_done prepare_rule read_start step_site step_reads step_start
+    step_fetch
     step_cache step_plan step_pull step_snapshot step_moved step_barred barred job_limit not_ready
-    off_branch job_cause step_cause step_broken step_done step_rule_of raise_cause issue_cause taken_in
-    rows_set new_past new_version issued_master issued_writer saved_store issued_store issued_number
+    off_branch job_cause step_cause step_broken step_done step_rule_of raise_cause issue_cause
+    taken_in
+    rows_set new_past new_version issued_master issued_writer saved_store issued_store
+    issued_number
     issue_done issue_rule look_place look_limit look_cause row_numbers look_standing look_numbers
-    look_reply explain_start explain_edge explain_goal explain_path breaks explain_reply lowest near
+    look_reply explain_start explain_edge explain_goal explain_path breaks explain_reply lowest
+    near
     distance nearest path_by shortest_path replied reply_of rule_of
 computed = record {
   ten = refl;

@@ -18,7 +18,8 @@ implies-out true b p q = p
 implies-out false b p q = clash q refl
 
 module _ {A : Type 0} (alg : Algebra A) (K : ℕ) where
-  pub needs_met-at : (S : Items) (p : Place A) → So (needs_met alg K S p) → (k d : ℕ) → k < K → d < K
+  pub needs_met-at : (S : Items) (p : Place A) → So (needs_met alg K S p) → (k d : ℕ) → k < K → d
+      < K
       → So (S k) → So (S d) → So (alg.held (p k)) → So (alg.needs k (p k) d)
       → So (alg.meets d (p d) (p k))
   unfolding needs_met

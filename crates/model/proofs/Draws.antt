@@ -90,7 +90,8 @@ module _ {A : Type 0} (alg : Algebra A) (K : ℕ) where
   -- The mask of one by what is below K.
   pub drawn-same : (scope : Items) (target p q : Place A) (a b : Items)
       → ((k : ℕ) → k < K → p k ≡ q k) → ((k : ℕ) → k < K → a k ≡ b k)
-      → mask_below K (draw_set alg K scope target p a) ≡ mask_below K (draw_set alg K scope target q b)
+      → mask_below K (draw_set alg K scope target p a) ≡ mask_below K (draw_set alg K scope target
+      q b)
   unfolding draw_set draws
   drawn-same scope target p q a b f g =
       mask-same K (draw_set alg K scope target p a) (draw_set alg K scope target q b)

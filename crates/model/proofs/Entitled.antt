@@ -136,7 +136,8 @@ module _ (s : Store) (o m : ℕ) (u : Unbarred s.counts m (s.site o).cache) wher
   pub mayhold-mask-only : Formed s → o < s.counts.sites
       → ((k : ℕ) → s.counts.keys ≤ k → held (cache k) ≡ false)
       → mayhold_done s o m ≡ done (0 ∷ []) (with_may_hold s o m)
-  unfolding mayhold_done with_cache site_with with_sites with_tail_of mayhold_cache evicted evict_set
+  unfolding mayhold_done with_cache site_with with_sites with_tail_of mayhold_cache evicted
+      evict_set
       taken_away
   mayhold-mask-only F l b =
       let none-at : start ≡ none = fun_ext (λ k.

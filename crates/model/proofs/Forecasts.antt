@@ -39,7 +39,8 @@ unfolding blocks
 undone-end finished n j h = let e : n - j ≡ 0 = omega arith in rw e
 
 module _ (finished n j : ℕ) (h : j < n) where
-  pub undone-more : undone_from finished n j ≡ undone_at finished j ++ undone_from finished n (j + 1)
+  pub undone-more : undone_from finished n j ≡ undone_at finished j ++ undone_from finished n (j +
+      1)
   unfolding blocks
   undone-more =
       let e : n - j ≡ suc (n - (j + 1)) = omega arith in
@@ -92,7 +93,10 @@ walk_end r s = refl
 module _ (r j : ℕ) (js : List ℕ) (s : Store) where
   -- By what the step of the first job comes to.
   pub walk-head {ℓ} : (P : Walked → Type ℓ)
-      → (step_cause s r j 0 ≢ 0 → P (record { ended = turned_at j (step_cause s r j 0); store = s }))
+      → (step_cause s r j 0 ≢ 0 → P (record {
+        ended = turned_at j (step_cause s r j 0);
+        store = s;
+      }))
       → (step_cause s r j 0 ≡ 0
       → P (record { ended = breaks_at j (step_mask s r j 0); store = broken_store s r }))
       → (step_cause s r j 0 ≡ 0 → P (walk r js (stepped_store s r j 0)))

@@ -7,7 +7,7 @@ use Prim.Native.Nat.{ℕ, ◌≤◌, ◌<◌}
 use Rattle.words.specs.Lists.{put_at}
 use Rattle.words.proofs.Lists.{put_at_cases}
 use Rattle.model.specs.Algebra.{Place}
-use Rattle.model.specs.Version.{Version, held}
+use Rattle.model.specs.Version.{Version}
 use Rattle.model.specs.Tail.{Tail}
 use Rattle.model.specs.Store.{Writer, Run, Site, Store, site_allowed, site_with, with_last, with_marks, with_master, with_sites, with_site, with_cache, with_caches, with_writer, with_run, with_tail_of}
 use Rattle.model.specs.Form.{run_formed}

@@ -73,7 +73,8 @@ pub record Joining : Type 0 where
   pub apart : moves 2 1 (branch 1 (new ∷ [])) (branch 2 (unheld ∷ beside ∷ [])) ≡ 0 ∷ 0 ∷ []
 
 pub joining : Joining
-unfolding any_below all_below test_bit with_bit with_if mask_below exceeds standing dominates join held
+unfolding any_below all_below test_bit with_bit with_if mask_below exceeds standing dominates join
+    held
     leads_on merged_leaders larger merge same_version stays stays_other moved_keys moved_set keeps
     stays_by_of stays_other_by moved_by_lem
 joining = record {

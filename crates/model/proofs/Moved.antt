@@ -1,7 +1,7 @@
 -- Laws of the keys that a join moves (CR 10).
 -- moved_none, moved-equal: nothing has moved exactly if each key read on a line stays the version
--- that was read there. moved_by_lem, moved-key, moved-test: the same without merges. moved-lt, -item,
--- -read: its keys.
+-- that was read there. moved_by_lem, moved-key, moved-test: the same without merges. moved-lt,
+-- -item, -read: its keys.
 -- Assumes nothing.
 use mathlib.Core.Path.{◌≡◌, refl, sym, ap, ap₂, ◌∙◌}
 use mathlib.Core.Bool.{Bool, true, false, not, ◌&&◌, ◌||◌, So}
@@ -89,7 +89,8 @@ module _ (z : Counts) (x y : Branch) where
   pub moved_none : (moved_set z x y ≡ 0) ↔ ((k : ℕ) → k < K → Stay k)
   unfolding moved_set
   moved_none = (
-    λ e k h. (stay-not k).0 (sym (moved_item k h) ∙ (ap (λ (m : ℕ). test_bit m k) e ∙ test-none k)),
+    λ e k h. (stay-not k).0 (sym (moved_item k h) ∙
+        (ap (λ (m : ℕ). test_bit m k) e ∙ test-none k)),
     λ f. mask-no K (moved_keys z x y) (λ k h. (stay-not k).1 (f k h)),
   )
 

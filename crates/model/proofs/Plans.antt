@@ -4,24 +4,21 @@
 -- branch and its card. read-planned: what is read is in the plan.
 -- state-low: its state.
 -- Assumes nothing.
-use mathlib.Core.Path.{◌≡◌, refl, ap}
-use mathlib.Core.Bool.{Bool, false, cond, not, So, ◌&&◌}
+use mathlib.Core.Path.{◌≡◌, refl}
+use mathlib.Core.Bool.{Bool, cond, So, ◌&&◌}
 use mathlib.Core.Logic.{⊎_elim}
 use Prim.Native.Nat.{ℕ, ◌≤◌, ◌<◌, ◌^◌}
 use native.Mathlib.Omega.{arith}
 use lib.Bits.{bit_or}
 use lib.Dec.{eqb, leb, ltb}
 use Rattle.words.specs.Tests.{all_below}
-use Rattle.words.proofs.Bools.{test, clash, ◌∙˙◌, and_intro, and_left, and_right, not_elim, leb-le, le-leb, ltb-lt, lt-ltb, ge-ltb, eqb-eq, eq-eqb, eqb-ne, ne_eqb}
+use Rattle.words.proofs.Bools.{test, and_intro, and_left, and_right, leb-le, le-leb, ltb-lt, lt-ltb, ge-ltb, eqb-eq, eq-eqb, eqb-ne, ne_eqb}
 use Rattle.words.proofs.Tests.{below_or_not, all-intro, all-at}
 use Rattle.masks.specs.Mask.{test_bit, mask_below}
-use Rattle.masks.proofs.Bits.{test-none}
 use Rattle.sizes.specs.declared.Counts.{Counts}
 use Rattle.sizes.specs.Bounds.{between}
 use Rattle.sizes.specs.Runs.{max_jobs}
 use Rattle.sizes.proofs.Offsets.{between-out, between_in}
-use Rattle.model.specs.Algebra.{Place, implies}
-use Rattle.model.specs.Version.{Version, unheld, held}
 use Rattle.model.specs.Store.{Job, Run, branch_of, free_run, no_job, planned, done_reads}
 use Rattle.model.specs.Form.{valid_job, zero_job, zero_branch, free_formed, jobs_formed, masks_formed, mark_formed, snapshot_formed, branches_formed, run_formed}
 use Rattle.model.proofs.FormedPlaces.{PlaceFormed}
@@ -69,7 +66,8 @@ unfolding jobs_formed
 jobs-out z a p =
     let b = between max_jobs a.jobs in
     let range = between-out max_jobs a.jobs (and_left b (all_below max_jobs (job_test z a)) p) in
-    let each = all-at max_jobs (job_test z a) (and_right b (all_below max_jobs (job_test z a)) p) in
+    let each = all-at max_jobs (job_test z a) (and_right b (all_below max_jobs (job_test z a)) p)
+    in
     record {
       low = range.0;
       high = range.1;

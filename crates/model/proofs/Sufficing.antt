@@ -5,7 +5,7 @@
 use mathlib.Core.Bool.{So}
 use Prim.Native.Nat.{ℕ, ◌≤◌, ◌<◌}
 use native.Mathlib.Omega.{arith}
-use Rattle.words.proofs.Bools.{test, clash}
+use Rattle.words.proofs.Bools.{test}
 use Rattle.clock.specs.Clock.{Clock, present}
 use Rattle.clock.proofs.Order.{dominates-trans, present-mono, present-some}
 use Rattle.sizes.specs.Runs.{max_jobs}

@@ -50,7 +50,8 @@ uses_site n job o = any_below n (λ j. eqb (job j).site o)
 
 -- "the merge, over the jobs' offices (lowest number first, each once), of their shelves cut down
 -- to the plan's sheets"
-unfoldable pub sites_merged : {A : Type 0} → Algebra A → ℕ → Items → Items → (ℕ → Place A) → Place A
+unfoldable pub sites_merged : {A : Type 0} → Algebra A → ℕ → Items → Items → (ℕ → Place A) → Place
+    A
 sites_merged alg N sites plan cache k =
     fold_below N (λ o a. cond (sites o && plan k) (alg.merge k a (cache o k)) a) alg.nothing
 

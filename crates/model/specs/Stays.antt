@@ -1,7 +1,9 @@
 -- Whether a merge leaves a version as it was read (CR 10, joining).
--- same_version: equal in all their words. stays, stays_other: the merge of two versions is the one,
+-- same_version: equal in all their words. stays, stays_other: the merge of two versions is the
+-- one,
 -- or the other. moved_keys, moved_set: the keys read on a line whose version the merge changes.
--- leaders_merged, keeps, stays_by_of, stays_other_by: the same, told from both versions without their
+-- leaders_merged, keeps, stays_by_of, stays_other_by: the same, told from both versions without
+-- their
 -- merge, for what is held or in form (`proofs/Stays`: stays-test, stays-formed, stays-other).
 -- Assumes nothing.
 use Rattle.std.specs.Prelude.{Bool, not, ◌&&◌, ◌||◌, ℕ, eqb, leb}

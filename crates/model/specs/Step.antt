@@ -1,8 +1,8 @@
 -- Step: a job reads its keys, on a branch ("line") of its run, from the snapshot ("card"), its
 -- site's cache or the master.
 -- step_branch (read mask and card), step_reads (R), step_start (what is fetched), step_cache (the
--- cache after the fetch), step_pull (C), step_moved. job_limit, off_branch, not_ready, job_cause: the
--- causes that the run decides alone.
+-- cache after the fetch), step_pull (C), step_moved. job_limit, off_branch, not_ready, job_cause:
+-- the causes that the run decides alone.
 -- Assumes nothing.
 use Rattle.std.specs.Prelude.{Bool, cond, not, ◌&&◌, ◌||◌, [], ◌∷◌, ℕ, eqb, leb}
 use Rattle.std.specs.Int.Bits.{bit_or}
@@ -28,7 +28,8 @@ job_limit state jobs = cond (eqb state free_state) max_jobs jobs
 -- "job done, or an upstream job not done", by a done mask and the job's upstream mask.
 unfoldable pub not_ready : ℕ → ℕ → ℕ → Bool
 not_ready finished upstream j =
-    test_bit finished j || any_below max_jobs (λ i. test_bit upstream i && not (test_bit finished i))
+    test_bit finished j || any_below max_jobs (λ i. test_bit upstream i && not
+    (test_bit finished i))
 
 -- CR 10: "line 1 on a run not forked, or a line above 1", by the run's mark.
 unfoldable pub off_branch : ℕ → ℕ → Bool

@@ -1,1 +1,2 @@
 // The model of document 01: definitions only, in specs/.
+#![tactic(auto)]

@@ -1,5 +1,7 @@
 // Issue numbers: a type of their own, so that none is taken for a writer's count. Only this crate
 // takes one out of a word or puts one into it.
+#![tactic(auto)]
+
 ghost use Rattle.std.specs.Prelude.{◌≡◌, ◌≤◌, ◌<◌, max, eqb, leb, ltb, length, get_or, set};
 ghost use Rattle.clock.specs.Count.{max_word};
 ghost use Rattle.sizes.specs.Bounds.{header_size, last_offset};
@@ -10,11 +12,11 @@ use sizes::header::HeaderOffset;
 use words::larger;
 
 // The number of an issue; 0 where nothing is held.
-#[derive(Drop)]
+#[derive(Clone, Copy)]
 pub struct IssueNumber(u32);
 
 // What an issue raises: the last issue number and its writer's count.
-#[derive(Drop)]
+#[derive(Clone, Copy)]
 pub struct Tally {
     pub issue: IssueNumber,
     pub count: WriterCount,

@@ -17,7 +17,8 @@ pub data Enters (c : StoreCall) (b g : Book) : Type 0 where
       → g.history ≡ entry r w S b ∷ b.history → Enters c b g
 
 pub rule_enters : (c : StoreCall) (b : Book) → Enters c b (book_rule c b)
-unfolding book_rule book_open book_fetch book_evict book_mayhold book_prepare book_step_job book_issued
+unfolding book_rule book_open book_fetch book_evict book_mayhold book_prepare book_step_job
+    book_issued
     book_issue book_fork book_join with_book_caches with_book_run
 rule_enters (open_run r l) b = nothing refl refl
 rule_enters (fetch o k) b = nothing refl refl

@@ -110,7 +110,8 @@ pub record Computed : Type 0 where
   pub case_a : record_at (follow (case_before ++ (case_issue ∷ [])) case_new) ≡ case_record
   pub case_second : length (follow case_before case_new).book.history ≡ 1
   pub case_counts : (store_of (follow case_before case_new).buffer).counts ≡ counts_of 2 2 2 1
-  pub case_goes : So (goes_on_of case_later (advance case_issue (follow case_before case_new)).buffer)
+  pub case_goes : So (goes_on_of case_later (advance case_issue
+      (follow case_before case_new)).buffer)
   pub later : record_at (follow case_later (advance case_issue (follow case_before case_new)))
       ≡ later_record
   pub anew-begun : So (is_ok_of (new_on case_words (counts_of 1 1 1 1)))
@@ -119,31 +120,52 @@ pub record Computed : Type 0 where
   pub lines : record_at (follow lines-calls lines_new) ≡ lines_record
 
 pub computed : Computed
-unfolding any_below all_below only fold_below put_at upto blocks test_bit with_bit with_if mask_below
+unfolding any_below all_below only fold_below put_at upto blocks test_bit with_bit with_if
+    mask_below
     closure rounds round exceeds standing dominates present join between ranged past_size
-    version_size place_size site_size writer_size run_size master_at sites_at writers_at runs_at tail_size
+    version_size place_size site_size writer_size run_size master_at sites_at writers_at runs_at
+    tail_size
     tail_at total_of lacking held dependency supersedes leads_on merged_leaders larger merge
-    draws draw_set fetch_set fetched unfetchable pull_set pulled fresh planned done_reads with_master
-    with_last with_sites with_cache with_caches with_writer with_run with_state with_job_done zero_rows
-    zero_version leaders_formed version_formed place_formed valid_job zero_job free_formed jobs_formed
-    rights_formed tail_formed masks_words read_masks zero_branch masks_formed mark_formed snapshot_formed
-    branches_formed run_formed site_formed well_formed when count_below largest held_count over is_stale
+    draws draw_set fetch_set fetched unfetchable pull_set pulled fresh planned done_reads
+    with_master
+    with_last with_sites with_cache with_caches with_writer with_run with_state with_job_done
+    zero_rows
+    zero_version leaders_formed version_formed place_formed valid_job zero_job free_formed
+    jobs_formed
+    rights_formed tail_formed masks_words read_masks zero_branch masks_formed mark_formed
+    snapshot_formed
+    branches_formed run_formed site_formed well_formed when count_below largest held_count over
+    is_stale
     stale_mask site_with with_marks refuse unless allowed run_cause barred step_barred fetch_cause
-    fetch_done fetch_rule listed_job listed_count listed_jobs list_valid open_cause opened_run open_done
+    fetch_done fetch_rule listed_job listed_count listed_jobs list_valid open_cause opened_run
+    open_done
     open_rule read_start step_site step_reads step_start step_fetch step_cache step_plan step_pull
-    step_snapshot step_moved job_limit off_branch not_ready job_cause step_cause step_broken step_done
-    step_rule_of raise_cause issue_cause taken_in rows_set new_past new_version issued_master issued_writer
-    saved_store issued_store issued_number issue_done issue_rule same_version stays stays_other moved_keys
-    moved_set forked_run fork_cause fork_done fork_rule_of joined_place joined_branch joined_run join_moved
-    join_cause join_done join_broken join_rule_of rule_of clock_words past_words version_words place_words
-    site_words sites_words writer_words writers_words job_words jobs_words run_words runs_words tail_words
-    header_words store_words read_clock read_past_of read_version read_place read_site read_writer read_job
-    read_jobs read_run read_tail_of counts_in store_of written header_right shaped in_form new_cause new_on
-    on_store call_on leaves is_new is_ok_of writer_of leads in_past reaches held_copy needs_copy meets_copy
-    union last_in by_writer held_book merge_book needs_book meets_book read_copy writer_list list_of
-    fresh_book with_book_caches with_book_run book_open book_fetch book_step_job book_fork book_join entry
-    book_issue book_issued book_rule book_ok book_step start advance follow own_row had_read number_of
-    reads_up_to row_words read_words keys_words issues_words reads_words head_words record_of_at record_at
+    step_snapshot step_moved job_limit off_branch not_ready job_cause step_cause step_broken
+    step_done
+    step_rule_of raise_cause issue_cause taken_in rows_set new_past new_version issued_master
+    issued_writer
+    saved_store issued_store issued_number issue_done issue_rule same_version stays stays_other
+    moved_keys
+    moved_set forked_run fork_cause fork_done fork_rule_of joined_place joined_branch joined_run
+    join_moved
+    join_cause join_done join_broken join_rule_of rule_of clock_words past_words version_words
+    place_words
+    site_words sites_words writer_words writers_words job_words jobs_words run_words runs_words
+    tail_words
+    header_words store_words read_clock read_past_of read_version read_place read_site read_writer
+    read_job
+    read_jobs read_run read_tail_of counts_in store_of written header_right shaped in_form
+    new_cause new_on
+    on_store call_on leaves is_new is_ok_of writer_of leads in_past reaches held_copy needs_copy
+    meets_copy
+    union last_in by_writer held_book merge_book needs_book meets_book read_copy writer_list
+    list_of
+    fresh_book with_book_caches with_book_run book_open book_fetch book_step_job book_fork
+    book_join entry
+    book_issue book_issued book_rule book_ok book_step start advance follow own_row had_read
+    number_of
+    reads_up_to row_words read_words keys_words issues_words reads_words head_words record_of_at
+    record_at
     goes_on_of
 computed = record {
   case_begun = refl;

@@ -1,7 +1,7 @@
 -- The records of the histories that the desk made from new (CR 14), for every list of calls.
 -- record_at: the record at a point. OwnAccepted: the checker accepts it. OwnHeader: its counts.
--- goes_on_of: no new is accepted. WrittenDown: an issue as a client can write it down. OwnWritten: so
--- it stands in the record from then on.
+-- goes_on_of: no new is accepted. WrittenDown: an issue as a client can write it down.
+-- OwnWritten: so it stands in the record from then on.
 -- Assumes nothing.
 use Rattle.std.specs.Prelude.{◌≡◌, Bool, true, not, ◌&&◌, List, [], ◌∷◌, ◌++◌, ◌≢◌, ℕ, ◌<◌, length}
 use Rattle.std.proofs.Math.Bool.{So}

@@ -32,7 +32,8 @@ module _ (rows : List ℕ) (n goal : ℕ) where
       ≡ nearest n (leads_by rows) (test_bit goal) k (test_bit from)
   unfolding nearest layer
   going_item k from = lowest-same n _ _ (λ i l. test-and from _ i
-      ∙ ap (λ b. test_bit from i && b) (test-mask n (near n (leads_by rows) (test_bit goal) k) i l))
+      ∙ ap (λ b. test_bit from i && b) (test-mask n (near n (leads_by rows) (test_bit goal) k) i
+      l))
 
   pub going_low : (p : List ℕ) (i k from : ℕ) → Going p i k from
       → nearest n (leads_by rows) (test_bit goal) k (test_bit from) < n

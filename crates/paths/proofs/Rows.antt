@@ -25,7 +25,8 @@ pub and-meets : (n a b : ℕ) → b < 2 ^ n
 and-meets n a b h =
     ap not (mask-none n (bit_and a b) (omega (arith, and_le_r a b)))
     ∙ not-not (any_below n (test_bit (bit_and a b)))
-    ∙ any_same n (test_bit (bit_and a b)) (λ d. test_bit a d && test_bit b d) (λ i _. test-and a b i)
+    ∙ any_same n (test_bit (bit_and a b)) (λ d. test_bit a d && test_bit b d) (λ i _. test-and a b
+    i)
 
 -- Item k leads to one of the mask.
 pub near-one : (rows : List ℕ) (n mask k : ℕ) → mask < 2 ^ n

@@ -1,5 +1,7 @@
 // The shortest path from a start to a goal, of items below 32: row t is the mask of the items to
 // which item t leads.
+#![tactic(auto)]
+
 ghost use Rattle.std.specs.Prelude.{◌≡◌, not, ◌<◌, ◌≤◌, ◌^◌, eqb, length, get_or};
 ghost use Rattle.std.proofs.Math.Bool.{So};
 ghost use Rattle.std.specs.Int.Bits.{bit_and};
@@ -12,7 +14,7 @@ ghost use Rattle.paths.specs.Rows.{leads_by, RowsOf, LayersOf, layer, no_items_o
 use masks::{has, with_if};
 
 // The items of a path, from the first on, and how many they are. Behind them stand zeros.
-#[derive(Drop)]
+#[derive(Clone, Copy)]
 pub struct ItemPath {
     pub count: usize,
     pub items: [u32; 32],

@@ -22,7 +22,6 @@ use Rattle.layout.specs.Reading.{counts_in, store_of}
 use Rattle.layout.specs.Buffer.{in_form}
 use Rattle.layout.specs.Calls.{on, call_on, leaves}
 use Rattle.layout.proofs.Follow.{form-fine}
-use Rattle.layout.proofs.Kept.{Kept}
 use Rattle.layout.proofs.Rules.{rule_kept}
 use Rattle.layout.proofs.Forms.{form_rule, form-kept, left-store}
 use Rattle.layout.proofs.Readings.{counts_in_lem}
@@ -51,7 +50,8 @@ module _ (l : List ℕ) (F : So (in_form l)) where
 
   -- A call that leaves the round leaves the turns up to r.
   stays : (c : StoreCall) (r : ℕ) → let s = store_of l in
-      (next_store (rule_of c s) s).tail.round ≡ s.tail.round → turns_to r (after c l) ≡ turns_to r l
+      (next_store (rule_of c s) s).tail.round ≡ s.tail.round → turns_to r (after c l) ≡ turns_to r
+      l
   stays c r e = rw (same_runs c, left-store c l F, e)
 
   -- A pick answers r, or brings it nearer.

@@ -10,7 +10,6 @@ use mathlib.Core.List.{List, [], ◌∷◌}
 use Prim.Native.Nat.{ℕ, ◌≤◌, ◌<◌}
 use native.Mathlib.Decide.{dec_lt}
 use native.Mathlib.Omega.{arith}
-use lib.Dec.{ltb}
 use lib.ListN.{length, get_or, set}
 use Rattle.words.specs.Tests.{Items}
 use Rattle.words.specs.Turns.{turn}
@@ -18,13 +17,13 @@ use Rattle.words.proofs.Bools.{lt-ltb, ge-ltb}
 use Rattle.words.proofs.Firsts.{first-top}
 use Rattle.sizes.specs.declared.Counts.{Counts}
 use Rattle.sizes.specs.Bounds.{round_at_of}
-use Rattle.model.specs.Store.{Store, with_round}
+use Rattle.model.specs.Store.{Store}
 use Rattle.model.specs.Outcome.{told, answer}
 use Rattle.model.specs.Calls.{pick, rule_of}
 use Rattle.model.specs.Calls.Pick.{nothing_word, waiting, ready_job, pick_turn, picked_run, pick_done, pick_rule}
 use Rattle.model.proofs.Formed.{well-out}
 use Rattle.layout.specs.Reading.{store_of}
-use Rattle.layout.specs.Buffer.{written, in_form}
+use Rattle.layout.specs.Buffer.{in_form}
 use Rattle.layout.specs.Calls.{on, call_on, leaves}
 use Rattle.layout.proofs.Follow.{form-fine}
 use Rattle.layout.proofs.Forms.{form_rule}
@@ -126,5 +125,6 @@ module _ (l : List ℕ) where
         ∙ picked-job s (omega (arith, t, ap (λ (z : Counts). z.runs) c))
         ∙ ap (pick_done s) (sym run))
         (ap (λ (k : ℕ). 0 ∷ r ∷ k ∷ []) ej)
-        (em ∙ rw (← c) (ap (λ (w : List ℕ). set w (round_at_of s.counts) r) (sym (form-again l z H))
+        (em ∙ rw (← c) (ap (λ (w : List ℕ). set w (round_at_of s.counts) r) (sym
+        (form-again l z H))
         ∙ put-round s l r))

@@ -26,9 +26,12 @@ Leaves s x = (next_store x s).tail.round ≡ s.tail.round
 
 -- A pick, or a call that leaves the round.
 pub rule_round : (c : StoreCall) (s : Store) → (c ≡ pick) ⊎ Leaves s (rule_of c s)
-unfolding rule_of open_rule open_done fetch_rule fetch_done evict_rule evict_done prepare_rule prepare_done
-    step_rule_of step_broken step_done issue_rule issue_done issued_store saved_store drop_rule drop_done
-    allow_rule allow_done with_master with_last with_sites with_cache with_caches with_marks with_writer
+unfolding rule_of open_rule open_done fetch_rule fetch_done evict_rule evict_done prepare_rule
+    prepare_done
+    step_rule_of step_broken step_done issue_rule issue_done issued_store saved_store drop_rule
+    drop_done
+    allow_rule allow_done with_master with_last with_sites with_cache with_caches with_marks
+    with_writer
     with_run mayhold_rule mayhold_done maysave_rule with_tail_of
     fork_rule_of fork_done join_rule_of join_broken join_done
 rule_round (open_run r l) s =

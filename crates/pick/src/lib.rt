@@ -1,5 +1,7 @@
 // Pick: the next job, of the first run that waits, going round the runs from the one after the
 // last picked.
+#![tactic(auto)]
+
 pub mod ready;
 
 ghost use Rattle.std.specs.Prelude.{◌≡◌, ◌≤◌, ◌<◌, length, set};
@@ -24,7 +26,7 @@ use sizes::Counts;
 use words::wide;
 
 // A run and the job of it that is next, or nothing to do.
-#[derive(Drop)]
+#[derive(Clone, Copy)]
 pub enum Picked {
     Job(u32, u32),
     Nothing,

@@ -54,13 +54,15 @@ after s f n o =
 
 no-sites : (s : Store) (f : ℕ → ℕ) → Fine s → taken_sites s f 0 ≡ s
 unfolding taken_sites with_caches with_sites
-no-sites s f F = ap (with_sites s) (fun_ext (λ o. rw (ge-ltb o 0 (omega arith)) (site-again s F o)))
+no-sites s f F = ap (with_sites s) (fun_ext (λ o. rw (ge-ltb o 0 (omega arith)) (site-again s F
+    o)))
 
 -- The store with the next cache.
 abbrev turned : Store → (ℕ → ℕ) → ℕ → Store
 turned t f n = with_cache t n (choice (test_bit (f n)) t.master (t.site n).cache)
 
-one_more : (s : Store) (f : ℕ → ℕ) (n : ℕ) → turned (taken_sites s f n) f n ≡ taken_sites s f (n + 1)
+one_more : (s : Store) (f : ℕ → ℕ) (n : ℕ) → turned (taken_sites s f n) f n ≡ taken_sites s f (n +
+    1)
 unfolding taken_sites with_cache with_caches with_sites site_with put_at
 one_more s f n =
     let own : after s f n n ≡ (s.site n).cache = rw (ge-ltb n n (omega arith)) in

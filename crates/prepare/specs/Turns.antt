@@ -1,7 +1,8 @@
 -- What the parts of prepare leave of a store, and what they ask of a buffer.
--- early_cause: the causes that the run decides. reads_at_of: what the jobs at a site read. taken_at_of: T
--- of a site. no_sets, set_of_at, SetsOf, Fitting: a mask for each site. taken_sites: the fetches of the
--- first n.
+-- early_cause: the causes that the run decides. reads_at_of: what the jobs at a site read.
+-- taken_at_of: T
+-- of a site. no_sets, set_of_at, SetsOf, Fitting: a mask for each site. taken_sites: the fetches
+-- of the first n.
 -- merged_sites, merged: the merge of the first n sites, of all. site_merged: of one, in words.
 -- MergeArea: a snapshot that the caches are merged into.
 -- Assumes nothing.

@@ -1,5 +1,7 @@
 // Prepare: what the jobs of a run read is fetched, and the snapshot becomes the merge of their
 // caches. Every cause is tested before a word is stored.
+#![tactic(auto)]
+
 pub mod fetches;
 pub mod merges;
 

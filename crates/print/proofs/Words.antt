@@ -3,9 +3,9 @@
 -- numbers from place i on, one by one. body-parts: an answer's text put in two parts; line-parts:
 -- its line.
 -- Assumes nothing.
-use mathlib.Core.Path.{◌≡◌, refl, sym}
+use mathlib.Core.Path.{◌≡◌, sym}
 use mathlib.Core.List.{List, [], ◌∷◌, ◌++◌, map, append_assoc, append-nil}
-use Prim.Native.Nat.{ℕ, zero, suc, ◌+◌, ◌-◌, ◌<◌, ◌≤◌}
+use Prim.Native.Nat.{ℕ, suc, ◌+◌, ◌-◌, ◌<◌, ◌≤◌}
 use native.Mathlib.Numerals.{add-one}
 use native.Mathlib.Omega.{arith}
 use lib.ListN.{length, get_or, drop, replicate, drop_of_length-le, get_or-map, get_or-eq_default}
@@ -32,7 +32,8 @@ pub no_word : (m : List ℕ) (t : ℕ) → length answer_words ≤ t → m ≡ m
 unfolding answer_word
 no_word m t h = rw (get_or-eq_default answer_words [] h, append-nil)
 
-pub numbers_more : (m r l : List ℕ) (i : ℕ) → i < length l → r ≡ m ++ (32 ∷ decimal_of (get_or l i 0))
+pub numbers_more : (m r l : List ℕ) (i : ℕ) → i < length l → r ≡ m ++ (32 ∷ decimal_of
+    (get_or l i 0))
     → r ++ numbers_text (drop (i + 1) l) ≡ m ++ numbers_text (drop i l)
 unfolding numbers_text
 numbers_more m r l i h e =
@@ -44,7 +45,8 @@ unfolding numbers_text
 numbers-end m l i h = rw (drop_of_length-le l h, append-nil)
 
 pub body-parts : (m l : List ℕ) {a r : List ℕ} → 0 < length l
-    → a ≡ m ++ answer_word (get_or l 0 0) → r ≡ a ++ numbers_text (drop 1 l) → r ≡ m ++ answer_body l
+    → a ≡ m ++ answer_word (get_or l 0 0) → r ≡ a ++ numbers_text (drop 1 l) → r ≡ m ++
+    answer_body l
 unfolding answer_body
 body-parts m [] h e f = absurd (omega arith)
 body-parts m (t ∷ ns) h e f = put_both m (answer_word t) (numbers_text ns) e f

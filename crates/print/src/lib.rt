@@ -1,11 +1,13 @@
 // An answer, in words, as a line of text.
+#![tactic(auto)]
+
 ghost use Rattle.std.specs.Prelude.{◌≡◌, ◌∷◌, ◌++◌, ◌+◌, ◌*◌, ◌≤◌, ◌<◌, length, take, drop};
 ghost use Rattle.answers.specs.Answers.{max_answer};
 ghost use Rattle.text.specs.Decimal.{decimal_of};
 ghost use Rattle.print.specs.Print.{line_room, body_room, answer_word, numbers_text, answer_body, answer_text, unread_text};
 
 // How much room a line of an answer needs.
-#[derive(Drop)]
+#[derive(Clone, Copy)]
 pub struct Line {}
 
 impl Line {
@@ -14,12 +16,12 @@ impl Line {
 
     // It is that of the definitions.
     pub fn rooms()
-        ensures* { do ⌜ (← (⟦Line::ROOM⟧).entry) ≡ line_room ⌝ }
+        ensures { Line.ROOM ≡ line_room }
     {}
 }
 
 // A word of up to 8 bytes, spaces behind it.
-#[derive(Drop)]
+#[derive(Clone, Copy)]
 struct Word {
     bytes: [u8; 8],
 }

@@ -1,18 +1,20 @@
 // The reads of a record (CR 14), handed out one after the other. `RecordReader` is document 01's
 // form, and its functions are few and thin: the work is in `read_at`, and callers that have the
 // words and an index take `read_from`.
+#![tactic(auto)]
+
 ghost use Rattle.std.specs.Prelude.{◌≡◌};
 ghost use Rattle.reader.specs.Reads.{read_from_of};
 
 // The words of a record, and the index of the next read.
-#[derive(Drop)]
+#[derive(Clone, Copy)]
 pub struct RecordReader<'a> {
     pub words: &'a [u32],
     pub at: usize,
 }
 
 // A read: its key, the index of its counts and that of the next read. Or the end of the words.
-#[derive(Drop)]
+#[derive(Clone, Copy)]
 pub enum Handed {
     Read(u32, usize, usize),
     End,

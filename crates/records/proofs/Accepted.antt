@@ -70,7 +70,8 @@ own-taken {b} (e ∷ h) s (another o w c) i l =
 -- "it accepts the record .. of any history our own desk made": what is asked of the words is that
 -- they carry it.
 pub own-accepted : (b : Record) (h : History) → Layout b → issues_in b ≡ length h
-    → reads_before b (issues_in b) ≡ reads_in_of b → Sound (keys_in b) (writers_in b) h → Carries b h
+    → reads_before b (issues_in b) ≡ reads_in_of b → Sound (keys_in b) (writers_in b) h → Carries
+    b h
     → audit_of b ≡ heard 0
 own-accepted b h y n q s c = (audit-accepts b).1 (R, λ i l. (snapshot-is R i l).0 (t i l).snapshot)
   where

@@ -5,7 +5,6 @@
 -- Assumes nothing.
 use mathlib.Core.Path.{◌≡◌, refl, sym, ap, ◌∙◌}
 use mathlib.Core.Bool.{false, not, So}
-use mathlib.Core.Logic.{◌↔◌}
 use mathlib.Core.List.{List}
 use Prim.Native.Nat.{ℕ, zero, suc, ◌≤◌, ◌<◌}
 use native.Mathlib.Omega.{arith}
@@ -29,11 +28,13 @@ use Rattle.records.proofs.Judging.{snapshot-is}
 
 -- ---- the first number that passes
 
-first_next : (n : ℕ) (p : Items) → first_below_of n p ≡ 0 → first_below_of (suc n) p ≡ when (p n) (suc n)
+first_next : (n : ℕ) (p : Items) → first_below_of n p ≡ 0 → first_below_of (suc n) p ≡ when (p n)
+    (suc n)
 unfolding first_below_of
 first_next n p e = rw (eq-eqb (first_below_of n p) 0 e)
 
-first-stays : (n : ℕ) (p : Items) → 1 ≤ first_below_of n p → first_below_of (suc n) p ≡ first_below_of n p
+first-stays : (n : ℕ) (p : Items) → 1 ≤ first_below_of n p → first_below_of (suc n) p ≡
+    first_below_of n p
 unfolding first_below_of
 first-stays n p h = rw (ne_eqb (first_below_of n p) 0 (λ e. omega arith))
 

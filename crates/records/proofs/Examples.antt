@@ -90,8 +90,10 @@ pub audited :
     ≡ heard 0 ∷ refused 15 ∷ heard 0 ∷ heard 0 ∷ refused 15 ∷ heard 3 ∷ heard 0
     ∷ heard 3 ∷ heard 0 ∷ heard 0 ∷ refused 15 ∷ heard 0 ∷ refused 15 ∷ heard 5 ∷ heard 0
     ∷ heard 0 ∷ heard 3 ∷ refused 15 ∷ refused 15 ∷ heard 3 ∷ []
-unfolding any_below all_below count_below when test_bit refuse unless replied writer_of leads in_past
-    reaches meets_copy keys_in writers_in issues_in reads_in_of issues_from reads_from total_in writer_at
+unfolding any_below all_below count_below when test_bit refuse unless replied writer_of leads
+    in_past
+    reaches meets_copy keys_in writers_in issues_in reads_in_of issues_from reads_from total_in
+    writer_at
     mask_at first_at number_at read_at_of key_of clock_of all_reads any_read reads_before is_by
     issues_before rank layout_ok issue_ok read_ok readable included issue_of history_of is_snapshot
     first_below_of audit_number verdict_of audit_reply audit_of
@@ -101,8 +103,10 @@ audited = refl
 pub before-new :
     outcomes (audit_call [] ∷ audit_call empty ∷ on (fetch 0 0) ∷ []) []
     ≡ refused 15 ∷ heard 0 ∷ refused 1 ∷ []
-unfolding outcomes call_on leaves on_store in_form shaped audit_of verdict_of audit_reply replied unless
-    readable layout_ok keys_in writers_in issues_in reads_in_of issues_from reads_from total_in read_at_of
+unfolding outcomes call_on leaves on_store in_form shaped audit_of verdict_of audit_reply replied
+    unless
+    readable layout_ok keys_in writers_in issues_in reads_in_of issues_from reads_from total_in
+    read_at_of
     reads_before all_below audit_number first_below_of
 before-new = refl
 
@@ -115,7 +119,9 @@ case_a_history =
     ∷ record { writer = 0; keys = test_bit 3; read = λ d j. false; rows = zero_past } ∷ []
 
 pub written-down : record_of_at 2 2 case_a_history ≡ case_a 0
-unfolding any_below count_below largest when test_bit with_bit with_if mask_below writer_of held_copy
-    last_in by_writer own_row had_read number_of reads_up_to row_words read_words keys_words issues_words
+unfolding any_below count_below largest when test_bit with_bit with_if mask_below writer_of
+    held_copy
+    last_in by_writer own_row had_read number_of reads_up_to row_words read_words keys_words
+    issues_words
     reads_words head_words record_of_at
 written-down = refl

@@ -46,7 +46,8 @@ history-writer b (suc n) j l =
     below-cases j n l
     (λ q.
     let z : j ≡ length h = omega arith in
-    ap (writer_of (issue_of b n ∷ h)) z ∙ writer_of_top (issue_of b n) h ∙ ap (writer_at b) (sym q))
+    ap (writer_of (issue_of b n ∷ h)) z ∙ writer_of_top (issue_of b n) h ∙ ap (writer_at b) (sym
+    q))
     (λ q. writer_of_low (issue_of b n) h j (omega arith) ∙ history-writer b n j q)
 
 pub history-saved : (b : Record) (n j d : ℕ) → j < n → saved (history_of b n) d j ≡ saved_at b j d
@@ -101,11 +102,13 @@ unfolding rank
 rank-by b u t e = rw e
 
 -- Of two issues by one writer the later one has the larger rank.
-pub rank-order : (b : Record) (j t : ℕ) → writer_at b j ≡ writer_at b t → rank b j ≤ rank b t → j ≤ t
+pub rank-order : (b : Record) (j t : ℕ) → writer_at b j ≡ writer_at b t → rank b j ≤ rank b t → j
+    ≤ t
 rank-order b j t e h =
     omega (arith, rank_below b (suc t) j (omega (arith, rank-by b (writer_at b j) t e)))
 
-pub rank_mono : (b : Record) (j t : ℕ) → writer_at b j ≡ writer_at b t → j ≤ t → rank b j ≤ rank b t
+pub rank_mono : (b : Record) (j t : ℕ) → writer_at b j ≡ writer_at b t → j ≤ t → rank b j ≤ rank b
+    t
 unfolding rank issues_before
 rank_mono b j t e h = rw e (count-mono (suc j) (suc t) (is_by b (writer_at b t)) (omega arith))
 

@@ -122,7 +122,8 @@ module _ (b : Record) where
       → Written b (length h) h e
   unfolding issues_words reads_words
   written_below e h l same f g =
-      written b e h f g (reads-are h (begins-left b 7 (issues_words (keys_in b) (writers_in b) h) _ f)
+      written b e h f g (reads-are h (begins-left b 7 (issues_words (keys_in b) (writers_in b) h)
+      _ f)
       (begins-left b (7 + 4 * issues_in b) (reads_words (keys_in b) (writers_in b) h) _ g))
   written_below e h l (more {g = m} n) f g =
       written_below e h m n (begins-left b 7 (issues_words (keys_in b) (writers_in b) m) _ f)
@@ -156,7 +157,8 @@ module _ {b : Record} {K W : ℕ} {h : History} (y : Lies b K W h) where
 
 -- ---- the record of a history
 
-head_at : (K W : ℕ) (h : History) (c : List ℕ) → Begins (record_of_at K W h ++ c) 0 (record_of_at K W h)
+head_at : (K W : ℕ) (h : History) (c : List ℕ) → Begins (record_of_at K W h ++ c) 0 (record_of_at
+    K W h)
 head_at K W h c k l =
     let e : 0 + k ≡ k = omega arith in
     rw e (get_or-append (record_of_at K W h) c 0 k l)
@@ -198,12 +200,14 @@ module _ (K W : ℕ) (h : History) (c : List ℕ) where
       (length-append (issues_words K W h) (reads_words K W h)
       ∙ ap₂ ◌+◌ (issues-length K W h) (reads-length K W h))
 
-  pub record_total : total_in (record_of_at K W h ++ c) ≡ 7 + 4 * length h + reads_up_to K W h * (1 + W)
+  pub record_total : total_in (record_of_at K W h ++ c) ≡ 7 + 4 * length h + reads_up_to K W h *
+      (1 + W)
   unfolding record_of_at head_words total_in
   record_total = top 6 (omega arith)
 
   pub record_layout : 1 ≤ K → K ≤ 32 → 1 ≤ W → W ≤ 16 → Layout (record_of_at K W h ++ c)
-  unfolding record_of_at head_words keys_in writers_in issues_in reads_in_of issues_from reads_from total_in
+  unfolding record_of_at head_words keys_in writers_in issues_in reads_in_of issues_from
+      reads_from total_in
       read_at_of
   record_layout k₁ k₂ w₁ w₂ = record {
     header = omega (arith, long);

@@ -65,7 +65,8 @@ straight-from b t s k (inr z) =
     let y = r.0 in
     inr (y, r.1, and_right (eqb (key_of b y) z.0) (included b y s) r.2)
 
-pub past-step : (b : Record) (i t d j : ℕ) → t < i → So (in_past (keys_in b) (history_of b i) t d j)
+pub past-step : (b : Record) (i t d j : ℕ) → t < i → So (in_past (keys_in b) (history_of b i) t d
+    j)
     → (j ≡ t)
     ⊎ ((s : ℕ) × (s < t) × Straight b t s × So (in_past (keys_in b) (history_of b i) s d j))
 unfolding history_of

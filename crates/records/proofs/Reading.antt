@@ -151,7 +151,8 @@ read_is b i x = (there, back)
     there p =
         let p₁ = and_right low t₁ p in
         let p₂ = and_right (any_below (writers_in b) nonzero) t₂ p₁ in
-        let s = any_some (writers_in b) nonzero (and_left (any_below (writers_in b) nonzero) t₂ p₁) in
+        let s = any_some (writers_in b) nonzero (and_left (any_below (writers_in b) nonzero) t₂
+        p₁) in
         record {
           key = ltb-lt (key_of b x) (keys_in b) (and_left low t₁ p);
           some = (s.0, s.1, eqb-ne (clock_of b x s.0) 0 (not_elim s.2));

@@ -12,7 +12,8 @@ pub reads_all : (b : Record) (i : ℕ) (p : Items) → ((x : ℕ) → ReadOf b i
     → So (all_reads b i p)
 unfolding all_reads
 reads_all b i p f =
-    all-intro (number_at b i) (λ r. p (first_at b i + r)) (λ r l. f (first_at b i + r) (r, l, refl))
+    all-intro (number_at b i) (λ r. p (first_at b i + r)) (λ r l. f (first_at b i + r)
+    (r, l, refl))
 
 pub reads_at : (b : Record) (i : ℕ) (p : Items) → So (all_reads b i p) → (x : ℕ) → ReadOf b i x
     → So (p x)

@@ -72,7 +72,8 @@ module _ {b : Record} (R : Readable b) (i : ℕ) (l : i < issues_in b) where
       r.there in
       (u.0, omega (arith, history-length b i, u.1), u.2, u.3)
 
-  reached-on : (s d j : ℕ) → s < i → Reached b i s → So (in_past (keys_in b) (history_of b i) s d j)
+  reached-on : (s d j : ℕ) → s < i → Reached b i s → So (in_past (keys_in b) (history_of b i) s d
+      j)
       → Reached b i j
   reached-on s d j k r p =
       let u = reached-by s r in
@@ -87,7 +88,8 @@ module _ {b : Record} (R : Readable b) (i : ℕ) (l : i < issues_in b) where
 
   -- A count of issue s's reads that is no less than issue j's: the issue of that count is in the
   -- read, and by the same writer.
-  from-read : (s j : ℕ) → s < issues_in b → j < issues_in b → rank b j ≤ read_reach b s (writer_at b j)
+  from-read : (s j : ℕ) → s < issues_in b → j < issues_in b → rank b j ≤ read_reach b s (writer_at
+      b j)
       → (x : ℕ) × ReadOf b s x × (t : ℕ) × (t < s) × (j ≤ t) × (writer_at b j ≡ writer_at b t)
       × So (included b x t)
   from-read s j k o h =

@@ -1,6 +1,6 @@
 -- The call audit (CR 14): its answer on a record.
--- first_below_of, audit_number: the first issue that is no snapshot. verdict_of: what a record is found
--- to be. audit_of: the outcome. audit_call: the call. heard: an answer `ok n`.
+-- first_below_of, audit_number: the first issue that is no snapshot. verdict_of: what a record is
+-- found to be. audit_of: the outcome. audit_call: the call. heard: an answer `ok n`.
 -- Assumes nothing.
 use Rattle.std.specs.Prelude.{cond, not, [], ◌∷◌, ℕ, zero, suc, eqb}
 use Rattle.words.specs.Tests.{Items}

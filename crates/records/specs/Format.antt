@@ -141,12 +141,14 @@ pub record Readable (b : Record) : Type 0 where
 unfoldable pub layout_ok : Record → Bool
 layout_ok b =
     leb 7 (length b) && (leb 1 (keys_in b) && (leb (keys_in b) 32 && (leb 1 (writers_in b)
-    && (leb (writers_in b) 16 && (eqb (issues_from b) 7 && (eqb (reads_from b) (7 + 4 * issues_in b)
+    && (leb (writers_in b) 16 && (eqb (issues_from b) 7 &&
+    (eqb (reads_from b) (7 + 4 * issues_in b)
     && (eqb (total_in b) (read_at_of b (reads_in_of b)) && leb (total_in b) (length b))))))))
 
 unfoldable pub issue_ok : Record → ℕ → Bool
 issue_ok b i =
-    ltb (writer_at b i) (writers_in b) && (leb 1 (mask_at b i) && (ltb (mask_at b i) (2 ^ keys_in b)
+    ltb (writer_at b i) (writers_in b) && (leb 1 (mask_at b i) &&
+    (ltb (mask_at b i) (2 ^ keys_in b)
     && eqb (first_at b i) (reads_before b i)))
 
 unfoldable pub read_ok : Record → ℕ → ℕ → Bool

@@ -1,1 +1,2 @@
 // Records of issues (CR 14): definitions in specs/, laws in proofs/.
+#![tactic(auto)]

@@ -29,30 +29,31 @@ right-inside n i b m e = leb-gt n i (or-none (leb n i) (leb b m) e).0
 
 -- A call that sets a right and leaves the store t.
 module _ (c : StoreCall) (l : List ℕ) (z : Counts) (H : FormWith l z) (n i m : ℕ) (t : Store)
-    (rule : rule_of c (store_of l) ≡ unless (right_cause (store_of l) n i m) (done (0 ∷ []) t)) where
-  abbrev out : Bool
-  out = leb n i || leb (2 ^ z.keys) m
+    (rule : rule_of c (store_of l) ≡ unless (right_cause (store_of l) n i m) (done (0 ∷ []) t))
+  where
+    abbrev out : Bool
+    out = leb n i || leb (2 ^ z.keys) m
 
-  -- The cause as the code tests it.
-  by-range : right_cause (store_of l) n i m ≡ refuse out 3 0
-  unfolding right_cause refuse
-  by-range = rw (form-counts l z H) (go (leb n i) (leb (2 ^ z.keys) m))
-    where
-      go : (a b : Bool) → refuse a 3 (refuse b 3 0) ≡ refuse (a || b) 3 0
-      go true b = refl
-      go false true = refl
-      go false false = refl
+    -- The cause as the code tests it.
+    by-range : right_cause (store_of l) n i m ≡ refuse out 3 0
+    unfolding right_cause refuse
+    by-range = rw (form-counts l z H) (go (leb n i) (leb (2 ^ z.keys) m))
+      where
+        go : (a b : Bool) → refuse a 3 (refuse b 3 0) ≡ refuse (a || b) 3 0
+        go true b = refl
+        go false true = refl
+        go false false = refl
 
-  right-out : out ≡ true → Ends c l (2 ∷ 3 ∷ []) l
-  unfolding refuse
-  right-out p =
-      let three : right_cause (store_of l) n i m ≡ 3 = by-range ∙ rw p in
-      ends-refused c l 3 _ H.form (rw three at rule) (omega arith)
+    right-out : out ≡ true → Ends c l (2 ∷ 3 ∷ []) l
+    unfolding refuse
+    right-out p =
+        let three : right_cause (store_of l) n i m ≡ 3 = by-range ∙ rw p in
+        ends-refused c l 3 _ H.form (rw three at rule) (omega arith)
 
-  right-done : out ≡ false → (k : List ℕ) → k ≡ written t l → Ends c l (0 ∷ 0 ∷ []) k
-  unfolding refuse answer leaves
-  right-done p k e =
-      ends-done c l _ _ H.form rule (by-range ∙ rw p) (0 ∷ 0 ∷ []) k refl e
+    right-done : out ≡ false → (k : List ℕ) → k ≡ written t l → Ends c l (0 ∷ 0 ∷ []) k
+    unfolding refuse answer leaves
+    right-done p k e =
+        ends-done c l _ _ H.form rule (by-range ∙ rw p) (0 ∷ 0 ∷ []) k refl e
 
 -- ---- the calls
 

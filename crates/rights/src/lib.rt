@@ -1,5 +1,7 @@
 // Who may hold and who may save: a site gets another mask of the keys that it may hold, a writer
 // one of those that it may save.
+#![tactic(auto)]
+
 ghost use Rattle.std.specs.Prelude.{◌≡◌, ◌||◌, ◌<◌, ◌^◌, leb, length};
 ghost use Rattle.std.proofs.Math.Bool.{So};
 ghost use Rattle.masks.specs.Mask.{mask_below};

@@ -24,7 +24,8 @@ drop_rule_lem : (r : ℕ) (s : Store)
 unfolding rule_of drop_rule drop_cause
 drop_rule_lem r s = refl
 
-pub drop-refused : (l : List ℕ) (r n : ℕ) → So (in_form l) → n ≡ run_cause (store_of l) drop_row r 0
+pub drop-refused : (l : List ℕ) (r n : ℕ) → So (in_form l) → n ≡ run_cause (store_of l) drop_row r
+    0
     → n ≢ 0 → Ends (drop_run r) l (2 ∷ n ∷ []) l
 drop-refused l r n F e h =
     let s = store_of l in
@@ -38,5 +39,6 @@ unfolding answer leaves drop_done
 drop-done l z r m H e f =
     let s = store_of l in
     let h = cause-below l z drop_row r H e in
-    ends-done (drop_run r) l (run_cause s drop_row r 0) (drop_done s r) H.form (drop_rule_lem r s) e
+    ends-done (drop_run r) l (run_cause s drop_row r 0) (drop_done s r) H.form (drop_rule_lem r s)
+    e
     (0 ∷ 0 ∷ []) m refl (f ∙ run-stored l z r free_run H h)

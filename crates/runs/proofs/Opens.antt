@@ -39,7 +39,8 @@ unfolding open_cause
 open_cause_lem s r jobs = run-rest s open_row_of r _
 
 -- n, b: what the code finds.
-pub cause-run : (s : Store) (r : ℕ) (jobs : List ℕ) (n : ℕ) → n ≡ run_cause s open_row_of r 0 → n ≢ 0
+pub cause-run : (s : Store) (r : ℕ) (jobs : List ℕ) (n : ℕ) → n ≡ run_cause s open_row_of r 0 → n
+    ≢ 0
     → n ≡ open_cause s r jobs
 cause-run s r jobs n e h = rw (open_cause_lem s r jobs, ← e, ne_eqb n 0 h)
 

@@ -1,4 +1,6 @@
 // Open and drop: a run begins, and is freed. Each call tests its causes before it stores a word.
+#![tactic(auto)]
+
 pub mod jobs;
 
 ghost use Rattle.std.specs.Prelude.{◌≡◌};

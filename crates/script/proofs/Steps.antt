@@ -100,7 +100,8 @@ module _ (l line : List ℕ) (n : ℕ) (t : List ℕ) where
 
   -- ---- a byte
 
-  pub step-ends : (b : ℕ) → b ≡ 10 → byte_step (progress l line n t) b ≡ ended (progress l line n t)
+  pub step-ends : (b : ℕ) → b ≡ 10 → byte_step (progress l line n t) b ≡ ended (progress l line n
+      t)
   unfolding byte_step
   step-ends b e = rw e refl
 

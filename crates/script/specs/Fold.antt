@@ -1,6 +1,7 @@
 -- The program as a fold over the bytes of its input, so that it may be read in chunks.
 -- Part: the line under way. Progress: what is kept from one byte to the next. byte_step: one byte.
--- fed: a chunk. finished: the end of the input. part_in_of, progress, words_text: as the code keeps it.
+-- fed: a chunk. finished: the end of the input. part_in_of, progress, words_text: as the code
+-- keeps it.
 -- fresh: before any byte. calls_fed: the calls of a chunk.
 -- Assumes nothing.
 use Rattle.std.specs.Prelude.{cond, List, [], ◌∷◌, ◌++◌, ℕ, eqb, leb, ltb, length, take}
@@ -80,4 +81,5 @@ words_text (t ∷ ns) = answer_text (t ∷ ns)
 unfoldable pub calls_fed : Part → List ℕ → List Call
 calls_fed p [] = []
 calls_fed p (b ∷ bs) =
-    cond (eqb b 10) (with_call_of (part_call p) (calls_fed (bytes []) bs)) (calls_fed (longer p b) bs)
+    cond (eqb b 10) (with_call_of (part_call p) (calls_fed (bytes []) bs)) (calls_fed (longer p b)
+    bs)

@@ -1,6 +1,6 @@
 -- How much the program's buffers hold, in bytes and words.
--- store_room, over_line, read_room, out_room, max_input. Lent: buffers that suffice. A line's bytes, an
--- answer's words and its line have their limits in crates lines, answers and print.
+-- store_room, over_line, read_room, out_room, max_input. Lent: buffers that suffice. A line's
+-- bytes, an answer's words and its line have their limits in crates lines, answers and print.
 -- Assumes nothing.
 use Rattle.std.specs.Prelude.{List, ℕ, ◌+◌, ◌*◌, ◌≤◌, length}
 use Rattle.answers.specs.Answers.{answer_room}

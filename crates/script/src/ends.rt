@@ -34,7 +34,8 @@ fn line_done(
     at: usize,
 ) -> State
     requires ready_value { ready ≡ in_form store.old }
-    requires over_line_in_bounds { (over_line ≤ length numbers.old) × (answer_room ≤ length answer.old) }
+    requires over_line_in_bounds { (over_line ≤ length numbers.old) ×
+        (answer_room ≤ length answer.old) }
     requires line_room_in_bounds { at + line_room ≤ length out.old }
     ensures ready_value_2 { (result.ready ≡ in_form store.new) × (result.len ≡ 0) }
     ensures store_after { store.new ≡ line_leaves store.old line.now }

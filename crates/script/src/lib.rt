@@ -1,4 +1,6 @@
 // An input in chunks of bytes: each line's call is made, and its answer put into out.
+#![tactic(auto)]
+
 pub mod ends;
 
 ghost use Rattle.std.specs.Prelude.{◌≡◌, false, [], ◌+◌, ◌*◌, ◌≤◌, length, take};
@@ -15,7 +17,7 @@ use ends::part_done;
 
 // What is kept between chunks. ready: the buffer is in form. len: bytes of the line under way,
 // Buffers::OVER for one that is too long. end: bytes of output.
-#[derive(Drop)]
+#[derive(Clone, Copy)]
 pub struct State {
     pub ready: bool,
     pub len: usize,
@@ -24,7 +26,7 @@ pub struct State {
 
 // How much the buffers hold that the program lends: the words of the store; line, for the line
 // under way; numbers and answer, for one call; out, OUT_LINE for each byte read.
-#[derive(Drop)]
+#[derive(Clone, Copy)]
 pub struct Buffers {}
 
 impl Buffers {
@@ -51,15 +53,15 @@ impl Buffers {
 
     // They are those of the definitions.
     pub fn limits()
-        ensures* store { do ⌜ (← (⟦Buffers::STORE⟧).entry) ≡ store_room ⌝ }
-        ensures* line { do ⌜ (← (⟦Buffers::LINE⟧).entry) ≡ max_line ⌝ }
-        ensures* over { do ⌜ (← (⟦Buffers::OVER⟧).entry) ≡ over_line ⌝ }
-        ensures* numbers { do ⌜ (← (⟦Buffers::NUMBERS⟧).entry) ≡ over_line ⌝ }
-        ensures* answer { do ⌜ (← (⟦Buffers::ANSWER⟧).entry) ≡ answer_room ⌝ }
-        ensures* text { do ⌜ (← (⟦Buffers::OUT_LINE⟧).entry) ≡ line_room ⌝ }
-        ensures* read { do ⌜ (← (⟦Buffers::READ⟧).entry) ≡ read_room ⌝ }
-        ensures* out { do ⌜ (← (⟦Buffers::OUT⟧).entry) ≡ out_room ⌝ }
-        ensures* input { do ⌜ (← (⟦Buffers::INPUT⟧).entry) ≡ max_input ⌝ }
+        ensures store { Buffers.STORE ≡ store_room }
+        ensures line { Buffers.LINE ≡ max_line }
+        ensures over { Buffers.OVER ≡ over_line }
+        ensures numbers { Buffers.NUMBERS ≡ over_line }
+        ensures answer { Buffers.ANSWER ≡ answer_room }
+        ensures text { Buffers.OUT_LINE ≡ line_room }
+        ensures read { Buffers.READ ≡ read_room }
+        ensures out { Buffers.OUT ≡ out_room }
+        ensures input { Buffers.INPUT ≡ max_input }
     {}
 }
 

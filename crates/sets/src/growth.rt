@@ -14,7 +14,7 @@ use version::needs;
 
 // How a member of the set leads to a key: to one that it draws into the target from the source
 // (T and C), or to one of the place that needs it (E).
-#[derive(Drop)]
+#[derive(Clone, Copy)]
 pub enum Rule {
     Draw(usize, View),
     Evict(usize),

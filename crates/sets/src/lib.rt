@@ -1,5 +1,7 @@
 // The least sets T, E and C as masks of keys, from the places of a buffer, and the cache that E
 // leaves.
+#![tactic(auto)]
+
 pub mod growth;
 pub mod missing;
 
@@ -19,7 +21,7 @@ use version::mark::mark_site;
 use version::{clear_keys, held, held_mask, meets, needs};
 
 // A place seen through a mask: the first for the keys of the mask, the second for the others.
-#[derive(Drop)]
+#[derive(Clone, Copy)]
 pub struct View {
     pub mask: u32,
     pub first: usize,

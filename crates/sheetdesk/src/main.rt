@@ -1,5 +1,7 @@
 // The program: reads calls from standard input, a line each, and writes the answers to standard
-// output after each read.
+// output after each read. Up to main, from any reader and to any writer.
+#![tactic(auto)]
+
 ghost use Rattle.std.specs.Prelude.{◌≡◌, false, [], ◌+◌, ◌*◌, ◌≤◌, ◌<◌, length, take};
 ghost use Rattle.layout.specs.Buffer.{in_form};
 ghost use Rattle.print.specs.Print.{line_room};
@@ -10,6 +12,7 @@ ghost use Rattle.streams.specs.Streams.{Reads, Hands, goes_on_of};
 ghost use Rattle.sheetdesk.specs.Runs.{Ran};
 
 use script::{Buffers, State};
+use std::io::{Read, Write};
 use streams::{Input, Output, goes_on, hand_over, read_chunk};
 
 // What is kept from one read to the next. ready, len: as in script's State. input, output: what
@@ -40,7 +43,7 @@ fn kept_of(state: State, input: Input, output: Output) -> Kept
 }
 
 // Reads once, and hands the answers to all lines that ended to write.
-fn turn(
+fn turn<R: Read, W: Write>(
     store: &mut [u32],
     kept: Kept,
     line: &mut [u8],
@@ -48,10 +51,13 @@ fn turn(
     answer: &mut [u32],
     out: &mut [u8],
     chunk: &mut [u8],
+    from: &mut R,
+    to: &mut W,
 ) -> Kept
     requires ready_value { kept.ready ≡ in_form store.old }
     requires lent { Lent line.old numbers.old answer.old }
-    requires out_room_in_bounds { (out_room ≤ length out.old) × (length chunk.old ≤ read_room) }
+    requires out_room_in_bounds { (out_room ≤ length out.old)
+        × (length chunk.old ≤ read_room) }
     requires all_lt_max_input { (kept.input.all < max_input)
         × (kept.output.all ≤ line_room * kept.input.all) }
     ensures ready_value_2 { result.ready ≡ in_form store.new }
@@ -64,7 +70,7 @@ fn turn(
     ensures count_bound { (result.output.count ≤ line_room * result.input.got)
         × (result.more ≡ goes_on_of result.input result.output) }
 {
-    let input = read_chunk(kept.input, chunk);
+    let input = read_chunk(kept.input, from, chunk);
     let got = input.got();
     let state = script::feed(
         store,
@@ -76,22 +82,25 @@ fn turn(
         out,
         &chunk[0..got],
     );
-    let output = hand_over(kept.output, out, state.end);
+    let output = hand_over(kept.output, to, out, state.end);
     kept_of(state, input, output)
 }
 
 // Turns until the input is over or a write fails.
-fn turns(
+fn turns<R: Read, W: Write>(
     store: &mut [u32],
     line: &mut [u8],
     numbers: &mut [u32],
     answer: &mut [u32],
     out: &mut [u8],
     chunk: &mut [u8],
+    from: &mut R,
+    to: &mut W,
 ) -> Kept
     requires store_value { in_form store.old ≡ false }
     requires lent { Lent line.old numbers.old answer.old }
-    requires out_room_in_bounds { (out_room ≤ length out.old) × (length chunk.old ≤ read_room) }
+    requires out_room_in_bounds { (out_room ≤ length out.old)
+        × (length chunk.old ≤ read_room) }
     ensures ready_value { result.ready ≡ in_form store.new }
     ensures served { Served store.old store.new line.new result.len
         result.input.all result.output.all }
@@ -108,19 +117,20 @@ fn turns(
         more: true,
     };
     while kept.more {
-        kept = turn(store, kept, line, numbers, answer, out, chunk);
+        kept = turn(store, kept, line, numbers, answer, out, chunk, from, to);
     }
     kept
 }
 
 // The end of the input: hands the answer to a last line that lacks its end to write.
-fn last(
+fn last<W: Write>(
     store: &mut [u32],
     kept: Kept,
     line: &mut [u8],
     numbers: &mut [u32],
     answer: &mut [u32],
     out: &mut [u8],
+    to: &mut W,
 ) -> Kept
     requires ready_value { kept.ready ≡ in_form store.old }
     requires lent { Lent line.old numbers.old answer.old }
@@ -138,34 +148,39 @@ fn last(
         end: 0,
     };
     let ended = script::finish(store, state, line, numbers, answer, out);
-    let output = hand_over(kept.output, out, ended.end);
+    let output = hand_over(kept.output, to, out, ended.end);
     kept_of(ended, kept.input, output)
 }
 
 // All of the input, and then a last line that lacks its end.
-fn run(
+fn run<R: Read, W: Write>(
     store: &mut [u32],
     line: &mut [u8],
     numbers: &mut [u32],
     answer: &mut [u32],
     out: &mut [u8],
     chunk: &mut [u8],
+    from: &mut R,
+    to: &mut W,
 ) -> Kept
     requires store_value { in_form store.old ≡ false }
     requires lent { Lent line.old numbers.old answer.old }
-    requires out_room_in_bounds { (out_room ≤ length out.old) × (length chunk.old ≤ read_room) }
+    requires out_room_in_bounds { (out_room ≤ length out.old)
+        × (length chunk.old ≤ read_room) }
     ensures { Ran store.old store.new line.new result }
 {
-    let kept = turns(store, line, numbers, answer, out, chunk);
+    let kept = turns(store, line, numbers, answer, out, chunk, from, to);
     let failed = kept.output.failed();
     if failed {
         return kept;
     }
-    last(store, kept, line, numbers, answer, out)
+    last(store, kept, line, numbers, answer, out, to)
 }
 
 // "The program lends 16,384 words." "Before any new, the buffer is all zero."
-fn main() {
+fn main(rt: HostRuntime) {
+    let mut from = rt.stdin();
+    let mut to = rt.stdout();
     let mut store = [0u32; Buffers::STORE];
     let mut line = [0u8; Buffers::LINE];
     let mut numbers = [0u32; Buffers::NUMBERS];
@@ -179,5 +194,7 @@ fn main() {
         &mut answer,
         &mut out,
         &mut chunk,
+        &mut from,
+        &mut to,
     );
 }

@@ -2,6 +2,8 @@
 // 4 path, 5 nothing, 6 through, 7 breaks or 8 turned, then the numbers) over the front of a lent
 // slice and gives how many they are; a slice of fewer than 40 words gives 0, and nothing is
 // changed.
+#![tactic(auto)]
+
 pub mod audits;
 pub mod clocks;
 pub mod scratch;
@@ -220,9 +222,9 @@ pub extern "C" fn sheetdesk_explain_on(
 // The version of this interface: it rises when a call, its arguments or its answer change.
 #[unsafe(no_mangle)]
 pub extern "C" fn sheetdesk_version() -> u32
-    ensures { result ≡ 13 }
+    ensures { result ≡ 12 }
 {
-    13
+    12
 }
 
 // The version of the layout: it rises when the words of a desk change.

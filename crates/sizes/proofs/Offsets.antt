@@ -178,7 +178,8 @@ allowance-lies z at = record { starts = omega arith; ends = omega arith }
 -- The snapshot of branch n lies behind the plan of its run; its read mask behind the done mask,
 -- the mark behind the front.
 pub snapshot-lies : (z : Counts) (r n : ℕ)
-    → Lies (run_at_of z r + snapshot_offset) (run_at_of z r + run_size z) (snapshot_at z r n) (place_size z)
+    → Lies (run_at_of z r + snapshot_offset) (run_at_of z r + run_size z) (snapshot_at z r n)
+    (place_size z)
 unfolding snapshot_at run_size
 snapshot-lies z r n =
     test (eqb n 0) (λ p. rw p (record { starts = omega arith; ends = omega arith }))

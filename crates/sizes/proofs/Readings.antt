@@ -19,15 +19,18 @@ pub record Sized : Type 0 where
       ≡ 34 ∷ 48 ∷ 35 ∷ 49 ∷ []
   -- The round, then the masks of a site and of two writers.
   pub tail : let z = counts_of 2 2 1 1 in
-      round_at_of z ∷ may_hold_at z 0 ∷ may_save_at z 0 ∷ may_save_at z 1 ∷ [] ≡ 100 ∷ 101 ∷ 102 ∷ 103 ∷ []
+      round_at_of z ∷ may_hold_at z 0 ∷ may_save_at z 0 ∷ may_save_at z 1 ∷ [] ≡ 100 ∷ 101 ∷ 102 ∷
+      103 ∷ []
   -- The mark, and both branches (CR 10).
   pub branches : let z = counts_of 1 1 1 1 in
-      read_at_of z 0 0 ∷ snapshot_at z 0 0 ∷ mark_at z 0 ∷ read_at_of z 0 1 ∷ snapshot_at z 0 1 ∷ []
+      read_at_of z 0 0 ∷ snapshot_at z 0 0 ∷ mark_at z 0 ∷ read_at_of z 0 1 ∷ snapshot_at z 0 1 ∷
+      []
       ≡ 23 ∷ 48 ∷ 51 ∷ 52 ∷ 53 ∷ []
 
 sized : Sized
 unfolding sizes_of past_size version_size place_size site_size writer_size run_size tail_size
-    master_at sites_at writers_at runs_at tail_at total_of site_at run_at_of mark_at read_at_of snapshot_at
+    master_at sites_at writers_at runs_at tail_at total_of site_at run_at_of mark_at read_at_of
+    snapshot_at
 sized = record {
   small = refl;
   totals = refl;

@@ -1,7 +1,7 @@
 -- Where the parts of a run, and of a job, stand in it (document 01, "Size and layout").
 -- max_jobs: the most jobs of a run; every_job: their mask. ..Offset: how many words behind the
--- beginning; second..: behind the mark. job_size, plan_size: words of a job, and of all. job_at_of:
--- where a job begins.
+-- beginning; second..: behind the mark. job_size, plan_size: words of a job, and of all.
+-- job_at_of: where a job begins.
 -- Assumes nothing.
 use Rattle.std.specs.Prelude.{ℕ, ◌+◌, ◌*◌}
 

@@ -3,7 +3,7 @@
 ghost use Rattle.std.specs.Prelude.{◌≡◌};
 ghost use Rattle.sizes.specs.Bounds.{keys_offset, writers_offset, sites_offset, runs_offset, last_offset, master_offset, sites_at_offset, writers_at_offset, runs_at_offset, total_offset, header_size};
 
-#[derive(Drop)]
+#[derive(Clone, Copy)]
 pub struct HeaderOffset {}
 
 impl HeaderOffset {
@@ -32,16 +32,16 @@ impl HeaderOffset {
 
     // They are those of the definitions.
     pub fn offsets()
-        ensures* keys { do ⌜ (← (⟦HeaderOffset::KEYS⟧).entry) ≡ keys_offset ⌝ }
-        ensures* writers { do ⌜ (← (⟦HeaderOffset::WRITERS⟧).entry) ≡ writers_offset ⌝ }
-        ensures* sites { do ⌜ (← (⟦HeaderOffset::SITES⟧).entry) ≡ sites_offset ⌝ }
-        ensures* runs { do ⌜ (← (⟦HeaderOffset::RUNS⟧).entry) ≡ runs_offset ⌝ }
-        ensures* last { do ⌜ (← (⟦HeaderOffset::LAST⟧).entry) ≡ last_offset ⌝ }
-        ensures* master { do ⌜ (← (⟦HeaderOffset::MASTER⟧).entry) ≡ master_offset ⌝ }
-        ensures* sites_at { do ⌜ (← (⟦HeaderOffset::SITES_AT⟧).entry) ≡ sites_at_offset ⌝ }
-        ensures* writers_at { do ⌜ (← (⟦HeaderOffset::WRITERS_AT⟧).entry) ≡ writers_at_offset ⌝ }
-        ensures* runs_at { do ⌜ (← (⟦HeaderOffset::RUNS_AT⟧).entry) ≡ runs_at_offset ⌝ }
-        ensures* total { do ⌜ (← (⟦HeaderOffset::TOTAL⟧).entry) ≡ total_offset ⌝ }
-        ensures* size { do ⌜ (← (⟦HeaderOffset::SIZE⟧).entry) ≡ header_size ⌝ }
+        ensures keys { HeaderOffset.KEYS ≡ keys_offset }
+        ensures writers { HeaderOffset.WRITERS ≡ writers_offset }
+        ensures sites { HeaderOffset.SITES ≡ sites_offset }
+        ensures runs { HeaderOffset.RUNS ≡ runs_offset }
+        ensures last { HeaderOffset.LAST ≡ last_offset }
+        ensures master { HeaderOffset.MASTER ≡ master_offset }
+        ensures sites_at { HeaderOffset.SITES_AT ≡ sites_at_offset }
+        ensures writers_at { HeaderOffset.WRITERS_AT ≡ writers_at_offset }
+        ensures runs_at { HeaderOffset.RUNS_AT ≡ runs_at_offset }
+        ensures total { HeaderOffset.TOTAL ≡ total_offset }
+        ensures size { HeaderOffset.SIZE ≡ header_size }
     {}
 }

@@ -1,4 +1,6 @@
 // The counts of a store, their limits, and the offsets and total that follow from them.
+#![tactic(auto)]
+
 pub mod header;
 pub mod past;
 pub mod run;
@@ -13,7 +15,7 @@ use past::{VersionOffset, WriterOffset};
 use run::RunOffset;
 
 // Sheets, writers, offices and runs (document 01: K, W, N, P).
-#[derive(Drop)]
+#[derive(Clone, Copy)]
 pub struct Counts {
     pub keys: usize,
     pub writers: usize,
@@ -22,7 +24,7 @@ pub struct Counts {
 }
 
 // Where each area begins, and how many words there are. Behind the runs stands the tail.
-#[derive(Drop)]
+#[derive(Clone, Copy)]
 pub struct Sizes {
     pub master: usize,
     pub sites: usize,
@@ -75,14 +77,14 @@ impl Sizes {
 
     // The constants above are those of the definitions.
     pub fn limits()
-        ensures* keys { do ⌜ (← (⟦Sizes::MAX_KEYS⟧).entry) ≡ max_keys ⌝ }
-        ensures* writers { do ⌜ (← (⟦Sizes::MAX_WRITERS⟧).entry) ≡ max_writers ⌝ }
-        ensures* sites { do ⌜ (← (⟦Sizes::MAX_SITES⟧).entry) ≡ max_sites ⌝ }
-        ensures* runs { do ⌜ (← (⟦Sizes::MAX_RUNS⟧).entry) ≡ max_runs_of ⌝ }
-        ensures* jobs { do ⌜ (← (⟦Sizes::MAX_JOBS⟧).entry) ≡ max_jobs ⌝ }
-        ensures* every { do ⌜ (← (⟦Sizes::EVERY_JOB⟧).entry) ≡ every_job ⌝ }
-        ensures* job { do ⌜ (← (⟦Sizes::JOB_SIZE⟧).entry) ≡ job_size ⌝ }
-        ensures* rest { do ⌜ (← (⟦Sizes::SITE_REST⟧).entry) ≡ site_rest ⌝ }
+        ensures keys { Sizes.MAX_KEYS ≡ max_keys }
+        ensures writers { Sizes.MAX_WRITERS ≡ max_writers }
+        ensures sites { Sizes.MAX_SITES ≡ max_sites }
+        ensures runs { Sizes.MAX_RUNS ≡ max_runs_of }
+        ensures jobs { Sizes.MAX_JOBS ≡ max_jobs }
+        ensures every { Sizes.EVERY_JOB ≡ every_job }
+        ensures job { Sizes.JOB_SIZE ≡ job_size }
+        ensures rest { Sizes.SITE_REST ≡ site_rest }
     {}
 }
 

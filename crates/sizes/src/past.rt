@@ -5,10 +5,10 @@ ghost use Rattle.sizes.specs.Bounds.{leaders_offset, past_offset, writer_past_of
 
 use crate::Counts;
 
-#[derive(Drop)]
+#[derive(Clone, Copy)]
 pub struct VersionOffset {}
 
-#[derive(Drop)]
+#[derive(Clone, Copy)]
 pub struct WriterOffset {}
 
 impl VersionOffset {
@@ -18,8 +18,8 @@ impl VersionOffset {
 
     // They are those of the definitions.
     pub fn offsets()
-        ensures* leaders { do ⌜ (← (⟦VersionOffset::LEADERS⟧).entry) ≡ leaders_offset ⌝ }
-        ensures* past { do ⌜ (← (⟦VersionOffset::PAST⟧).entry) ≡ past_offset ⌝ }
+        ensures leaders { VersionOffset.LEADERS ≡ leaders_offset }
+        ensures past { VersionOffset.PAST ≡ past_offset }
     {}
 }
 
@@ -28,7 +28,7 @@ impl WriterOffset {
 
     // It is that of the definitions.
     pub fn offsets()
-        ensures* { do ⌜ (← (⟦WriterOffset::PAST⟧).entry) ≡ writer_past_offset ⌝ }
+        ensures { WriterOffset.PAST ≡ writer_past_offset }
     {}
 }
 

@@ -7,11 +7,11 @@ use crate::{Counts, Sizes};
 
 // Inside a run, whose state stands first: the number of jobs, the done and the read mask, the plan
 // (8 jobs), the snapshot (document 01: the card). SECOND..: behind the mark, the second of both.
-#[derive(Drop)]
+#[derive(Clone, Copy)]
 pub struct RunOffset {}
 
 // Inside a job, whose site stands first: the masks of its reads and of its upstream jobs.
-#[derive(Drop)]
+#[derive(Clone, Copy)]
 pub struct JobOffset {}
 
 impl RunOffset {
@@ -31,13 +31,13 @@ impl RunOffset {
 
     // They are those of the definitions.
     pub fn offsets()
-        ensures* jobs { do ⌜ (← (⟦RunOffset::JOBS⟧).entry) ≡ jobs_offset ⌝ }
-        ensures* done { do ⌜ (← (⟦RunOffset::DONE⟧).entry) ≡ done_offset ⌝ }
-        ensures* read { do ⌜ (← (⟦RunOffset::READ⟧).entry) ≡ read_offset ⌝ }
-        ensures* plan { do ⌜ (← (⟦RunOffset::PLAN⟧).entry) ≡ plan_offset ⌝ }
-        ensures* snapshot { do ⌜ (← (⟦RunOffset::SNAPSHOT⟧).entry) ≡ snapshot_offset ⌝ }
-        ensures* second_read { do ⌜ (← (⟦RunOffset::SECOND_READ⟧).entry) ≡ second_read_offset ⌝ }
-        ensures* second { do ⌜ (← (⟦RunOffset::SECOND⟧).entry) ≡ second_offset ⌝ }
+        ensures jobs { RunOffset.JOBS ≡ jobs_offset }
+        ensures done { RunOffset.DONE ≡ done_offset }
+        ensures read { RunOffset.READ ≡ read_offset }
+        ensures plan { RunOffset.PLAN ≡ plan_offset }
+        ensures snapshot { RunOffset.SNAPSHOT ≡ snapshot_offset }
+        ensures second_read { RunOffset.SECOND_READ ≡ second_read_offset }
+        ensures second { RunOffset.SECOND ≡ second_offset }
     {}
 }
 
@@ -48,8 +48,8 @@ impl JobOffset {
 
     // They are those of the definitions.
     pub fn offsets()
-        ensures* reads { do ⌜ (← (⟦JobOffset::READS⟧).entry) ≡ reads_offset ⌝ }
-        ensures* upstream { do ⌜ (← (⟦JobOffset::UPSTREAM⟧).entry) ≡ upstream_offset ⌝ }
+        ensures reads { JobOffset.READS ≡ reads_offset }
+        ensures upstream { JobOffset.UPSTREAM ≡ upstream_offset }
     {}
 }
 

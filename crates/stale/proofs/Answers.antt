@@ -1,7 +1,7 @@
 -- What stale comes to on a buffer in form.
 -- mark-word: the mark of a site is one word. stale-out: no such office. stale-done: the word.
 -- Assumes nothing.
-use mathlib.Core.Path.{◌≡◌, refl, ◌∙◌}
+use mathlib.Core.Path.{◌≡◌, refl}
 use mathlib.Core.List.{List, [], ◌∷◌}
 use Prim.Native.Nat.{ℕ, ◌≤◌, ◌<◌}
 use native.Mathlib.Omega.{arith}
@@ -32,7 +32,8 @@ module _ (l : List ℕ) (z : Counts) (H : FormWith l z) (o : ℕ) where
       rw (no, e) refl
 
   pub stale-done : o < z.sites
-      → 0 ∷ read_word_of l (stale_at z (site_at z o)) ∷ [] ≡ answer (call_on (on (ask (stale o))) l)
+      → 0 ∷ read_word_of l (stale_at z (site_at z o)) ∷ [] ≡ answer (call_on (on (ask (stale o)))
+      l)
   unfolding answer reply_of stale_reply stale_cause refuse
   stale-done h =
       let e : stale_cause (store_of l) o ≡ 0 = rw (form-counts l z H, gt-leb z.sites o h) refl in

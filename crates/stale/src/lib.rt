@@ -1,4 +1,6 @@
 // Stale: the mark of a site, which tells the keys of its cache that are behind the master.
+#![tactic(auto)]
+
 ghost use Rattle.std.specs.Prelude.{◌≡◌};
 ghost use Rattle.std.proofs.Math.Bool.{So};
 ghost use Rattle.answers.specs.Answers.{answered_words};

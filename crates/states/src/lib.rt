@@ -1,4 +1,6 @@
 // Which state of its run a call needs: one table, and one test that the eight calls share.
+#![tactic(auto)]
+
 ghost use Rattle.std.specs.Prelude.{◌≡◌, ◌<◌};
 ghost use Rattle.model.specs.Store.{forked_mark, joined_mark};
 ghost use Rattle.model.specs.Outcome.{allowed, free_state, open_state, broken_state, open_row_of, prepare_row, step_row, issue_row, drop_row, fork_row, join_row, forecast_row};

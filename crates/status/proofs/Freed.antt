@@ -101,7 +101,8 @@ branch-is z b F p =
     (F.rest k) (below_or_not k z.keys)) in
     λ i. record { read = read i; snapshot = snapshot i }
 
-pub free-is : (z : Counts) (a : Run) → FitRun z a → So (run_formed z a) → a.state ≡ 0 → a ≡ free_run
+pub free-is : (z : Counts) (a : Run) → FitRun z a → So (run_formed z a) → a.state ≡ 0 → a ≡
+    free_run
 unfolding run_formed free_formed
 free-is z a F p e =
     let q : So (free_formed z a) = rw (eq-eqb a.state 0 e) at p in

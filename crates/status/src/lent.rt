@@ -6,7 +6,7 @@ ghost use Rattle.status.specs.Lent.{freed, marked, spoiled};
 use states::BROKEN_STATE;
 
 // A run's state, its number of jobs, and the masks of what is done and read.
-#[derive(Drop)]
+#[derive(Clone, Copy)]
 pub struct RunStatus {
     pub state: u32,
     pub jobs: u32,

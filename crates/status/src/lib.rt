@@ -1,5 +1,7 @@
 // One run of a store in form: the causes that calls on a run share, and how a run is freed, marked
 // and broken in its words.
+#![tactic(auto)]
+
 pub mod lent;
 
 ghost use Rattle.std.specs.Prelude.{◌≡◌, ◌+◌, ◌≤◌, ◌<◌, length};

@@ -66,7 +66,8 @@ run-stepped s l r n q x y h =
     let t = with_run s r a in
     let here : t.run r ≡ a = put_at_same s.run r a in
     let after : Run → Store = λ c.
-    with_run t r (with_job_done c n x (record { read = y; snapshot = (branch_of n c).snapshot })) in
+    with_run t r (with_job_done c n x (record { read = y; snapshot = (branch_of n c).snapshot }))
+    in
     rw (put-card s l r n q h)
     (put-masks t l r n x y h ∙ ap (λ (c : Run). written (after c) l) here
     ∙ ap (λ (c : Run). written (with_run t r c) l) (done-twice (s.run r) n (s.run r).done x y b)

@@ -1,5 +1,7 @@
 // Step: a job reads its keys on a branch of its run, from that branch's snapshot, its site's cache
 // or the master. What it would do is found first, and nothing is stored before that.
+#![tactic(auto)]
+
 ghost use Rattle.std.specs.Prelude.{◌≡◌, [], ◌∷◌, ◌≤◌, length};
 ghost use Rattle.std.proofs.Math.Bool.{So};
 ghost use Rattle.std.specs.Int.Bits.{bit_and};
@@ -26,7 +28,7 @@ use version::merge::merge_keys;
 
 // The reads from the snapshot, from the cache and from the master; or the keys that would move
 // though the branch has read them; or the cause's number.
-#[derive(Drop)]
+#[derive(Clone, Copy)]
 pub enum Stepped {
     Done(u32, u32, u32),
     Broken(u32),

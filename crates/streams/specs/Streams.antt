@@ -1,8 +1,10 @@
 -- What was read and handed to write, and when the program reads on.
 -- Reads: one read more. Hands: bytes were handed to write once more. input_over: no more is read.
--- goes_on_of: the program reads on.
+-- goes_on_of: the program reads on. told_len: how many bytes a read delivered that told so much,
+-- none if it failed, to a buffer of most bytes.
 -- Assumes nothing.
-use Rattle.std.specs.Prelude.{◌≡◌, Bool, not, ◌&&◌, ◌||◌, List, ℕ, ◌+◌, ◌≤◌, eqb, leb, length}
+use Rattle.std.specs.Prelude.{◌≡◌, Bool, not, ◌&&◌, ◌||◌, List, ℕ, ◌+◌, ◌≤◌, eqb, leb, min, length}
+use Rattle.std.specs.Prelude.{Result, Ok, Err}
 use Rattle.script.specs.Limits.{max_input}
 use Rattle.streams.specs.declared.Input.{Input}
 use Rattle.streams.specs.declared.Output.{Output}
@@ -27,3 +29,7 @@ input_over i = i.ended || leb max_input i.all
 -- No write failed, and the input isn't over.
 abbrev pub goes_on_of : Input → Output → Bool
 goes_on_of i o = not o.failed && not (input_over i)
+
+abbrev pub told_len : {E : Type 0} → Result ℕ E → ℕ → ℕ
+told_len (Ok n) most = min n most
+told_len (Err _) most = 0

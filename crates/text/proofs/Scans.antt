@@ -1,6 +1,6 @@
 -- How the numbers of a line's fields come up byte by byte.
--- number_from, first_from: a number, and the numbers of fields, where the first goes on after others
--- worth v. told_from: the numbers xs and those from place i on.
+-- number_from, first_from: a number, and the numbers of fields, where the first goes on after
+-- others worth v. told_from: the numbers xs and those from place i on.
 -- The laws: what a byte at place i, or the line's end, makes of them.
 -- Assumes nothing.
 use mathlib.Core.Path.{◌≡◌, refl, sym, ap, ◌∙◌}

@@ -1,4 +1,6 @@
 // Lines of text as bytes: words compared, numbers read, bytes and numbers put.
+#![tactic(auto)]
+
 ghost use Rattle.std.specs.Prelude.{◌≡◌, false, [], ◌∷◌, ◌++◌, ◌+◌, ◌-◌, ◌≤◌, ◌<◌, length, drop, take};
 ghost use Rattle.std.proofs.Math.Bool.{So};
 ghost use Rattle.text.specs.Bytes.{same_bytes};
@@ -6,7 +8,7 @@ ghost use Rattle.text.specs.Decimal.{decimal_of};
 ghost use Rattle.text.specs.Fields.{fields_of, fields_after, first_of, is_digit_of, max_number, numbers_of, numbers_in, how_many};
 
 // How many numbers there are, or that a field is no number.
-#[derive(Drop)]
+#[derive(Clone, Copy)]
 pub enum Count {
     Of(usize),
     Unread,

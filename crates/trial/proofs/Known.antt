@@ -101,7 +101,8 @@ module _ (l : List ℕ) (z : Counts) (r : ℕ) (U : UsedRun l z r) where
         })
         (planned_job (((store_of l).run r).job j))
     job-found at e =
-        let same : ((store_of l).run r).job j ≡ job_of (get_or l at 0) (get_or l (at + reads_offset) 0)
+        let same : ((store_of l).run r).job j ≡ job_of (get_or l at 0) (get_or l
+        (at + reads_offset) 0)
         (get_or l (at + upstream_offset) 0) =
         rw e (ap (λ (f : ℕ → Job). f j) (sym jobs-words)
         ∙ job-words l (run_at_of z r + plan_offset) j job-low) in
@@ -110,19 +111,20 @@ module _ (l : List ℕ) (z : Counts) (r : ℕ) (U : UsedRun l z r) where
 -- ---- the causes
 
 -- at: where the run begins.
-module _ (l : List ℕ) (z : Counts) (r : ℕ) (K : RunKnown l z r) (at : ℕ) (e : at ≡ run_at_of z r) where
-  pub limit_in : job_limit ((store_of l).run r).state ((store_of l).run r).jobs
-      ≡ job_limit (get_or l at 0) (get_or l (at + jobs_offset) 0)
-  unfolding read_run
-  limit_in = rw (e, K.run)
+module _ (l : List ℕ) (z : Counts) (r : ℕ) (K : RunKnown l z r) (at : ℕ) (e : at ≡ run_at_of z r)
+  where
+    pub limit_in : job_limit ((store_of l).run r).state ((store_of l).run r).jobs
+        ≡ job_limit (get_or l at 0) (get_or l (at + jobs_offset) 0)
+    unfolding read_run
+    limit_in = rw (e, K.run)
 
-  pub state_in : ((store_of l).run r).state ≡ get_or l at 0
-  unfolding read_run
-  state_in = rw (e, K.run)
+    pub state_in : ((store_of l).run r).state ≡ get_or l at 0
+    unfolding read_run
+    state_in = rw (e, K.run)
 
-  pub done_in : ((store_of l).run r).done ≡ get_or l (at + done_offset) 0
-  unfolding read_run
-  done_in = rw (e, K.run)
+    pub done_in : ((store_of l).run r).done ≡ get_or l (at + done_offset) 0
+    unfolding read_run
+    done_in = rw (e, K.run)
 
 -- The mark, and where it stands.
 pub mark-found : (l : List ℕ) (z : Counts) (r : ℕ) → FormWith l z → r < z.runs

@@ -35,7 +35,11 @@ module _ (s : Store) (r j n : ℕ) where
   unfoldable pub trial_of : Trial
   trial_of =
       let K = s.counts.keys in
-      record { taken = mask_below K (step_fetch s r j n); pulled = mask_below K (step_pull s r j n) }
+      record {
+        taken = mask_below K (step_fetch s r j n);
+        pulled = mask_below K (step_pull s r j
+            n);
+      }
 
   -- The cause of step, or where there is none what it looks at and would do.
   unfoldable pub tried_of : ℕ → Tried

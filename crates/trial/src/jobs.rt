@@ -10,7 +10,7 @@ use sizes::run::{JobOffset, RunOffset};
 use sizes::{Counts, Sizes, job_at};
 
 // A job of a plan: its site, what it reads, and the jobs before it.
-#[derive(Drop)]
+#[derive(Clone, Copy)]
 pub struct PlannedJob {
     pub site: u32,
     pub reads: u32,

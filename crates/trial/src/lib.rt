@@ -1,5 +1,7 @@
 // What a step would do, found without a store: the cause for which it is refused, or the keys that
 // the cache and the snapshot would take. Step acts by it; a call that only asks stops here.
+#![tactic(auto)]
+
 pub mod causes;
 pub mod jobs;
 
@@ -20,7 +22,7 @@ use words::wide;
 
 // What a step looks at: the job's site, where three places begin, the plan's keys, the job's reads
 // (R), and what the branch has read.
-#[derive(Drop)]
+#[derive(Clone, Copy)]
 pub struct Visit {
     pub site: usize,
     pub master: usize,
@@ -32,14 +34,14 @@ pub struct Visit {
 }
 
 // What a step would do: the keys that the cache takes (T), and that the snapshot takes (C).
-#[derive(Drop)]
+#[derive(Clone, Copy)]
 pub struct Trial {
     pub taken: u32,
     pub pulled: u32,
 }
 
 // The number of the cause for which a step is refused, or what it looks at and would do.
-#[derive(Drop)]
+#[derive(Clone, Copy)]
 pub enum Tried {
     Refused(u32),
     Found(Visit, Trial),

@@ -3,8 +3,8 @@
 -- and target are one place.
 -- computed: two versions of one key and two writers, merged in place.
 -- Assumes nothing.
-use mathlib.Core.Path.{◌≡◌, refl, sym, ap, ◌∙◌}
-use mathlib.Core.Bool.{Bool, cond, So}
+use mathlib.Core.Path.{◌≡◌, refl, ap, ◌∙◌}
+use mathlib.Core.Bool.{So}
 use mathlib.Core.List.{List, [], ◌∷◌}
 use mathlib.Core.Logic.{◌⊎◌, inl, inr, ⊎_elim}
 use Prim.Native.Nat.{ℕ, ◌+◌, ◌≤◌, ◌<◌}
@@ -15,9 +15,9 @@ use Rattle.words.specs.Tests.{Items, any_below}
 use Rattle.words.specs.Lists.{upto, blocks, window}
 use Rattle.words.proofs.Bools.{test}
 use Rattle.masks.specs.Mask.{test_bit, with_bit, with_if, mask_below}
-use Rattle.clock.specs.Clock.{Clock, join}
+use Rattle.clock.specs.Clock.{join}
 use Rattle.sizes.specs.declared.Counts.{Counts}
-use Rattle.sizes.specs.Bounds.{counts_of, past_offset, leaders_offset, version_size, place_size}
+use Rattle.sizes.specs.Bounds.{counts_of, version_size, place_size}
 use Rattle.model.specs.Algebra.{Place}
 use Rattle.model.specs.Version.{Version, held, leads_on, merged_leaders, larger, merge}
 use Rattle.model.specs.Form.{version_formed, place_formed}
@@ -150,7 +150,8 @@ pub record Computed : Type 0 where
   pub odd-kept : merged_at (two none odd) 2 6 ≡ two odd odd
 
 pub computed : Computed
-unfolding any_below upto blocks test_bit with_bit with_if mask_below join held leads_on merged_leaders
+unfolding any_below upto blocks test_bit with_bit with_if mask_below join held leads_on
+    merged_leaders
     larger merge clock_words past_words version_words read_clock read_past_of read_version
 computed = record {
   forward = refl;

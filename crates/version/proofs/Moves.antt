@@ -57,7 +57,8 @@ module _ (z : Counts) (l : List ℕ) (a b k : ℕ) (h : k < z.keys) where
 
   -- The past of a key lies in the words as one clock.
   flat : (at : ℕ) → Flat W K (read_place z l at k).past (clock_at l (row_at z (key_at z at k) 0))
-  flat at = rw (place_at_lem z l at k h, row_first z (key_at z at k)) (version-flat z l (key_at z at k))
+  flat at = rw (place_at_lem z l at k h, row_first z (key_at z at k)) (version-flat z l
+      (key_at z at k))
 
   pub pasts-compared : (r : Standing) (n p q : ℕ) → r ≡ standing n (clock_at l p) (clock_at l q)
       → n ≡ past_size z → p ≡ row_at z (key_at z a k) 0 → q ≡ row_at z (key_at z b k) 0

@@ -1,4 +1,6 @@
 // Versions in the words of a buffer: read, copied, cleared, merged.
+#![tactic(auto)]
+
 pub mod mark;
 pub mod merge;
 pub mod moved;

@@ -16,7 +16,7 @@ use numbers::{IssueNumber, version_issue};
 use sizes::Counts;
 
 // Of two versions of a key: whether their merge is the first, and whether it is the second.
-#[derive(Drop)]
+#[derive(Clone, Copy)]
 pub struct Staying {
     pub first: bool,
     pub second: bool,

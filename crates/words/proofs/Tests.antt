@@ -48,7 +48,8 @@ unfolding any_below
 any-no zero p h = refl
 any-no (suc n) p h = rw (any-no n p (λ i l. h i (omega arith)), h n (omega arith))
 
-pub any_same : (n : ℕ) (p q : Items) → ((i : ℕ) → i < n → p i ≡ q i) → any_below n p ≡ any_below n q
+pub any_same : (n : ℕ) (p q : Items) → ((i : ℕ) → i < n → p i ≡ q i) → any_below n p ≡ any_below n
+    q
 unfolding any_below
 any_same zero p q h = refl
 any_same (suc n) p q h = rw (any_same n p q (λ i l. h i (omega arith)), h n (omega arith))
@@ -79,7 +80,8 @@ all-no (suc n) p i k e =
     (λ q. ap (λ (j : ℕ). all_below n p && p j) (sym q) ∙ rw (e, and-false-right))
     (λ m. rw (all-no n p i m e))
 
-pub all_same : (n : ℕ) (p q : Items) → ((i : ℕ) → i < n → p i ≡ q i) → all_below n p ≡ all_below n q
+pub all_same : (n : ℕ) (p q : Items) → ((i : ℕ) → i < n → p i ≡ q i) → all_below n p ≡ all_below n
+    q
 unfolding all_below
 all_same zero p q h = refl
 all_same (suc n) p q h = rw (all_same n p q (λ i l. h i (omega arith)), h n (omega arith))

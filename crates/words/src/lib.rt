@@ -1,4 +1,6 @@
 // Words of a buffer: made an index, compared, cleared, copied.
+#![tactic(auto)]
+
 ghost use Rattle.std.specs.Prelude.{◌≡◌, ◌+◌, ◌≤◌, max, length, get_or};
 ghost use Rattle.words.specs.Words.{put, Apart};
 

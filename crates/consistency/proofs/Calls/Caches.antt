@@ -41,7 +41,8 @@ cache-next {s} {b} {f} o p q v rel closed =
     (inv-cache v o p (q s.counts) rel closed)
 
 pub fetch-laws : (o k : ℕ) (s : Store) → Fine s → Laws (fetch o k) s (fetch_rule o k s)
-unfolding fetch_rule fetch_done fetch_cause book_rule book_fetch finish finish_by role_of with_cache
+unfolding fetch_rule fetch_done fetch_cause book_rule book_fetch finish finish_by role_of
+    with_cache
     with_sites
 fetch-laws o k s _ =
     laws-unless (fetch o k) s (fetch_cause s o k) (fetch_done s o k) (λ e.
@@ -81,7 +82,8 @@ evicted-next {s} {b} o start start' v l same =
 
 -- Evict: from its key.
 pub evict-laws : (o k : ℕ) (s : Store) → Fine s → Laws (evict o k) s (evict_rule o k s)
-unfolding evict_rule evict_done evict_cause book_rule book_evict finish finish_by role_of with_cache
+unfolding evict_rule evict_done evict_cause book_rule book_evict finish finish_by role_of
+    with_cache
     with_sites
 evict-laws o k s _ =
     laws-unless (evict o k) s (evict_cause s o k) (evict_done s o k) (λ e.

@@ -4,7 +4,7 @@
 use mathlib.Core.Path.{◌≡◌, refl}
 use mathlib.Core.Bool.{false, So}
 use mathlib.Core.Logic.{inl, inr}
-use mathlib.Core.List.{List, ◌∷◌, map}
+use mathlib.Core.List.{List, [], ◌∷◌, map}
 use Prim.Native.Nat.{ℕ, ◌<◌}
 use lib.Dec.{eqb}
 use native.Mathlib.Omega.{arith}
@@ -35,6 +35,7 @@ use Rattle.consistency.proofs.Joined.{joined_book, Joined, book-join, join-follo
 -- One of these is one of those before.
 among-map : {x : ReadSet} (lines : Items) (xs : List ReadSet)
     → Among x (map (on_lines lines) xs) → (y : ReadSet) × (Among y xs) × (x ≡ on_lines lines y)
+among-map lines [] i = elim i [ ]
 among-map lines (y ∷ ys) first = (y, first, refl)
 among-map lines (y ∷ ys) (later i) =
     let r = among-map lines ys i in
@@ -108,7 +109,8 @@ module _ {s : Store} {b : Book} {f : ℕ → List ReadSet} {r : ℕ} (v : Inv s 
           rw m.2 (fork-entered m.0 m.1)
 
 pub fork-laws : (r : ℕ) (s : Store) → Fine s → Laws (fork r) s (fork_rule_of r s)
-unfolding fork_rule_of fork_done forked_run with_run allowed book_rule book_fork finish finish_by role_of
+unfolding fork_rule_of fork_done forked_run with_run allowed book_rule book_fork finish finish_by
+    role_of
 fork-laws r s fine =
     laws-unless (fork r) s (fork_cause s r) (fork_done s r) (λ e.
     let A = forkable s r e in

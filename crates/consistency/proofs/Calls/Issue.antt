@@ -100,7 +100,8 @@ module _ (s : Store) (b : Book) (F : Follows s b) (r w S : ℕ) (hr : r < s.coun
   writer-next : (v : ℕ) → v ≡ w
       → WriterFollows s.counts.keys (entry r w S b ∷ b.history) b.base
       (saved_store s r w S) v
-  unfolding saved_store with_marks with_caches with_sites site_with with_last with_writer with_master
+  unfolding saved_store with_marks with_caches with_sites site_with with_last with_writer
+      with_master
       issued_writer entry
   writer-next v q =
       let K = s.counts.keys in
@@ -126,7 +127,8 @@ module _ (s : Store) (b : Book) (F : Follows s b) (r w S : ℕ) (hr : r < s.coun
   writer-same : (v : ℕ) → v < s.counts.writers → v ≢ w
       → WriterFollows s.counts.keys (entry r w S b ∷ b.history) b.base
       (saved_store s r w S) v
-  unfolding saved_store with_marks with_caches with_sites site_with with_last with_writer with_master
+  unfolding saved_store with_marks with_caches with_sites site_with with_last with_writer
+      with_master
       entry
   writer-same v l q =
       let K = s.counts.keys in
@@ -141,7 +143,8 @@ module _ (s : Store) (b : Book) (F : Follows s b) (r w S : ℕ) (hr : r < s.coun
       }
 
   issued-follows : Follows (saved_store s r w S) (issued_book r w S b)
-  unfolding saved_store with_marks with_caches with_sites site_with issued_book with_last with_writer
+  unfolding saved_store with_marks with_caches with_sites site_with issued_book with_last
+      with_writer
       with_master
   issued-follows =
       let W = s.counts.writers in
@@ -176,16 +179,19 @@ module _ (s : Store) (b : Book) (F : Follows s b) (r w S : ℕ) (hr : r < s.coun
       }
 
   issued-inv : (f : ℕ → List ReadSet) → Inv s b f
-      → Inv (with_run (saved_store s r w S) r free_run) (with_book_run (issued_book r w S b) r no_run)
+      → Inv (with_run (saved_store s r w S) r free_run) (with_book_run (issued_book r w S b) r
+      no_run)
       (put_at f r [])
-  unfolding saved_store with_marks with_caches with_sites site_with issued_book with_last with_writer
+  unfolding saved_store with_marks with_caches with_sites site_with issued_book with_last
+      with_writer
       with_master with_run with_book_run
   issued-inv f v =
       let t = saved_store s r w S in
       let c = issued_book r w S b in
       let W = s.counts.writers in
       let K = s.counts.keys in
-      inv-next (with_run t r free_run) (with_book_run c r no_run) (put_at f r []) r free_run no_run v
+      inv-next (with_run t r free_run) (with_book_run c r no_run) (put_at f r []) r free_run
+      no_run v
       (follows-run issued-follows r free_run no_run (free-follows W K c.history c.base))
       refl refl refl hr (put_at_other f r [])
       (λ k x y. stands-grow W K (entry r w S b) b.history b.base k x y)
@@ -207,7 +213,8 @@ done-moves s b f r w S v hr hw hS =
     (λ n. rw (n, book-issued r w S b) (issued-inv s b v.follows r w S hr hw hS n f v))
 
 pub issue-laws : (r w S : ℕ) (s : Store) → Fine s → Laws (issue r w S) s (issue_rule r w S s)
-unfolding issue_rule issue_cause run_cause issue_done issued_store saved_store with_marks with_caches
+unfolding issue_rule issue_cause run_cause issue_done issued_store saved_store with_marks
+    with_caches
     with_sites site_with with_run with_master with_writer with_last role_of
 issue-laws r w S s _ =
     laws-unless (issue r w S) s (issue_cause s r w S) (issue_done s r w S) (λ e.

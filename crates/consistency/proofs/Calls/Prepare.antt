@@ -191,7 +191,8 @@ same-covers {r = r} fine v A n k l h p =
 
 done-moves : {s : Store} {b : Book} {f : ℕ → List ReadSet} {r : ℕ} → Fine s → Inv s b f
     → Accepted s r → Moves (prepare r) s b f (prepare_done s r)
-unfolding prepare_done book_rule finish finish_by role_of site_with with_caches with_sites with_book_caches
+unfolding prepare_done book_rule finish finish_by role_of site_with with_caches with_sites
+    with_book_caches
 done-moves {s} {b} {f} {r} fine v A =
     let F = v.follows in
     let after = with_snapshot (s.run r) (prepare_snapshot s r) in

@@ -35,7 +35,8 @@ away-same L p q m r k l =
     ap (λ (b : Bool). b && not (test_bit m k)) (L.held k (p k) (q k) l (r k l))
 
 pub mayhold-laws : (o m : ℕ) (s : Store) → Fine s → Laws (mayhold o m) s (mayhold_rule o m s)
-unfolding mayhold_rule mayhold_done mayhold_cache right_cause book_rule book_mayhold finish finish_by
+unfolding mayhold_rule mayhold_done mayhold_cache right_cause book_rule book_mayhold finish
+    finish_by
     role_of with_cache with_sites with_tail_of
 mayhold-laws o m s _ =
     laws-unless (mayhold o m) s (right_cause s s.counts.sites o m) (mayhold_done s o m) (λ e.

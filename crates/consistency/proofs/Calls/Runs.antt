@@ -30,7 +30,8 @@ open_free r s F l a =
     free-state (s.run r).state low a
 
 pub open_laws : (r : ℕ) (l : List ℕ) (s : Store) → Fine s → Laws (open_run r l) s (open_rule r l s)
-unfolding open_rule open_done open_cause run_cause opened_run with_run book_rule book_open finish finish_by
+unfolding open_rule open_done open_cause run_cause opened_run with_run book_rule book_open finish
+    finish_by
     role_of
 open_laws r l s F =
     laws-unless (open_run r l) s (open_cause s r l) (open_done s r l) (λ e.

@@ -57,7 +57,8 @@ module _ {s : Store} {b : Book} {f : ℕ → List ReadSet} {r j n : ℕ} (fine :
 
   abbrev next_book : Book
   next_book =
-      with_book_run (with_book_caches b (put_at b.cache (step_site s r j n) (copy_cache s b r j n))) r
+      with_book_run (with_book_caches b (put_at b.cache (step_site s r j n)
+      (copy_cache s b r j n))) r
       (copy_run s b r j n)
 
   -- The branch that was stepped.
@@ -218,11 +219,10 @@ module _ {s : Store} {b : Book} {f : ℕ → List ReadSet} {r j n : ℕ} (fine :
       rw now-is
       (inv-run w (put_at f r xs) r (stepped_run s r j n) (copy_run s b r j n) stepped-follows
       a.run_in (put_at_other f r xs) (λ x i. read x (rw (put_at_same f r xs) at i))
-      (rw (put_at_same f r xs) covers))
-    where
-      read : HasRead s b (stepped_run s r j n) (copy_run s b r j n) (now ∷ f r)
-      read x first = now-entered
-      read x (later i) = still-entered x i
+      (rw (put_at_same f r xs) covers)) where
+        read : HasRead s b (stepped_run s r j n) (copy_run s b r j n) (now ∷ f r)
+        read x first = now-entered
+        read x (later i) = still-entered x i
 
 done-moves : {s : Store} {b : Book} {f : ℕ → List ReadSet} {r j n : ℕ} → Fine s → Inv s b f
     → Accepted s r j n → any_below s.counts.keys (step_moved s r j n) ≡ false
@@ -233,18 +233,16 @@ done-moves {s} {b} {f} {r} {j} {n} fine v a none =
 
 -- Broken or done, its run was in use and goes on.
 pub step-laws : (r j n : ℕ) (s : Store) → Fine s → Laws (step r j n) s (step_rule_of r j n s)
-unfolding step_rule_of step_broken step_done with_run with_cache with_sites with_state with_job_done role_of
-    is_on
+unfolding step_rule_of step_broken step_done with_run with_cache with_sites with_state
+    with_job_done role_of is_on
 step-laws r j n s fine =
     laws-unless (step r j n) s (step_cause s r j n) _ (λ e.
     let a = accepted s r j n e in
     let used = accepted-used a in
-    test (any_below s.counts.keys (step_moved s r j n))
-    (λ t. rw t (record {
+    test (any_below s.counts.keys (step_moved s r j n)) (λ t. rw t (record {
       moves = λ b f v. inv-state v r broken_state a.run_in;
       turns = (r, eq-eqb r r refl, works r _ _ used (omega arith) refl refl);
-    }))
-    (λ t. rw t (record {
+    })) (λ t. rw t (record {
       moves = λ b f v. done-moves fine v a t;
       turns = works r _ _ used used refl refl;
     })))

@@ -117,7 +117,8 @@ module _ (s : Store) (r w S : ℕ) (F : Fine s) (hr : r < s.counts.runs)
       (λ t. rw t old)
 
   saved-kept : (a : List ℕ) → Kept s (done a (with_run (saved_store s r w S) r free_run))
-  unfolding saved_store issued_writer with_last with_writer with_master with_marks with_caches with_sites
+  unfolding saved_store issued_writer with_last with_writer with_master with_marks with_caches
+      with_sites
       with_run
   saved-kept a =
       let z = s.counts in

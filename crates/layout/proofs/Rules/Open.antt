@@ -52,7 +52,8 @@ list-out z l p =
       whole = eqb-eq _ _ (and_left whole (between max_jobs n && valid) p);
       low = range.0;
       high = range.1;
-      valid = all-at n (λ i. valid_job z i (listed_job l i)) (and_right (between max_jobs n) valid q);
+      valid = all-at n (λ i. valid_job z i (listed_job l i)) (and_right (between max_jobs n) valid
+          q);
     }
 
 pub job_in_lem : (l : List ℕ) (i : ℕ) → i < listed_count l → listed_jobs l i ≡ listed_job l i

@@ -7,7 +7,6 @@ use Rattle.words.proofs.Bools.{test, ltb-lt}
 use Rattle.words.proofs.Turns.{turn_low}
 use Rattle.model.specs.Tail.{tail_round}
 use Rattle.model.specs.Store.{Store, with_tail_of, with_round}
-use Rattle.model.specs.Outcome.{Outcome}
 use Rattle.model.specs.Calls.Pick.{pick_turn, picked_run, pick_done, pick_rule}
 use Rattle.model.proofs.Formed.{TailFormed, well-out}
 use Rattle.model.proofs.FormedNext.{formed-tail}

@@ -57,7 +57,8 @@ module _ (s : Store) (F : Fine s) where
 
 -- Mayhold: E leaves the cache, from what is barred; then the right is another.
 pub mayhold-kept : (o m : ℕ) (s : Store) → Fine s → Kept s (mayhold_rule o m s)
-unfolding mayhold_rule mayhold_done mayhold_cache right_cause with_cache with_sites site_with with_tail_of
+unfolding mayhold_rule mayhold_done mayhold_cache right_cause with_cache with_sites site_with
+    with_tail_of
 mayhold-kept o m s F =
     kept-unless s (right_cause s s.counts.sites o m) (mayhold_done s o m) F (λ e.
     let z = s.counts in

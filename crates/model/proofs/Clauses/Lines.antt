@@ -70,11 +70,14 @@ pub record Lines : Type 0 where
   pub of-card : second-card ≡ replicate 3 true
 
 pub lines : Lines
-unfolding any_below all_below put_at test_bit with_bit with_if mask_below present between held fresh
+unfolding any_below all_below put_at test_bit with_bit with_if mask_below present between held
+    fresh
     planned done_reads with_master with_sites with_cache with_run with_state with_tail_of zero_rows
-    zero_version leaders_formed version_formed place_formed valid_job zero_job zero_branch free_formed
+    zero_version leaders_formed version_formed place_formed valid_job zero_job zero_branch
+    free_formed
     jobs_formed masks_formed mark_formed snapshot_formed branches_formed run_formed site_formed
-    rights_formed tail_formed barred well_formed is_stale stale_mask site_with exceeds standing when
+    rights_formed tail_formed barred well_formed is_stale stale_mask site_with exceeds standing
+    when
     count_below held_count over
 lines = record {
   of-marks = refl;

@@ -41,7 +41,8 @@ card = version 2 ((1 ∷ []) ∷ (2 ∷ []) ∷ [])
 abbrev desk : Store
 desk =
     let s = with_master (with_last (fresh (counts_of 2 1 1 1)) 2) (place (both 1)) in
-    with_run (with_writer (with_cache s 0 (place (both 1))) 0 (wrote 2 ((1 ∷ []) ∷ (2 ∷ []) ∷ []))) 0
+    with_run (with_writer (with_cache s 0 (place (both 1))) 0 (wrote 2
+    ((1 ∷ []) ∷ (2 ∷ []) ∷ []))) 0
     (carrying 1 2 card)
 
 -- The master's row of sheet 0 is n; the shelf's mark follows.

@@ -9,7 +9,7 @@ use Rattle.sizes.specs.Bounds.{counts_of}
 use Rattle.model.specs.Store.{Store, Job, no_job, no_branch, fresh, site_allowed, with_last, with_master, with_site, with_cache, with_run}
 use Rattle.model.specs.Form.{well_formed}
 use Rattle.model.specs.Calls.Forecast.{forecast_walk}
-use Rattle.model.specs.Calls.{StoreCall, open_run, fetch, prepare, step, issue, drop_run, allow, mayhold, fork, join, ask, forecast}
+use Rattle.model.specs.Calls.{StoreCall, open_run, fetch, prepare, step, issue, allow, mayhold, fork, join, ask, forecast}
 use Rattle.model.proofs.Scripts.{ok₁, ok₃, not_taken}
 use Rattle.model.proofs.Readings.{version, place, unforked, answered}
 use Rattle.model.proofs.Computed.Explain.{save}

@@ -1,8 +1,7 @@
 -- The forecasts (CR 12) computed by the definitions.
 -- Assumes nothing.
 use mathlib.Core.Path.{◌≡◌, refl}
-use mathlib.Core.Bool.{true, false}
-use mathlib.Core.List.{[], ◌∷◌}
+use mathlib.Core.Bool.{true}
 use lib.ListN.{replicate}
 use Rattle.words.specs.Tests.{any_below, all_below, only}
 use Rattle.words.specs.Numbers.{when, count_below, fold_below}
@@ -31,7 +30,6 @@ use Rattle.model.specs.Stays.{same_version, stays, stays_other, moved_keys, move
 use Rattle.model.specs.Calls.Fork.{forked_run, fork_cause, fork_done, fork_rule_of, joined_place, joined_branch, joined_run, join_moved, join_cause, join_done, join_broken, join_rule_of}
 use Rattle.model.specs.Calls.Forecast.{undone_at, undone, walk_on, walk, ended_word, ended_numbers, forecast_cause, forecast_walk, forecast_reply}
 use Rattle.model.specs.Calls.{reply_of, rule_of}
-use Rattle.model.proofs.Scripts.{answers}
 use Rattle.model.proofs.Computed.Explain.{told_after}
 use Rattle.model.proofs.Computed.Forecast as forecasts
 
@@ -52,25 +50,34 @@ pub record Foretold : Type 0 where
 pub foretold : Foretold
 unfolding done_reads zero_rows zero_version leaders_formed version_formed place_formed zero_job
     zero_branch free_formed jobs_formed masks_formed mark_formed snapshot_formed branches_formed
-    run_formed site_formed rights_formed tail_formed well_formed is_stale stale_mask site_with with_marks
-    when count_below held_count over any_over any_below all_below only fold_below put_at upto blocks
+    run_formed site_formed rights_formed tail_formed well_formed is_stale stale_mask site_with
+    with_marks
+    when count_below held_count over any_over any_below all_below only fold_below put_at upto
+    blocks
     test_bit with_bit with_if mask_below closure rounds round exceeds standing dominates present
     join between lacking held dependency supersedes leads_on merged_leaders larger merge draws
     draw_set fetch_set fetched unfetchable pull_set pulled fresh planned with_master with_last
     with_sites with_cache with_caches with_writer with_run with_state with_snapshot with_job_done
     with_tail_of valid_job answer refuse unless allowed run_cause fetch_cause fetch_done fetch_rule
-    listed_job listed_count listed_jobs list_valid open_cause opened_run open_done open_rule drop_cause
+    listed_job listed_count listed_jobs list_valid open_cause opened_run open_done open_rule
+    drop_cause
     drop_done drop_rule job_start fetch_reads prepared_caches unpreparable uses_site sites_merged
     site_caches unentitled prepare_cause prepare_caches prepare_snapshot prepare_done prepare_rule
-    read_start step_site step_reads step_start step_fetch step_cache step_plan step_pull step_snapshot
+    read_start step_site step_reads step_start step_fetch step_cache step_plan step_pull
+    step_snapshot
     step_moved step_barred barred job_limit not_ready off_branch job_cause step_cause step_broken
-    step_done step_rule_of raise_cause issue_cause taken_in rows_set new_past new_version issued_master
+    step_done step_rule_of raise_cause issue_cause taken_in rows_set new_past new_version
+    issued_master
     issued_writer saved_store issued_store issued_number issue_done issue_rule replied reply_of
-    same_version stays stays_other moved_keys moved_set forked_run fork_cause fork_done fork_rule_of
-    joined_place joined_branch joined_run join_moved join_cause join_done join_broken join_rule_of undone_at
+    same_version stays stays_other moved_keys moved_set forked_run fork_cause fork_done
+    fork_rule_of
+    joined_place joined_branch joined_run join_moved join_cause join_done join_broken join_rule_of
+    undone_at
     undone walk_on walk ended_word ended_numbers forecast_cause forecast_walk forecast_reply
-    allow_cause allow_done allow_rule taken_away right_cause mayhold_cache mayhold_done mayhold_rule
-    past_size version_size place_size site_size writer_size run_size master_at sites_at writers_at runs_at
+    allow_cause allow_done allow_rule taken_away right_cause mayhold_cache mayhold_done
+    mayhold_rule
+    past_size version_size place_size site_size writer_size run_size master_at sites_at writers_at
+    runs_at
     tail_size tail_at total_of evict_set evicted rule_of
 foretold = record {
   first_break = refl;

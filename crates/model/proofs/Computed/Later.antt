@@ -90,24 +90,32 @@ pub record Later : Type 0 where
 
 pub later : Later
 unfolding needs_met causal_cut overlapping_cut concurrent done_reads zero_rows zero_version
-    leaders_formed version_formed place_formed zero_job zero_branch free_formed jobs_formed masks_formed
+    leaders_formed version_formed place_formed zero_job zero_branch free_formed jobs_formed
+    masks_formed
     mark_formed snapshot_formed branches_formed run_formed site_formed rights_formed tail_formed
     well_formed is_stale stale_mask site_with with_marks stale_cause stale_reply when count_below
-    held_count over any_over allow_cause allow_done allow_rule any_below all_below only fold_below put_at
-    upto blocks test_bit with_bit with_if mask_below closure rounds round exceeds standing dominates
+    held_count over any_over allow_cause allow_done allow_rule any_below all_below only fold_below
+    put_at
+    upto blocks test_bit with_bit with_if mask_below closure rounds round exceeds standing
+    dominates
     present join between lacking held dependency supersedes leads_on merged_leaders larger merge
     draws draw_set fetch_set fetched unfetchable evict_set evicted pull_set pulled fresh planned
-    with_master with_last with_sites with_cache with_caches with_writer with_run with_state with_snapshot
-    with_job_done with_tail_of valid_job answer refuse unless allowed run_cause fetch_cause fetch_done
+    with_master with_last with_sites with_cache with_caches with_writer with_run with_state
+    with_snapshot
+    with_job_done with_tail_of valid_job answer refuse unless allowed run_cause fetch_cause
+    fetch_done
     fetch_rule evict_cause evict_done evict_rule listed_job listed_count listed_jobs list_valid
     open_cause opened_run open_done open_rule drop_cause drop_done drop_rule job_start fetch_reads
     prepared_caches unpreparable uses_site sites_merged site_caches unentitled prepare_cause
-    prepare_caches prepare_snapshot prepare_done prepare_rule read_start step_site step_reads step_start
+    prepare_caches prepare_snapshot prepare_done prepare_rule read_start step_site step_reads
+    step_start
     step_fetch step_cache step_plan step_pull step_snapshot step_moved step_barred barred job_limit
-    not_ready off_branch job_cause step_cause step_broken step_done step_rule_of raise_cause issue_cause
+    not_ready off_branch job_cause step_cause step_broken step_done step_rule_of raise_cause
+    issue_cause
     taken_in rows_set new_past new_version issued_master issued_writer saved_store issued_store
     issued_number issue_done issue_rule look_place look_limit look_cause row_numbers look_standing
-    look_numbers look_reply explain_start explain_edge explain_goal explain_path breaks explain_reply
+    look_numbers look_reply explain_start explain_edge explain_goal explain_path breaks
+    explain_reply
     lowest near distance nearest path_by shortest_path each_branch every_place every_version
     every_past causal_cuts overlapping_cuts master_covers counts_within number_within admissible
     admit_cause admit_reply replied reply_of first_below_of turn ready waiting ready_job pick_turn
@@ -176,28 +184,41 @@ pub record Lines : Type 0 where
 
 pub lines : Lines
 unfolding needs_met causal_cut overlapping_cut done_reads zero_rows zero_version leaders_formed
-    version_formed place_formed zero_job zero_branch free_formed jobs_formed masks_formed mark_formed
+    version_formed place_formed zero_job zero_branch free_formed jobs_formed masks_formed
+    mark_formed
     snapshot_formed branches_formed run_formed site_formed rights_formed tail_formed well_formed
     is_stale stale_mask site_with with_marks when count_below held_count over any_over any_below
-    all_below only fold_below put_at upto blocks test_bit with_bit with_if mask_below closure rounds
+    all_below only fold_below put_at upto blocks test_bit with_bit with_if mask_below closure
+    rounds
     round exceeds standing dominates present join between lacking held dependency supersedes
-    leads_on merged_leaders larger merge draws draw_set fetch_set fetched unfetchable pull_set pulled
+    leads_on merged_leaders larger merge draws draw_set fetch_set fetched unfetchable pull_set
+    pulled
     fresh planned with_master with_last with_sites with_cache with_caches with_writer with_run
-    with_state with_snapshot with_job_done with_tail_of valid_job answer refuse unless allowed run_cause
+    with_state with_snapshot with_job_done with_tail_of valid_job answer refuse unless allowed
+    run_cause
     fetch_cause fetch_done fetch_rule listed_job listed_count listed_jobs list_valid open_cause
-    opened_run open_done open_rule drop_cause drop_done drop_rule job_start fetch_reads prepared_caches
+    opened_run open_done open_rule drop_cause drop_done drop_rule job_start fetch_reads
+    prepared_caches
     unpreparable uses_site sites_merged site_caches unentitled prepare_cause prepare_caches
-    prepare_snapshot prepare_done prepare_rule read_start step_site step_reads step_start step_fetch
+    prepare_snapshot prepare_done prepare_rule read_start step_site step_reads step_start
+    step_fetch
     step_cache step_plan step_pull step_snapshot step_moved step_barred barred job_limit not_ready
-    off_branch job_cause step_cause step_broken step_done step_rule_of raise_cause issue_cause taken_in
-    rows_set new_past new_version issued_master issued_writer saved_store issued_store issued_number
+    off_branch job_cause step_cause step_broken step_done step_rule_of raise_cause issue_cause
+    taken_in
+    rows_set new_past new_version issued_master issued_writer saved_store issued_store
+    issued_number
     issue_done issue_rule look_place look_limit look_cause row_numbers look_standing look_numbers
-    look_reply explain_start explain_edge explain_goal explain_path breaks explain_reply lowest near
-    distance nearest path_by shortest_path each_branch every_place every_version every_past causal_cuts
+    look_reply explain_start explain_edge explain_goal explain_path breaks explain_reply lowest
+    near
+    distance nearest path_by shortest_path each_branch every_place every_version every_past
+    causal_cuts
     overlapping_cuts master_covers counts_within number_within admissible admit_cause admit_reply
-    replied reply_of first_below_of turn ready waiting ready_job pick_turn picked_run pick_done pick_rule
-    same_version stays stays_other moved_keys moved_set forked_run fork_cause fork_done fork_rule_of
-    joined_place joined_branch joined_run join_moved join_cause join_done join_broken join_rule_of rule_of
+    replied reply_of first_below_of turn ready waiting ready_job pick_turn picked_run pick_done
+    pick_rule
+    same_version stays stays_other moved_keys moved_set forked_run fork_cause fork_done
+    fork_rule_of
+    joined_place joined_branch joined_run join_moved join_cause join_done join_broken join_rule_of
+    rule_of
 lines = record {
   joined-lines = refl;
   mark-refusals = refl;

@@ -15,7 +15,7 @@ use Rattle.model.specs.Form.{well_formed}
 use Rattle.model.specs.Calls.{StoreCall, open_run, fetch, prepare, step, issue, drop_run, ask, look, explain}
 use Rattle.model.proofs.Scripts.{answers, ok₁, ok₃, seen, not_taken}
 use Rattle.model.proofs.Readings.{version, clock, place, unforked}
-use Rattle.model.proofs.Computed.Explain.{edit, save, path, told_after}
+use Rattle.model.proofs.Computed.Explain.{edit, save, path}
 
 -- ---- after `new 2 2 2 2`: 3 before 4, 4 before 6, 6 before 7
 

@@ -56,7 +56,8 @@ left-answers =
 -- After `new 2 1 2 3`: it isn't asked whether the job's reads can be fetched.
 abbrev pub unfetched_script : List StoreCall
 unfetched_script =
-    open_run 2 (0 ∷ 1 ∷ 0 ∷ []) ∷ open_run 1 (0 ∷ 1 ∷ 0 ∷ 0 ∷ 0 ∷ 0 ∷ []) ∷ pick ∷ step 1 0 0 ∷ pick
+    open_run 2 (0 ∷ 1 ∷ 0 ∷ []) ∷ open_run 1 (0 ∷ 1 ∷ 0 ∷ 0 ∷ 0 ∷ 0 ∷ []) ∷ pick ∷ step 1 0 0 ∷
+    pick
     ∷ pick ∷ drop_run 1 ∷ pick ∷ []
 
 abbrev pub unfetched-answers : List (List ℕ)
@@ -79,7 +80,8 @@ broken-answers =
 -- alone: `ready_jobs` shows that the upstreams are asked.
 abbrev pub upstream_script : List StoreCall
 upstream_script =
-    open_run 0 (0 ∷ 0 ∷ 0 ∷ 0 ∷ 0 ∷ 0 ∷ 0 ∷ 0 ∷ 3 ∷ []) ∷ step 0 1 0 ∷ pick ∷ step 0 0 0 ∷ pick ∷ []
+    open_run 0 (0 ∷ 0 ∷ 0 ∷ 0 ∷ 0 ∷ 0 ∷ 0 ∷ 0 ∷ 3 ∷ []) ∷ step 0 1 0 ∷ pick ∷ step 0 0 0 ∷ pick ∷
+    []
 
 abbrev pub upstream-answers : List (List ℕ)
 upstream-answers = ok₁ 3 ∷ stepped ∷ ok₂ 0 0 ∷ stepped ∷ ok₂ 0 2 ∷ []

@@ -121,7 +121,8 @@ carried-answers =
 -- save.
 abbrev pub saved_script : List StoreCall
 saved_script =
-    maysave 0 2 ∷ maysave 2 0 ∷ maysave 0 4 ∷ open_run 0 (0 ∷ 0 ∷ 0 ∷ []) ∷ issue 0 0 1 ∷ step 0 0 0
+    maysave 0 2 ∷ maysave 2 0 ∷ maysave 0 4 ∷ open_run 0 (0 ∷ 0 ∷ 0 ∷ []) ∷ issue 0 0 1 ∷ step 0 0
+    0
     ∷ issue 0 0 1 ∷ issue 0 0 3 ∷ issue 0 0 0 ∷ (save 0 1 1 ++ edit 0 0 1 0 2)
 
 abbrev pub saved-answers : List (List ℕ)
@@ -143,7 +144,8 @@ last-answers = ok₁ 0 ∷ not_taken 13 ∷ ok₁ 0 ∷ not_taken 7 ∷ []
 abbrev pub uncut : Store
 uncut =
     let one = version 2 ((1 ∷ []) ∷ (2 ∷ []) ∷ []) in
-    let s = with_master (fresh (counts_of 2 1 1 1)) (place (version 1 ((1 ∷ []) ∷ []) ∷ one ∷ [])) in
+    let s = with_master (fresh (counts_of 2 1 1 1)) (place (version 1 ((1 ∷ []) ∷ []) ∷ one ∷ []))
+    in
     with_cache s 0 (place (unheld ∷ one ∷ []))
 
 abbrev pub uncut-calls : List StoreCall

@@ -1,6 +1,6 @@
 -- Admit: whether a store read back from disk is taken (CR 6).
--- every_version, every_past: "anywhere" on the store. causal_cuts .. numbers_within: the conditions
--- in the customer's order. admissible: all of them. admit_reply: the call.
+-- every_version, every_past: "anywhere" on the store. causal_cuts .. numbers_within: the
+-- conditions in the customer's order. admissible: all of them. admit_reply: the call.
 -- Assumes nothing.
 use Rattle.std.specs.Prelude.{Bool, not, ◌&&◌, [], ◌∷◌, ℕ, leb}
 use Rattle.words.specs.Tests.{all_below}

@@ -1,6 +1,7 @@
 -- Fork and join (CR 10): a run's snapshot ("card") and read mask are copied, and both branches
 -- ("lines") become one again.
--- fork_rule_of; joined_place, joined_branch: the cards merged, the read masks united; join_rule_of.
+-- fork_rule_of; joined_place, joined_branch: the cards merged, the read masks united;
+-- join_rule_of.
 -- Assumes nothing.
 use Rattle.std.specs.Prelude.{Bool, cond, not, [], ◌∷◌, ℕ, eqb}
 use Rattle.std.specs.Int.Bits.{bit_or}

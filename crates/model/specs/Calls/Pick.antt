@@ -1,6 +1,7 @@
 -- Pick: the next job, of the first run that waits, going round the runs from the one after the
 -- last picked.
--- ready, waiting, ready_job: the jobs of a run. pick_turn, picked_run: which run. pick_rule: the call.
+-- ready, waiting, ready_job: the jobs of a run. pick_turn, picked_run: which run. pick_rule: the
+-- call.
 -- Assumes nothing.
 use Rattle.std.specs.Prelude.{Bool, cond, not, ◌&&◌, [], ◌∷◌, ℕ, eqb, ltb}
 use Rattle.words.specs.Tests.{Items, any_below}

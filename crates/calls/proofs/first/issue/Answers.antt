@@ -1,0 +1,16 @@
+-- `issue` makes the call where it can be made, and turns it down elsewhere.
+-- Assumes nothing.
+use Rattle.calls.proofs.Forms.{exports}
+use Rattle.calls.proofs.first.issue.Goals as goal
+
+pub returns : goal.returns
+returns c = search exports
+
+pub returns-then-not-can_make : goal.returns-then-not-can_make
+returns-then-not-can_make c = search exports
+
+pub issue-r-requires : goal.issue-r-requires
+issue-r-requires c = search exports
+
+pub lay-requires : goal.lay-requires
+lay-requires c = search exports

@@ -1,0 +1,16 @@
+-- `allow` makes the call where it can be made, and turns it down elsewhere.
+-- Assumes nothing.
+use Rattle.calls.proofs.Forms.{exports}
+use Rattle.calls.proofs.later.allow.Goals as goal
+
+pub returns : goal.returns
+returns c = search exports
+
+pub returns-then-not-can_make : goal.returns-then-not-can_make
+returns-then-not-can_make c = search exports
+
+pub allow-r-requires : goal.allow-r-requires
+allow-r-requires c = search exports
+
+pub lay-requires : goal.lay-requires
+lay-requires c = search exports

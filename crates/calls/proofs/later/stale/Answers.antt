@@ -1,0 +1,16 @@
+-- `stale` answers where it can be made, and is turned down elsewhere.
+-- Assumes nothing.
+use Rattle.calls.proofs.Forms.{exports}
+use Rattle.calls.proofs.later.stale.Goals as goal
+
+pub returns : goal.returns
+returns c = search exports
+
+pub returns-then-not-can_make : goal.returns-then-not-can_make
+returns-then-not-can_make c = search exports
+
+pub stale-r-requires : goal.stale-r-requires
+stale-r-requires c = search exports
+
+pub lay-requires : goal.lay-requires
+lay-requires c = search exports

@@ -1,0 +1,14 @@
+-- `lacking` takes the held keys out of the mask.
+-- Assumes nothing.
+use Rattle.model.specs.Version.{versions}
+use Rattle.layout.specs.Reading.{read_place}
+use Rattle.sets.proofs.Lacks.{lacking-mask}
+use Rattle.sets.proofs.missing.lacking.Goals as goal
+
+pub returns : goal.returns
+returns c =
+    let h = c in
+    let s = h in
+    let a = s.args in
+    lacking-mask (versions a.z.writers) a.z.keys (read_place a.z a.words.now a.at)
+    a.mask _ _ s.requires.mask_bound h.held_mask-carried.ensures c.without.ensures

@@ -1,0 +1,18 @@
+-- It answers 4 for clocks that aren't alike, and otherwise the number of the standing.
+use Rattle.std.proofs.Common.{sym, ◌∙◌, arith}
+use Rattle.sheetdesk_c.proofs.Lengths.{one-length, compared-no, compared-done}
+use Rattle.sheetdesk_c.proofs.clocks.sheetdesk_compare.Goals as goal
+
+pub returns-then-not-are_alike : goal.returns-then-not-are_alike
+returns-then-not-are_alike c =
+    compared-no _ _ (sym c.are_alike.ensures ∙ c.if-not-are_alike.true)
+
+pub compare-requires : goal.compare-requires
+compare-requires c =
+    let y = sym c.are_alike.ensures ∙ c.if-not-are_alike.false in
+    let e = one-length _ _ y in (omega arith, omega (arith, e))
+
+pub returns : goal.returns
+returns c =
+    let y = sym c.are_alike.ensures ∙ c.if-not-are_alike.false in
+    c.standing_number.ensures ∙ compared-done _ _ _ y c.compare.ensures
