@@ -28,11 +28,11 @@ trial_shrink() {
   want 0 "what is left of a log" have replay "$work/less"
 }
 
-# in_time LINE: what is left of the many calls for that line, in a few seconds of the processor.
+# in_time LINE [SECONDS]: what is left of the many calls for that line, in a few seconds of the processor.
 in_time() {
-  local used
+  local used limit=${2:-5}
   used=$( { TIMEFORMAT=%U; time have shrink "$work/many" "$1" >"$work/out" 2>"$work/err"; } 2>&1)
-  [ "${used%.*}" -lt 5 ] || bad "20,000 calls, line $1: shrunk in $used s"
+  [ "${used%.*}" -lt "$limit" ] || bad "20,000 calls, line $1: shrunk in $used s"
   most=$(printf '%s\n' "$most" "$used" | sort -n | tail -n 1)
 }
 
@@ -66,11 +66,12 @@ trial_speed() {
 }
 
 # On the largest desk a look at a card needs thousands as well. The program has no room for it: tests/shrink.rs takes some out.
+# Its words don't lie in a processor's own memory: how long that takes is the machine's, two seconds on one and ten on another.
 trial_largest() {
   local line most=0
   many_calls 32 16 8 8 >"$work/many"
   line=$(grep -n '^look 2' "$work/many" | tail -n 1 | cut -d : -f 1)
-  in_time "$line"
+  in_time "$line" 30
   [ "$(wc -l <"$work/out")" -gt 9000 ] || bad "line $line: only $(wc -l <"$work/out") calls are left"
   target/tools/shrink --left "$work/many" "$line" "$work/out" 1499 || bad "tests/shrink.rs"
   echo "history: 20,000 calls on the largest desk shrunk in $most s"
