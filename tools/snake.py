@@ -10,6 +10,7 @@ fall together the lemma gets `_lem`.
 import collections
 import os
 import re
+import subprocess
 import sys
 
 WORD = re.compile(r"[^\s(){}\[\],;.:\"`⌜⌝⟦⟧⦃⦄=|&<>!?/\\+*%^~@#$]+")
@@ -35,7 +36,8 @@ def read(p):
 def library():
     """Names that the library declares: those stay."""
     found = set()
-    kit = os.path.realpath(os.environ.get("KIT", "/opt/rattle"))
+    page = subprocess.run(["rt", "doc"], stdout=subprocess.PIPE, check=True, text=True).stdout
+    kit = os.path.dirname(os.path.realpath(page.strip().splitlines()[-1]))
     for top in ("rattle/std", "rattle/core", "rattle/std_alloc", "rattle/logic", "rattle/antt"):
         for above, _, names in os.walk(os.path.join(kit, top)):
             for n in names:
