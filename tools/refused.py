@@ -27,7 +27,7 @@ ROOT = os.path.dirname(os.path.dirname(os.path.abspath(__file__)))
 CACHE = os.environ.get("XDG_CACHE_HOME") or os.path.expanduser("~/.cache")
 KEPT = os.path.join(CACHE, "sheetdesk", "refused")
 FAULT = re.compile(r"fault (\w+):")
-FUNCTION = re.compile(r"^( *)(?:pub )?(?:extern \"C\" )?fn (\w+)")
+FUNCTION = re.compile(r"^( *)(?:pub(?:\(crate\))? )?(?:extern \"C\" )?fn (\w+)")
 METHODS = re.compile(r"^impl(?:<.*?>)? (?:(\w+)(?:<.*?>)? for )?(\w+)")
 PROOF_ERROR = re.compile(
     r"^(?:\./)?proofs/(\S+)/(?:Answers|Invariants|Proof)\.antt:\d+:\d+: error: (.*)"
@@ -89,7 +89,10 @@ def function_at(lines, at):
 
 def stands_for(path, name, function, owners):
     """Whether a proof file at a path is that of the function: a method's stands below its type,
-    and a function's below the module of its file."""
+    and a function's below the module of its file; a closure's counts as its function's."""
+    if "fn" in path:
+        of = path.index("fn")
+        path = path[:of] + path[of + 1:of + 2]
     if owners:
         return path[-1] == function and len(path) > 1 and path[-2] in owners
     module = os.path.basename(name)[:-len(".rt")]

@@ -1,4 +1,4 @@
-pub mod Loops
+pub mod Orders
 pub mod Words
 pub mod Small
 pub mod Answers

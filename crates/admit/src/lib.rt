@@ -18,7 +18,7 @@ ghost use Rattle.version.specs.Places.{Area};
 ghost use Rattle.form.specs.Parts.{StoreArea, FormWith};
 ghost use Rattle.admit.specs.Parts.{row_within, own_counts, counts_at, cache_test, run_test, writer_test};
 
-use answers::Answered;
+use answers::refusal::Refusal;
 use clock::count::count_at;
 use form::header::counts;
 use form::job::reads_of;
@@ -40,17 +40,7 @@ fn row_within(words: &[u32], z: Counts, row: usize) -> bool
     ensures { result ≡ row_within z (counts_at z words.now)
         (clock_at words.now row) }
 {
-    let n = z.writers;
-    let mut u = 0;
-    while u < n {
-        let count = count_at(words, row + u);
-        let made = count_at(words, z.writer_at(u));
-        if count.exceeds(made) {
-            return false;
-        }
-        u += 1;
-    }
-    true
+    (0..z.writers).all(|u| count_at(words, row + u) <= count_at(words, z.writer_at(u)))
 }
 
 // Whether no count of the master's own rows is above its writer's.
@@ -59,16 +49,7 @@ fn own_counts(words: &[u32], z: Counts, master: usize) -> bool
     ensures { result ≡ own_counts z (counts_at z words.now)
         (read_place z words.now master) }
 {
-    let n = z.keys;
-    let mut d = 0;
-    while d < n {
-        let row = row_of(z, master, d, d);
-        if !row_within(words, z, row) {
-            return false;
-        }
-        d += 1;
-    }
-    true
+    (0..z.keys).all(|d| row_within(words, z, row_of(z, master, d, d)))
 }
 
 // Whether every cache is taken.
@@ -77,16 +58,7 @@ fn caches_taken(words: &[u32], z: Counts, master: usize, last: IssueNumber) -> b
     ensures { result ≡ all_below z.sites
         (cache_test z words.now master last.0) }
 {
-    let n = z.sites;
-    let mut o = 0;
-    while o < n {
-        let at = z.site_at(o);
-        if !place_taken(words, z, master, last, EVERY_KEY, at) {
-            return false;
-        }
-        o += 1;
-    }
-    true
+    (0..z.sites).all(|o| place_taken(words, z, master, last, EVERY_KEY, z.site_at(o)))
 }
 
 // Whether both snapshots of run r are taken, with the keys of its plan.
@@ -110,15 +82,7 @@ fn snapshots_taken(words: &[u32], z: Counts, master: usize, last: IssueNumber) -
     ensures { result ≡ all_below z.runs
         (run_test z words.now master last.0) }
 {
-    let n = z.runs;
-    let mut r = 0;
-    while r < n {
-        if !run_taken(words, z, master, last, r) {
-            return false;
-        }
-        r += 1;
-    }
-    true
+    (0..z.runs).all(|r| run_taken(words, z, master, last, r))
 }
 
 // Whether the master's own rows cover those of every writer's past.
@@ -127,16 +91,7 @@ fn pasts_covered(words: &[u32], z: Counts, master: usize) -> bool
     ensures { result ≡ all_below z.writers
         (writer_test z words.now master) }
 {
-    let n = z.writers;
-    let mut w = 0;
-    while w < n {
-        let at = z.writer_at(w);
-        if !past_covered(words, z, master, at + WriterOffset::PAST) {
-            return false;
-        }
-        w += 1;
-    }
-    true
+    (0..z.writers).all(|w| past_covered(words, z, master, z.writer_at(w) + WriterOffset::PAST))
 }
 
 // Whether the store is taken. The master's cut isn't tested: it follows, and so do the counts of
@@ -153,15 +108,15 @@ fn is_admissible(words: &[u32], z: Counts) -> bool
                 & (pasts_covered(words, z, master) & own_counts(words, z, master))))
 }
 
-// Whether a buffer that is in form is admitted: 0, or refused with 11.
-pub fn admit(words: &[u32]) -> Answered
+// Whether a buffer that is in form is admitted. Answers 0.
+pub fn admit(words: &[u32]) -> Result<u32, Refusal>
     requires { So (in_form words.now) }
     ensures { answered_words result
         ≡ answer (call_on (on (ask admit)) words.now) }
 {
     let z = counts(words);
     if !is_admissible(words, z) {
-        return Answered::Refused(11);
+        return Err(Refusal::NotAdmitted);
     }
-    Answered::Done(0)
+    Ok(0)
 }

@@ -21,17 +21,11 @@ pub fn past_covered(words: &[u32], z: Counts, master: usize, past: usize) -> boo
     ensures { result ≡ past_covered z (read_place z words.now master)
         (read_past_of z words.now past) }
 {
-    let n = z.keys;
-    let mut d = 0;
-    while d < n {
+    (0..z.keys).all(|d| {
         let own = row_of(z, master, d, d);
         let row = z.past_row_at(past, d);
-        if !covering(compare(words, own, words, row, z.writers)) {
-            return false;
-        }
-        d += 1;
-    }
-    true
+        covering(compare(words, own, words, row, z.writers))
+    })
 }
 
 // Whether the master's own rows cover those of every version of the place.
@@ -40,16 +34,7 @@ fn rows_covered(words: &[u32], z: Counts, master: usize, at: usize) -> bool
     ensures { result ≡ rows_covered z (read_place z words.now master)
         (read_place z words.now at) }
 {
-    let n = z.keys;
-    let mut k = 0;
-    while k < n {
-        let version = z.key_at(at, k);
-        if !past_covered(words, z, master, version + VersionOffset::PAST) {
-            return false;
-        }
-        k += 1;
-    }
-    true
+    (0..z.keys).all(|k| past_covered(words, z, master, z.key_at(at, k) + VersionOffset::PAST))
 }
 
 // Whether no issue number of the place is above the last.
@@ -57,16 +42,7 @@ fn numbers_within(words: &[u32], z: Counts, at: usize, last: IssueNumber) -> boo
     requires { Area (length words.now) z at }
     ensures { result ≡ numbers_within z last.0 (read_place z words.now at) }
 {
-    let n = z.keys;
-    let mut k = 0;
-    while k < n {
-        let number = version_issue(words, z.key_at(at, k));
-        if number.exceeds(last) {
-            return false;
-        }
-        k += 1;
-    }
-    true
+    (0..z.keys).all(|k| version_issue(words, z.key_at(at, k)) <= last)
 }
 
 // Whether a need of key k for key d, if there is one among the keys of a mask, is met.
@@ -79,10 +55,7 @@ fn need_met(words: &[u32], z: Counts, at: usize, scope: u32, k: usize, d: usize)
         (supersedes z.writers d (read_place z words.now at d)
         ((read_place z words.now at k).past d)) }
 {
-    if !(has(scope, d as u32) & needs(words, z, at, k, d)) {
-        return true;
-    }
-    meets(words, z, at, d, at, k)
+    !(has(scope, d as u32) & needs(words, z, at, k, d)) || meets(words, z, at, d, at, k)
 }
 
 // Whether the needs of key k among the keys of a mask are met, if it is held and one of them.
@@ -97,18 +70,8 @@ fn key_met(words: &[u32], z: Counts, at: usize, scope: u32, k: usize) -> bool
         (supersedes z.writers d (read_place z words.now at d)
         ((read_place z words.now at k).past d)))) }
 {
-    if !(has(scope, k as u32) & held(words, z, at, k)) {
-        return true;
-    }
-    let n = z.keys;
-    let mut d = 0;
-    while d < n {
-        if !need_met(words, z, at, scope, k, d) {
-            return false;
-        }
-        d += 1;
-    }
-    true
+    !(has(scope, k as u32) & held(words, z, at, k))
+        || (0..z.keys).all(|d| need_met(words, z, at, scope, k, d))
 }
 
 // Whether every need among the keys of a mask is met in the place.
@@ -117,15 +80,7 @@ fn needs_met(words: &[u32], z: Counts, at: usize, scope: u32) -> bool
     ensures { result ≡ needs_met (versions z.writers) z.keys (test_bit scope)
         (read_place z words.now at) }
 {
-    let n = z.keys;
-    let mut k = 0;
-    while k < n {
-        if !key_met(words, z, at, scope, k) {
-            return false;
-        }
-        k += 1;
-    }
-    true
+    (0..z.keys).all(|k| key_met(words, z, at, scope, k))
 }
 
 // All that is asked of the place, with a mask of the keys whose needs it has to meet.

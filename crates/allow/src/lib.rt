@@ -11,15 +11,15 @@ ghost use Rattle.layout.specs.Buffer.{in_form};
 ghost use Rattle.layout.specs.Calls.{on, call_on, leaves};
 ghost use Rattle.form.specs.Parts.{FormWith};
 ghost use Rattle.answers.specs.Answers.{answered_words};
+ghost use Rattle.answers.specs.Refusals.{cause_number};
 
-use answers::Answered;
+use answers::refusal::Refusal;
 use form::header::counts;
 use sizes::Counts;
 use version::count_with;
-use words::wide;
 
 // Sets how many keys a site may hold. Answers 0.
-pub fn allow(words: &mut [u32], site: u32, number: u32) -> Answered
+pub fn allow(words: &mut [u32], site: u32, number: u32) -> Result<u32, Refusal>
     requires { So (in_form words.old) }
     ensures answers { answered_words result
         ≡ answer (call_on (on (allow site number)) words.old) }
@@ -28,32 +28,24 @@ pub fn allow(words: &mut [u32], site: u32, number: u32) -> Answered
 {
     let z = counts(words);
     let o = site as usize;
-    let cause = allow_cause(words, z, o, number);
-    if cause != 0 {
-        return Answered::Refused(cause);
-    }
+    allow_cause(words, z, o, number)?;
     let cache = z.site_at(o);
     let at = z.allowance_at(cache);
     words[at] = number;
-    Answered::Done(0)
+    Ok(0)
 }
 
-// The first cause for which an allow is refused, or 0.
-fn allow_cause(words: &[u32], z: Counts, o: usize, number: u32) -> u32
+// Why an allow is refused.
+fn allow_cause(words: &[u32], z: Counts, o: usize, number: u32) -> Result<(), Refusal>
     requires { FormWith words.now z }
-    ensures { result ≡ allow_cause (store_of words.now) o number }
+    ensures { cause_number result ≡ allow_cause (store_of words.now) o number }
 {
-    let sites = z.sites;
-    if sites <= o {
-        return 3;
-    }
-    let keys = z.keys;
-    if keys < wide(number) {
-        return 3;
+    if z.sites <= o || z.keys < number as usize {
+        return Err(Refusal::OutOfRange);
     }
     let cache = z.site_at(o);
     if number < count_with(words, z, cache, 0) {
-        return 12;
+        return Err(Refusal::OverAllowance);
     }
-    0
+    Ok(())
 }

@@ -1,10 +1,11 @@
 -- The words of an answer in a lent slice.
 -- max_answer, answer_room: how many words there are. over: words laid over the front of others.
--- Lays: a slice before and after. answered_words: document 01's outcome and number for each case.
+-- Lays: a slice before and after. done_words, result_words, answered_words: document 01's outcome
+-- and number for each case.
 -- Assumes nothing.
-use Rattle.std.specs.Prelude.{◌≡◌, List, [], ◌∷◌, ◌++◌, ℕ, length, drop}
-use Rattle.answers.specs.declared.Answered.{Answered}
-use Rattle.answers.specs.declared.Answered.TheVariants.{Done, Refused}
+use Rattle.std.specs.Prelude.{◌≡◌, List, [], ◌∷◌, ◌++◌, ℕ, length, drop, Result, Ok, Err}
+use Rattle.answers.specs.declared.refusal.Refusal.{Refusal}
+use Rattle.answers.specs.Refusals.{refusal_number}
 
 -- The most words of an answer: a first word and 32 numbers.
 abbrev pub max_answer : ℕ
@@ -24,7 +25,15 @@ pub record Lays (ws a b : List ℕ) (n : ℕ) : Type 0 where
   pub laid : b ≡ over ws a
   pub count : n ≡ length ws
 
--- 0 ok, 2 refused; "a refusal carries its number".
-unfoldable pub answered_words : Answered → List ℕ
-answered_words (Done n) = 0 ∷ n ∷ []
-answered_words (Refused n) = 2 ∷ n ∷ []
+-- 0 ok, and the number.
+abbrev pub done_words : ℕ → List ℕ
+done_words n = 0 ∷ n ∷ []
+
+-- An answer's words, or 2 refused; "a refusal carries its number".
+abbrev pub result_words : {A : Type 0} → (A → List ℕ) → Result A Refusal → List ℕ
+result_words f (Ok x) = f x
+result_words f (Err r) = 2 ∷ refusal_number r ∷ []
+
+-- Of a call with one number.
+abbrev pub answered_words : Result ℕ Refusal → List ℕ
+answered_words = result_words done_words

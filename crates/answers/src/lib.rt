@@ -2,16 +2,13 @@
 // prints. They are laid over the front of a lent slice, and the slice's other words stay.
 #![tactic(auto)]
 
-ghost use Rattle.std.specs.Prelude.{◌≡◌, [], ◌∷◌, ◌≤◌, length};
-ghost use Rattle.answers.specs.Answers.{answer_room, Lays, answered_words};
+pub mod refusal;
 
-// The answer of a call with one number: that number, or the number of the cause for which it is
-// refused.
-#[derive(Clone, Copy)]
-pub enum Answered {
-    Done(u32),
-    Refused(u32),
-}
+ghost use Rattle.std.specs.Prelude.{◌≡◌, [], ◌∷◌, ◌≤◌, length, List, ℕ};
+ghost use Rattle.answers.specs.Answers.{max_answer, answer_room, Lays, done_words, result_words};
+ghost use Rattle.answers.specs.Few.{few-done};
+
+use refusal::Refusal;
 
 // How much room an answer needs.
 #[derive(Clone, Copy)]
@@ -56,12 +53,38 @@ pub fn put_three(answer: &mut [u32], first: u32, a: u32, b: u32) -> usize
     two + 1
 }
 
-pub fn put_answered(answer: &mut [u32], r: Answered) -> usize
+// What a call answers when it isn't refused.
+pub trait Answer {
+    // Its words: the outcome's, then the numbers.
+    ghost words: { Self → List ℕ };
+
+    // Puts them.
+    fn put(self, answer: &mut [u32]) -> usize
+        requires { answer_room ≤ length answer.old }
+        ensures { Lays (words self) answer.old answer.new result };
+
+    // They are no more than an answer has.
+    ghost few: { (x : Self) → length (words x) ≤ max_answer };
+}
+
+// A number alone.
+impl Answer for u32 {
+    ghost words = { done_words };
+
+    fn put(self, answer: &mut [u32]) -> usize {
+        put_two(answer, 0, self)
+    }
+
+    ghost few = { few-done };
+}
+
+// An answer, or the cause for which the call is refused.
+pub fn put_result<A: Answer>(answer: &mut [u32], r: Result<A, Refusal>) -> usize
     requires { answer_room ≤ length answer.old }
-    ensures { Lays (answered_words r) answer.old answer.new result }
+    ensures { Lays (result_words A.words r) answer.old answer.new result }
 {
     match r {
-        Answered::Done(number) => put_two(answer, 0, number),
-        Answered::Refused(no) => put_two(answer, 2, no),
+        Ok(answered) => answered.put(answer),
+        Err(refusal) => put_two(answer, 2, u32::from(refusal)),
     }
 }

@@ -1,6 +1,7 @@
 pub mod Loops
 pub mod Headers
 pub mod Places
+pub mod Folding
 pub mod Ranks
 pub mod Counted
 pub mod Lowering

@@ -1,5 +1,5 @@
 -- The least counts of an issue's reads, apart from 0, in an array.
--- fell-.., under-..: by one read. lower-..: by the reads of an issue. counts-below: what they say.
+-- lower-..: by the reads of an issue. counts-below: what they say.
 -- Assumes nothing.
 use mathlib.Core.Path.{◌≡◌, sym}
 use mathlib.Core.Bool.{true}
@@ -7,9 +7,8 @@ use mathlib.Core.List.{List}
 use Prim.Native.Nat.{ℕ, ◌+◌, ◌≤◌, ◌<◌}
 use native.Mathlib.Omega.{arith}
 use lib.Dec.{eqb}
-use lib.ListN.{length, get_or, set}
-use lib.Seq.{get_or-set_same, get_or-set_other}
-use Rattle.words.proofs.Bools.{test, eqb-eq, eqb-ne}
+use lib.ListN.{get_or}
+use Rattle.words.proofs.Bools.{eqb-eq}
 use Rattle.words.proofs.Tests.{below-cases}
 use Rattle.masks.specs.Mask.{test_bit}
 use Rattle.clock.specs.Clock.{Clock}
@@ -17,39 +16,6 @@ use Rattle.model.proofs.Cuts.{implies_in}
 use Rattle.records.specs.Format.{Record, first_at, number_at, key_of, clock_of, all_reads}
 use Rattle.records.proofs.ReadsOf.{reads_all}
 use Rattle.audit.specs.Parts.{Lowered, Least, count_saved}
-
--- ---- one read
-
--- No count below w rose.
-abbrev pub Fell : ℕ → List ℕ → List ℕ → Type 0
-Fell w l m = (v : ℕ) → v < w → get_or m v 0 ≤ get_or l v 0
-
--- No count below u is above the word at the same distance from an index, unless that is 0.
-abbrev pub Under : ℕ → List ℕ → ℕ → List ℕ → Type 0
-Under u b at m = (v : ℕ) → v < u → 1 ≤ get_or b (at + v) 0 → get_or m v 0 ≤ get_or b (at + v) 0
-
-module _ (m : List ℕ) (u x : ℕ) (h : u < length m) (o : x ≤ get_or m u 0) where
-  set-fell : (v : ℕ) → get_or (set m u x) v 0 ≤ get_or m v 0
-  set-fell v =
-      test (eqb u v)
-      (λ q. let e = eqb-eq u v q in rw (← e) (omega (arith, get_or-set_same m u x 0 h)))
-      (λ q.
-      let e = eqb-ne u v q in
-      omega (arith, get_or-set_other m u v x 0 (λ f. e (sym f))))
-
-  pub fell-turn : (w : ℕ) (l : List ℕ) → Fell w l m → Fell w l (set m u x)
-  fell-turn w l F v k = omega (arith, F v k, set-fell v)
-
-  pub under-turn : (b : List ℕ) (at : ℕ) → Under u b at m
-      → (1 ≤ get_or b (at + u) 0 → x ≤ get_or b (at + u) 0) → Under (u + 1) b at (set m u x)
-  under-turn b at U g v k one =
-      below-cases v u (omega arith)
-      (λ e.
-      let f : 1 ≤ get_or b (at + u) 0 = rw (← e) one in
-      rw e (omega (arith, get_or-set_same m u x 0 h, g f)))
-      (λ l. omega (arith, U v l one, set-fell v))
-
--- ---- the reads of an issue
 
 module _ (b : Record) (i w : ℕ) where
   -- No count is above that of one of the first r reads, unless that is 0.

@@ -1,24 +1,27 @@
 -- Where the issues and reads of a record stand.
 -- header_in: the issues. issue-..: their test. read-..: the reads of an issue. handed: what a
--- reader hands
--- out there.
+-- reader hands out there.
 -- Assumes nothing.
-use mathlib.Core.Path.{◌≡◌, sym, ap, ◌∙◌}
+use mathlib.Core.Path.{◌≡◌, refl, sym, ap, ◌∙◌}
 use mathlib.Core.Bool.{true, false}
 use Prim.Native.Nat.{ℕ, zero, suc, ◌+◌, ◌*◌, ◌^◌, ◌≤◌, ◌<◌}
 use native.Mathlib.Omega.{arith}
 use native.Mathlib.Numerals.{add-one}
 use native.Mathlib.Nat.{suc-mul, not-suc-le-zero}
 use lib.Dec.{eqb}
-use lib.ListN.{length, get_or}
+use lib.ListN.{length}
 use Rattle.words.specs.Tests.{Items, all_below}
 use Rattle.words.proofs.Bools.{le-leb, gt-leb, lt-ltb, ge-ltb}
 use Rattle.words.proofs.Tests.{below-cases}
 use Rattle.words.proofs.Slots.{slot-end}
-use Rattle.records.specs.Format.{Record, keys_in, writers_in, reads_in_of, writer_at, mask_at, first_at, number_at, read_at_of, key_of, clock_of, all_reads, reads_before, issue_ok}
-use Rattle.reader.specs.declared.Handed.{Handed}
+use Rattle.clock.specs.Clock.{clock_at}
+use Rattle.records.specs.Format.{Record, keys_in, writers_in, reads_in_of, writer_at, mask_at, first_at, number_at, read_at_of, key_of, clock_of, ReadOf, all_reads, reads_before, Readable, issue_ok}
+use Rattle.std.proofs.Common.{Option, Some, None}
+use Rattle.reader.specs.declared.Read.{Read}
 use Rattle.reader.specs.Reads.{read_from_of}
+use Rattle.audit.specs.declared.issues.Issue.{Issue}
 use Rattle.audit.specs.Parts.{HeaderOf, IssuesOf, ReadableOf, KeysLow}
+use Rattle.audit.specs.Steps.{read_of}
 
 pub header_in : (b : Record) (w n : ℕ) → HeaderOf b w n → 7 + 4 * n ≤ length b
 unfolding read_at_of
@@ -122,20 +125,24 @@ read_in b w n S i r at h k e =
       e,
     )
 
-pub read-onward : (b : Record) (w n : ℕ) → IssuesOf b w n → (i r at : ℕ)
-    → at ≡ read_at_of b (first_at b i + r) → at + 1 + w ≡ read_at_of b (first_at b i + (r + 1))
-read-onward b w n S i r at e =
+pub read-onward : (b : Record) (i r : ℕ)
+    → read_at_of b (first_at b i + r) + 1 + writers_in b ≡ read_at_of b (first_at b i + (r + 1))
+read-onward b i r =
     let x = first_at b i + r in
     let s : first_at b i + (r + 1) ≡ suc x = omega arith in
-    rw s (omega (arith, read_next b x, S.header.writers, e))
+    rw s (omega (arith, read_next b x))
 
 pub handed : (b : Record) (w n : ℕ) → IssuesOf b w n → (i r at : ℕ) → i < n → r < number_at b i
     → at ≡ read_at_of b (first_at b i + r)
-    → read_from_of b at w ≡ Handed.Read (key_of b (first_at b i + r)) (at + 1) (at + 1 + w)
+    → read_from_of b at w ≡ Some (read_of b (first_at b i + r))
 unfolding read_from_of key_of
 handed b w n S i r at h k e =
     let l : at + w < length b = omega (arith, read_in b w n S i r at h k e) in
-    rw (lt-ltb (at + w) (length b) l, e)
+    rw (lt-ltb (at + w) (length b) l, e, S.header.writers)
+
+pub counts-are : (b : Record) (x u : ℕ) → clock_at b (read_at_of b x + 1) u ≡ clock_of b x u
+unfolding clock_at clock_of
+counts-are b x u = refl
 
 -- The first one.
 pub read_first : (b : Record) (i at : ℕ) → at ≡ read_at_of b (first_at b i)
@@ -144,62 +151,43 @@ read_first b i at e =
     let z : first_at b i ≡ first_at b i + 0 = omega arith in
     e ∙ ap (read_at_of b) z
 
--- ---- what is handed out
+-- ---- of an issue in order
 
-abbrev key_part : Handed → ℕ
-key_part (Handed.Read k c n) = k
-key_part Handed.End = 0
+module _ (s : Issue) where
+  -- The words of a read are there.
+  pub inside-read : (x : ℕ) → ReadOf s.words.now s.i x → read_at_of s.words.now x + 1 + s.w
+      ≤ length s.words.now
+  inside-read x m =
+      rw m.2 (read_in s.words.now s.w s.n s.in_order.0 s.i m.0 _ s.in_order.1 m.1 refl)
 
-abbrev counts_part : Handed → ℕ
-counts_part (Handed.Read k c n) = c
-counts_part Handed.End = 0
+  -- The writer of an issue up to it is one of the record's.
+  pub writer-low : (j : ℕ) → j ≤ s.i → writer_at s.words.now j < s.w
+  writer-low j h =
+      omega (
+        arith,
+        (s.in_order.0.issue j (omega (arith, s.in_order.1))).writer,
+        s.in_order.0.header.writers,
+      )
 
-abbrev next_part : Handed → ℕ
-next_part (Handed.Read k c n) = n
-next_part Handed.End = 0
+  pub issue-keys : Readable s.words.now → KeysLow s.words.now s.i
+  issue-keys R =
+      readable-keys s.words.now s.w s.n (record { header = s.in_order.0.header; readable = R }) s.i
+      s.in_order.1
 
--- Read r of issue i, at its index.
-pub record At (b : Record) (w n i r at : ℕ) : Type 0 where
-  pub issues : IssuesOf b w n
-  pub issue : i < n
-  pub read : r < number_at b i
-  pub place : at ≡ read_at_of b (first_at b i + r)
+  -- What is handed out as read r, at its index.
+  module _ (r at : ℕ) (k : r < number_at s.words.now s.i)
+      (e : at ≡ read_at_of s.words.now (first_at s.words.now s.i + r)) (h : Option Read)
+      (f : h ≡ read_from_of s.words.now at s.w) where
+    is-handed : h ≡ Some (read_of s.words.now (first_at s.words.now s.i + r))
+    is-handed = f ∙ handed s.words.now s.w s.n s.in_order.0 s.i r at s.in_order.1 k e
 
--- What is handed out there.
-pub record Parts (b : Record) (w i r at k c n : ℕ) : Type 0 where
-  pub key : k ≡ key_of b (first_at b i + r)
-  pub counts : (u : ℕ) → get_or b (c + u) 0 ≡ clock_of b (first_at b i + r) u
-  pub inside : c + w ≤ length b
-  pub next : n ≡ read_at_of b (first_at b i + (r + 1))
+    pub handed-is : (x : Read) → h ≡ Some x
+        → x ≡ read_of s.words.now (first_at s.words.now s.i + r)
+    handed-is x g =
+        let q : Some x ≡ Some (read_of s.words.now (first_at s.words.now s.i + r)) =
+        sym g ∙ is-handed in cc
 
-pub handed-parts : (b : Record) (w n i r at : ℕ) → At b w n i r at
-    → (h : Handed) → h ≡ read_from_of b at w → (k c m : ℕ) → h ≡ Handed.Read k c m
-    → Parts b w i r at k c m
-unfolding clock_of
-handed-parts b w n i r at A h e k c m f =
-    let g = sym f ∙ (e ∙ handed b w n A.issues i r at A.issue A.read A.place) in
-    let x = first_at b i + r in
-    let d : c ≡ read_at_of b x + 1 = ap counts_part g ∙ ap (λ (p : ℕ). p + 1) A.place in
-    record {
-      key = ap key_part g;
-      counts = λ u. ap (λ (p : ℕ). get_or b (p + u) 0) d;
-      inside =
-          omega (
-            arith,
-            read_in b w n A.issues i r at A.issue A.read A.place,
-            A.place,
-            d,
-          );
-      next = ap next_part g ∙ read-onward b w n A.issues i r at A.place;
-    }
-
-abbrev tagged : Handed → ℕ
-tagged (Handed.Read k c n) = 1
-tagged Handed.End = 0
-
-pub handed-end : (b : Record) (w n i r at : ℕ) → At b w n i r at
-    → (h : Handed) → h ≡ read_from_of b at w → h ≡ Handed.End → ⊥
-handed-end b w n i r at A h e f =
-    let g = sym f ∙ (e ∙ handed b w n A.issues i r at A.issue A.read A.place) in
-    let z : tagged Handed.End ≡ 1 = ap tagged g in
-    absurd (omega (arith, z))
+    pub handed-end : h ≡ None → ⊥
+    handed-end g =
+        let q : None ≡ Some (read_of s.words.now (first_at s.words.now s.i + r)) =
+        sym g ∙ is-handed in cc

@@ -8,7 +8,7 @@ use Prim.Native.Nat.{ℕ, zero, suc, ◌+◌, ◌-◌, ◌≤◌, ◌<◌}
 use native.Mathlib.Omega.{arith}
 use native.Mathlib.Numerals.{add-one}
 use lib.Dec.{eqb}
-use lib.ListN.{length, get_or, set, replicate, length-set}
+use lib.ListN.{get_or, set, replicate, length-set}
 use lib.Seq.{get_or-set_same, get_or-set_other}
 use Rattle.words.specs.Numbers.{when, count_below}
 use Rattle.words.proofs.Bools.{test, eqb-eq, eq-eqb, eqb-ne, ne_eqb}
@@ -88,22 +88,3 @@ module _ (b : Record) (w j : ℕ) (l : List ℕ) (few : w ≤ 16) (h : writer_at
 pub rank-some : (b : Record) (j : ℕ) → 1 ≤ rank b j
 unfolding rank
 rank-some b j = omega (arith, by-same b j (writer_at b j) refl)
-
--- ---- as the code takes the rank of issue j: k is the issue after it
-
-module _ (b : Record) (w j k : ℕ) (l : List ℕ) (few : w ≤ 16) (h : writer_at b j < w)
-    (e : k ≡ j + 1)
-    (R : Ranked b w k l) (u : ℕ) (f : u ≡ writer_at b j) where
-  at_next : Ranked b w (j + 1) l
-  at_next = rw (← e) R
-
-  pub taken_in_lem : (u < length l) × (1 ≤ get_or l u 0)
-  taken_in_lem =
-      let r : get_or l u 0 ≡ rank b j = rw f (rank_is b w j l few h at_next) in
-      (omega (arith, R.long), omega (arith, r, rank-some b j))
-
-  pub taken-rank : (x : ℕ) → x ≡ get_or l u 0 → x ≡ rank b j
-  taken-rank x g = g ∙ rw f (rank_is b w j l few h at_next)
-
-  pub taken-down : (x : ℕ) (m : List ℕ) → x ≡ get_or l u 0 → m ≡ set l u (x - 1) → Ranked b w j m
-  taken-down x m g d = rw (d, g, f) (ranked-down b w j l few h at_next)

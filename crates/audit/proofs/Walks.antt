@@ -1,18 +1,16 @@
 -- The walk, issue by issue, and the counts that it raises.
--- merge-..: by one read. raise-..: by the reads of an issue. visit-..: at an issue.
+-- raise-..: by the reads of an issue. visit-..: at an issue.
 -- Assumes nothing.
-use mathlib.Core.Path.{◌≡◌, refl, sym, ap, ap₂, ◌∙◌}
+use mathlib.Core.Path.{◌≡◌, refl, sym, ap, ◌∙◌}
 use mathlib.Core.Bool.{Bool, true, false, ◌&&◌, So}
 use mathlib.Core.List.{List}
-use Prim.Native.Nat.{ℕ, ◌+◌, ◌≤◌, ◌<◌, max}
+use Prim.Native.Nat.{ℕ, ◌+◌, ◌≤◌, ◌<◌}
 use native.Mathlib.Omega.{arith}
 use native.Mathlib.Nat.{zero-add}
 use native.Mathlib.Numerals.{add-one}
-use lib.ListN.{length, get_or, set, replicate}
+use lib.ListN.{get_or, replicate}
 use Rattle.words.specs.Numbers.{largest}
-use Rattle.words.specs.Words.{put}
 use Rattle.words.proofs.Bools.{le-leb, gt-leb}
-use Rattle.words.proofs.Words.{put-high, put_in, put_step}
 use Rattle.clock.specs.Clock.{Clock, join, clock_at}
 use Rattle.records.specs.Format.{Record, writers_in, issues_in, writer_at, first_at, number_at, clock_of, rank, Readable}
 use Rattle.records.specs.Walk.{read_reach, fine, hit, walk}
@@ -23,29 +21,6 @@ use Rattle.audit.proofs.Ranks.{zeros}
 pub clock_0 : (l : List ℕ) (u : ℕ) → clock_at l 0 u ≡ get_or l u 0
 unfolding clock_at
 clock_0 l u = ap (λ (i : ℕ). get_or l i 0) (zero-add u)
-
--- ---- one read
-
--- The larger of two counts.
-abbrev pub larger : List ℕ → List ℕ → ℕ → ℕ → ℕ
-larger l b at v = max (get_or l v 0) (get_or b (at + v) 0)
-
-pub merge-turn : (l b : List ℕ) (at u : ℕ) (m : List ℕ) (x : ℕ) → m ≡ put l 0 u (larger l b at)
-    → x ≡ max (get_or m u 0) (get_or b (at + u) 0) → set m u x ≡ put l 0 (u + 1) (larger l b at)
-merge-turn l b at u m x h e =
-    let g : get_or m u 0 ≡ get_or l u 0 =
-    ap (λ (k : List ℕ). get_or k u 0) h ∙ put-high l 0 u (larger l b at) u (omega arith) in
-    ap (λ (i : ℕ). set m i x) (sym (zero-add u))
-    ∙ put_step l 0 u (larger l b at) m x h (e ∙ ap (λ (c : ℕ). max c (get_or b (at + u) 0)) g)
-
-pub merge-done : (l b : List ℕ) (at w : ℕ) (m : List ℕ) → m ≡ put l 0 w (larger l b at)
-    → w ≤ length l → Raised w (clock_at b at) l m
-unfolding clock_at
-merge-done l b at w m h k = record {
-  counts = λ u o.
-      ap₂ (λ (c : List ℕ) (i : ℕ). get_or c i 0) h (sym (zero-add u))
-      ∙ put_in l 0 w (larger l b at) u o (omega arith);
-}
 
 -- ---- the reads of an issue
 

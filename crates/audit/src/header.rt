@@ -1,17 +1,7 @@
 // The header of a record. Sums are of `usize`: none of them wraps.
-ghost use Rattle.std.specs.Prelude.{◌≡◌, ◌^◌, ◌≤◌, ◌<◌, length, get_or};
+ghost use Rattle.std.specs.Prelude.{◌≡◌, ◌≤◌, length};
 ghost use Rattle.records.specs.Format.{writers_in, layout_ok};
 ghost use Rattle.audit.specs.Parts.{counts_ok, areas_ok};
-
-use words::wide;
-
-// A word as an index.
-pub fn word(words: &[u32], at: usize) -> usize
-    requires { at < length words.now }
-    ensures { (result ≡ get_or words.now at 0) × (result < 2 ^ 32) }
-{
-    wide(words[at])
-}
 
 // Whether header and length fit the layout.
 pub fn layout_fits(words: &[u32]) -> bool
@@ -20,8 +10,8 @@ pub fn layout_fits(words: &[u32]) -> bool
     if words.len() < 7 {
         return false;
     }
-    let w = word(words, 1);
-    if !counts_fit(word(words, 0), w) {
+    let w = words[1] as usize;
+    if !counts_fit(words[0] as usize, w) {
         return false;
     }
     areas_fit(words, w)
@@ -52,12 +42,12 @@ fn areas_fit(words: &[u32], w: usize) -> bool
     if words[4] != 7 {
         return false;
     }
-    let reads = 7 + 4 * word(words, 2);
-    if word(words, 5) != reads {
+    let reads = 7 + 4 * words[2] as usize;
+    if words[5] as usize != reads {
         return false;
     }
-    let total = word(words, 6);
-    if total != reads + word(words, 3) * (1 + w) {
+    let total = words[6] as usize;
+    if total != reads + words[3] as usize * (1 + w) {
         return false;
     }
     total <= words.len()

@@ -1,10 +1,44 @@
 // The issues of a record, and their counts.
-ghost use Rattle.std.specs.Prelude.{◌≡◌, ◌&&◌, ◌+◌, ◌<◌, eqb};
+ghost use Rattle.std.specs.Prelude.{◌≡◌, ◌&&◌, ◌+◌, ◌*◌, ◌≤◌, ◌<◌, eqb, length};
 ghost use Rattle.words.specs.Tests.{all_below};
-ghost use Rattle.records.specs.Format.{keys_in, issues_in, reads_in_of, first_at, read_at_of, reads_before, issue_ok};
+ghost use Rattle.records.specs.Format.{keys_in, writer_at, mask_at, issues_in, reads_in_of, first_at, read_at_of, reads_before, rank, issue_ok};
 ghost use Rattle.audit.specs.Parts.{HeaderOf, IssuesOf, Ranked};
 
-use crate::header::word;
+// An issue of a record whose header and issues are in order: the record's words, with w writers
+// and n issues, and the issue's number.
+#[derive(Clone, Copy)]
+pub struct Issue<'a> {
+    pub words: &'a [u32],
+    pub w: usize,
+    pub n: usize,
+    pub i: usize,
+    pub ghost in_order: { IssuesOf words.now w n × (i < n) },
+    pub ghost inside: { (7 + 4 * n ≤ length words.now) × (w ≤ 16) },
+}
+
+// An issue on a walk back: its writer, the mask of the keys that it saved, and its rank.
+#[derive(Clone, Copy)]
+pub struct Earlier {
+    pub u: usize,
+    pub mask: u32,
+    pub rank: u32,
+}
+
+impl<'a> Issue<'a> {
+    // Issue j of the same record.
+    pub fn at(self, j: usize) -> Issue<'a>
+        requires { j < self.n }
+        ensures { (result.words ≡ self.entry.words) × (result.w ≡ self.entry.w)
+            × (result.n ≡ self.entry.n) × (result.i ≡ j) }
+    {
+        Issue {
+            words: self.words,
+            w: self.w,
+            n: self.n,
+            i: j,
+        }
+    }
+}
 
 // Whether each issue is in order, and their reads are all of the record's.
 pub fn issues_fit(words: &[u32], k: usize, w: usize, n: usize) -> bool
@@ -13,15 +47,13 @@ pub fn issues_fit(words: &[u32], k: usize, w: usize, n: usize) -> bool
         result ≡ all_below n (issue_ok b) && eqb (reads_before b n) (reads_in_of b) }
 {
     let mut before = 0;
-    let mut i = 0;
-    while i < n {
+    for i in 0..n {
         if !issue_fits(words, k, w, i, before) {
             return false;
         }
-        before += word(words, 7 + 4 * i + 3);
-        i += 1;
+        before += words[7 + 4 * i + 3] as usize;
     }
-    before == word(words, 3)
+    before == words[3] as usize
 }
 
 // Whether issue i has a writer below w, some keys, each below k, and so many reads before it.
@@ -31,32 +63,48 @@ fn issue_fits(words: &[u32], k: usize, w: usize, i: usize, before: usize) -> boo
     ensures { result ≡ issue_ok words.now i }
 {
     let at = 7 + 4 * i;
-    if w <= word(words, at) {
+    if w <= words[at] as usize {
         return false;
     }
-    let mask = word(words, at + 1);
+    let mask = words[at + 1] as usize;
     if mask < 1 {
         return false;
     }
     if 1usize << k <= mask {
         return false;
     }
-    word(words, at + 2) == before
+    words[at + 2] as usize == before
 }
 
-// The index of the first read of issue i.
-pub fn reads_at(words: &[u32], w: usize, n: usize, i: usize) -> usize
-    requires { HeaderOf words.now w n × (i < n) }
-    ensures { result ≡ read_at_of words.now (first_at words.now i) }
+// The index of the issue's first read.
+pub fn reads_at(issue: Issue<'_>) -> usize
+    ensures { result ≡ read_at_of issue.entry.words.now (first_at issue.entry.words.now
+        issue.entry.i) }
 {
-    7 + 4 * n + word(words, 7 + 4 * i + 2) * (1 + w)
+    7 + 4 * issue.n + issue.words[7 + 4 * issue.i + 2] as usize * (1 + issue.w)
 }
 
-// Counts issue i: one more by its writer.
-pub fn count_issue(words: &[u32], w: usize, n: usize, i: usize, ranks: &mut [u32])
-    requires { IssuesOf words.now w n × (i < n) × Ranked words.now w i ranks.old }
-    ensures { Ranked words.now w (i + 1) ranks.new }
+// Counts the issue: one more by its writer.
+pub fn count_issue(issue: Issue<'_>, ranks: &mut [u32; 16])
+    requires { Ranked issue.words.now issue.w issue.i ranks.old }
+    ensures { Ranked issue.entry.words.now issue.entry.w (issue.entry.i + 1) ranks.new }
 {
-    let u = word(words, 7 + 4 * i);
+    let u = issue.words[7 + 4 * issue.i] as usize;
     ranks[u] += 1;
+}
+
+// Issue j, on a walk back from the issue. The count of its writer, which is its rank, falls by 1.
+pub fn step_back(issue: Issue<'_>, j: usize, ranks: &mut [u32; 16]) -> Earlier
+    requires { (j < issue.i) × Ranked issue.words.now issue.w (j + 1) ranks.old }
+    ensures earlier { let b = issue.entry.words.now in
+        (result.u ≡ writer_at b j) × (result.mask ≡ mask_at b j) × (result.rank ≡ rank b j) }
+    ensures ranks { Ranked issue.entry.words.now issue.entry.w j ranks.new }
+    ensures known { (result.u < issue.entry.w) × (1 ≤ result.rank) }
+{
+    let at = 7 + 4 * j;
+    let u = issue.words[at] as usize;
+    let rank = ranks[u];
+    ranks[u] = rank - 1;
+    let mask = issue.words[at + 1];
+    Earlier { u, mask, rank }
 }

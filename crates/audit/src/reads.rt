@@ -1,5 +1,5 @@
 // The reads of a record's issues: whether they are in order.
-ghost use Rattle.std.specs.Prelude.{◌≡◌, ◌&&◌, ◌+◌, ◌-◌, ◌≤◌, ◌<◌, eqb, ltb, length, get_or, set};
+ghost use Rattle.std.specs.Prelude.{◌≡◌, ◌&&◌, ◌+◌, ◌≤◌, ◌<◌, eqb, ltb, length};
 ghost use Rattle.words.specs.Tests.{all_below};
 ghost use Rattle.masks.specs.Mask.{test_bit};
 ghost use Rattle.clock.specs.Clock.{dominates, present, clock_at};
@@ -7,13 +7,11 @@ ghost use Rattle.model.specs.Algebra.{implies};
 ghost use Rattle.records.specs.Format.{keys_in, writer_at, mask_at, all_reads, rank, read_ok};
 ghost use Rattle.audit.specs.Parts.{IssuesOf, KeysLow, Ranked, Least, counted, count_saved};
 
-use crate::header::word;
-use crate::issues::{count_issue, reads_at};
-use crate::least::lower;
+use crate::counts::least_counts;
+use crate::issues::{Earlier, Issue, count_issue, step_back};
+use crate::reading::each_read;
 use clock::{compare, covering, present};
 use masks::has;
-use reader::{Handed, read_from};
-use words::wide;
 
 // Whether the reads of each issue are in order.
 pub fn reads_fit(words: &[u32], k: usize, w: usize, n: usize) -> bool
@@ -22,56 +20,42 @@ pub fn reads_fit(words: &[u32], k: usize, w: usize, n: usize) -> bool
         result ≡ all_below n (λ i. all_reads b i (read_ok b i)) }
 {
     let mut before = [0u32; 16];
-    let mut i = 0;
-    while i < n {
-        if !issue_reads_fit(words, k, w, n, i, before) {
+    for i in 0..n {
+        let issue = Issue { words, w, n, i };
+        if !issue_reads_fit(issue, k, before) {
             return false;
         }
-        count_issue(words, w, n, i, &mut before);
-        i += 1;
+        count_issue(issue, &mut before);
     }
     true
 }
 
-// Whether the reads of issue i are in order: their words, then the issues that they count.
-fn issue_reads_fit(words: &[u32], k: usize, w: usize, n: usize, i: usize, prior: [u32; 16]) -> bool
-    requires issues_of { IssuesOf words.now w n × (k ≡ keys_in words.now) × (i < n) }
-    requires ranked { Ranked words.now w i prior }
-    ensures { let b = words.now in result ≡ all_reads b i (read_ok b i) }
+// Whether the reads of the issue are in order: their words, then the issues that they count.
+fn issue_reads_fit(issue: Issue<'_>, k: usize, prior: [u32; 16]) -> bool
+    requires { (k ≡ keys_in issue.words.now) × Ranked issue.words.now issue.w issue.i prior }
+    ensures { let b = issue.entry.words.now in let i = issue.entry.i in
+        result ≡ all_reads b i (read_ok b i) }
 {
-    if word(words, 7 + 4 * i + 3) == 0 {
+    if issue.words[7 + 4 * issue.i + 3] == 0 {
         return true;
     }
-    let mut ranks = prior;
-    if !reads_counted(words, k, w, n, i, &ranks) {
+    if !reads_counted(issue, k, &prior) {
         return false;
     }
-    let mut least = [4294967295u32; 16];
-    lower(words, w, n, i, &mut least);
-    counts_saved(words, w, n, i, &least, &mut ranks)
+    counts_saved(issue, &least_counts(issue), prior)
 }
 
-// Whether each read of issue i has a key below k and some count, none beyond these.
-fn reads_counted(words: &[u32], k: usize, w: usize, n: usize, i: usize, before: &[u32]) -> bool
-    requires { IssuesOf words.now w n × (i < n) × (16 ≤ length before.now) }
-    ensures { let b = words.now in
-        result ≡ all_reads b i (counted b k w (clock_at before.now 0)) }
+// Whether each read of the issue has a key below k and some count, none beyond these.
+fn reads_counted(issue: Issue<'_>, k: usize, before: &[u32; 16]) -> bool
+    ensures { let b = issue.entry.words.now in
+        result ≡ all_reads b issue.entry.i (counted b k issue.entry.w (clock_at before.now 0)) }
 {
-    let number = word(words, 7 + 4 * i + 3);
-    let mut at = reads_at(words, w, n, i);
-    let mut r = 0;
-    while r < number {
-        let handed = read_from(words, at, w);
-        let Handed::Read(key, counts, next) = handed else {
-            return false;
-        };
-        if !read_counted(words, counts, k, w, key, before) {
-            return false;
-        }
-        at = next;
-        r += 1;
-    }
-    true
+    let words = issue.words;
+    let w = issue.w;
+    each_read(
+        issue,
+        |read| read_counted(words, read.counts, k, w, read.key, before),
+    )
 }
 
 // Whether a key is below k, and counts at an index are not all 0 and none beyond these.
@@ -80,7 +64,7 @@ fn read_counted(words: &[u32], at: usize, k: usize, w: usize, key: u32, before: 
     ensures { let c = clock_at words.now at in
         result ≡ ltb key k && (present w c && dominates w (clock_at before.now 0) c) }
 {
-    if k <= wide(key) {
+    if k <= key as usize {
         return false;
     }
     if !present(words, at, w) {
@@ -89,99 +73,56 @@ fn read_counted(words: &[u32], at: usize, k: usize, w: usize, key: u32, before: 
     covering(compare(before, 0, words, at, w))
 }
 
-// Whether each issue before issue i, back from the last, saved the keys of those reads of issue i
+// Whether each issue before this one, back from the last, saved the keys of those of its reads
 // that count up to just it.
-fn counts_saved(
-    words: &[u32],
-    w: usize,
-    n: usize,
-    i: usize,
-    least: &[u32],
-    ranks: &mut [u32],
-) -> bool
-    requires issues_of { IssuesOf words.now w n × (i < n) × KeysLow words.now i }
-    requires ranked { Ranked words.now w i ranks.old }
-    requires in_bounds { (16 ≤ length least.now) × Least words.now w i least.now }
-    ensures { let b = words.now in result ≡ all_below i (λ j.
+fn counts_saved(issue: Issue<'_>, least: &[u32; 16], prior: [u32; 16]) -> bool
+    requires low { KeysLow issue.words.now issue.i }
+    requires ranked { Ranked issue.words.now issue.w issue.i prior }
+    requires least { Least issue.words.now issue.w issue.i least.now }
+    ensures { let b = issue.entry.words.now in let i = issue.entry.i in
+        result ≡ all_below i (λ j.
         all_reads b i (count_saved b (writer_at b j) (mask_at b j) (rank b j))) }
 {
-    let mut j = i;
-    while 0 < j {
-        j -= 1;
-        let at = 7 + 4 * j;
-        let u = word(words, at);
-        let rank = take_rank(ranks, u);
-        if !reads_fine(words, w, n, i, u, words[at + 1], rank, least) {
+    let mut ranks = prior;
+    for j in (0..issue.i).rev() {
+        let earlier = step_back(issue, j, &mut ranks);
+        if !reads_fine(issue, earlier, least) {
             return false;
         }
     }
     true
-}
-
-// The count of writer u, which falls by 1.
-pub fn take_rank(ranks: &mut [u32], u: usize) -> u32
-    requires { (u < length ranks.old) × (1 ≤ get_or ranks.old u 0) }
-    ensures { (result ≡ get_or ranks.old u 0)
-        × (ranks.new ≡ set ranks.old u (result - 1)) }
-{
-    let rank = ranks[u];
-    ranks[u] = rank - 1;
-    rank
 }
 
 // As reads_saved: that isn't asked of an issue before all that are counted up to.
-fn reads_fine(
-    words: &[u32],
-    w: usize,
-    n: usize,
-    i: usize,
-    u: usize,
-    mask: u32,
-    rank: u32,
-    least: &[u32],
-) -> bool
-    requires issues_of { IssuesOf words.now w n × (i < n) × KeysLow words.now i × (u < w) }
-    requires in_bounds { (16 ≤ length least.now) × Least words.now w i least.now × (1 ≤ rank) }
-    ensures { let b = words.now in
-        result ≡ all_reads b i (count_saved b u mask rank) }
+fn reads_fine(issue: Issue<'_>, earlier: Earlier, least: &[u32; 16]) -> bool
+    requires low { KeysLow issue.words.now issue.i × (earlier.u < issue.w) }
+    requires least { Least issue.words.now issue.w issue.i least.now × (1 ≤ earlier.rank) }
+    ensures { let b = issue.entry.words.now in
+        result ≡ all_reads b issue.entry.i (count_saved b earlier.u earlier.mask earlier.rank) }
 {
-    if rank < least[u] {
+    if earlier.rank < least[earlier.u] {
         return true;
     }
-    reads_saved(words, w, n, i, u, mask, rank)
+    reads_saved(issue, earlier)
 }
 
-// Whether each read of issue i that counts up to just the issue of writer u with this rank has a
-// key of its mask.
-fn reads_saved(words: &[u32], w: usize, n: usize, i: usize, u: usize, mask: u32, rank: u32) -> bool
-    requires { IssuesOf words.now w n × (i < n) × KeysLow words.now i × (u < w) }
-    ensures { let b = words.now in
-        result ≡ all_reads b i (count_saved b u mask rank) }
+// Whether each read of the issue that counts up to just the earlier one has a key that it saved.
+fn reads_saved(issue: Issue<'_>, earlier: Earlier) -> bool
+    requires { KeysLow issue.words.now issue.i × (earlier.u < issue.w) }
+    ensures { let b = issue.entry.words.now in
+        result ≡ all_reads b issue.entry.i (count_saved b earlier.u earlier.mask earlier.rank) }
 {
-    let number = word(words, 7 + 4 * i + 3);
-    let mut at = reads_at(words, w, n, i);
-    let mut r = 0;
-    while r < number {
-        let handed = read_from(words, at, w);
-        let Handed::Read(key, counts, next) = handed else {
-            return false;
-        };
-        if !count_saved(key, words[counts + u], mask, rank) {
-            return false;
-        }
-        at = next;
-        r += 1;
-    }
-    true
+    let words = issue.words;
+    each_read(
+        issue,
+        |read| count_saved(read.key, words[read.counts + earlier.u], earlier),
+    )
 }
 
 // Whether the mask has the key, if the count is this rank.
-fn count_saved(key: u32, count: u32, mask: u32, rank: u32) -> bool
+fn count_saved(key: u32, count: u32, earlier: Earlier) -> bool
     requires { key < 32 }
-    ensures { result ≡ implies (eqb rank count) (test_bit mask key) }
+    ensures { result ≡ implies (eqb earlier.rank count) (test_bit earlier.mask key) }
 {
-    if rank != count {
-        return true;
-    }
-    has(mask, key)
+    earlier.rank != count || has(earlier.mask, key)
 }

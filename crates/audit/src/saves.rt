@@ -1,60 +1,34 @@
 // The saves that the reads of an issue must count (CR 14).
-ghost use Rattle.std.specs.Prelude.{◌≡◌, ◌≤◌, ◌<◌, leb};
+ghost use Rattle.std.specs.Prelude.{◌≡◌, ◌+◌, ◌≤◌, ◌<◌, leb, length};
 ghost use Rattle.words.specs.Tests.{all_below};
 ghost use Rattle.masks.specs.Mask.{test_bit};
 ghost use Rattle.model.specs.Algebra.{implies};
 ghost use Rattle.records.specs.Format.{all_reads};
 ghost use Rattle.records.specs.Walk.{fine};
-ghost use Rattle.audit.specs.Parts.{IssuesOf, KeysLow, KeysAmong, Ranked, save_counted};
+ghost use Rattle.audit.specs.Parts.{KeysLow, KeysAmong, Ranked, save_counted};
 
-use crate::header::word;
-use crate::issues::reads_at;
-use crate::reads::take_rank;
+use crate::issues::{Earlier, Issue, step_back};
+use crate::reading::{each_read, fold_reads};
 use masks::{has, with_item};
-use reader::{Handed, read_from};
 
-// The mask of the keys that issue i read.
-pub fn keys_read(words: &[u32], w: usize, n: usize, i: usize) -> u32
-    requires { IssuesOf words.now w n × (i < n) × KeysLow words.now i }
-    ensures { KeysAmong words.now i result }
+// The mask of the keys that the issue read.
+pub fn keys_read(issue: Issue<'_>) -> u32
+    requires { KeysLow issue.words.now issue.i }
+    ensures { KeysAmong issue.entry.words.now issue.entry.i result }
 {
-    let number = word(words, 7 + 4 * i + 3);
-    let mut keys = 0;
-    let mut at = reads_at(words, w, n, i);
-    let mut r = 0;
-    while r < number {
-        let handed = read_from(words, at, w);
-        let Handed::Read(key, _, next) = handed else {
-            return keys;
-        };
-        keys = with_item(keys, key);
-        at = next;
-        r += 1;
-    }
-    keys
+    fold_reads(issue, 0, |keys, read| with_item(keys, read.key))
 }
 
-// Whether each read of issue i counts up to every issue before issue j that saved its key.
-pub fn rest_counted(
-    words: &[u32],
-    w: usize,
-    n: usize,
-    i: usize,
-    j: usize,
-    keys: u32,
-    ranks: &mut [u32],
-) -> bool
-    requires issues_of { IssuesOf words.now w n × (i < n) × KeysLow words.now i }
-    requires j_le_i { (j ≤ i) × KeysAmong words.now i keys × Ranked words.now w j ranks.old }
-    ensures { result ≡ all_below j (fine words.now i) }
+// Whether each read of the issue counts up to every issue before issue j that saved its key.
+pub fn rest_counted(issue: Issue<'_>, j: usize, keys: u32, ranks: &mut [u32; 16]) -> bool
+    requires low { (j ≤ issue.i) × KeysLow issue.words.now issue.i }
+    requires among { KeysAmong issue.words.now issue.i keys }
+    requires ranked { Ranked issue.words.now issue.w j ranks.old }
+    ensures { result ≡ all_below j (fine issue.entry.words.now issue.entry.i) }
 {
-    let mut k = j;
-    while 0 < k {
-        k -= 1;
-        let at = 7 + 4 * k;
-        let u = word(words, at);
-        let rank = take_rank(ranks, u);
-        if !saves_fine(words, w, n, i, u, words[at + 1], rank, keys) {
+    for k in (0..j).rev() {
+        let earlier = step_back(issue, k, ranks);
+        if !saves_fine(issue, earlier, keys) {
             return false;
         }
     }
@@ -62,66 +36,35 @@ pub fn rest_counted(
 }
 
 // As saves_counted: that isn't asked where no read has a key of the mask.
-pub fn saves_fine(
-    words: &[u32],
-    w: usize,
-    n: usize,
-    i: usize,
-    u: usize,
-    mask: u32,
-    rank: u32,
-    keys: u32,
-) -> bool
-    requires issues_of { IssuesOf words.now w n × (i < n) × KeysLow words.now i × (u < w) }
-    requires keys_among { KeysAmong words.now i keys }
-    ensures { let b = words.now in
-        result ≡ all_reads b i (save_counted b u mask rank) }
+pub fn saves_fine(issue: Issue<'_>, earlier: Earlier, keys: u32) -> bool
+    requires low { KeysLow issue.words.now issue.i × (earlier.u < issue.w) }
+    requires among { KeysAmong issue.words.now issue.i keys }
+    ensures { let b = issue.entry.words.now in
+        result ≡ all_reads b issue.entry.i (save_counted b earlier.u earlier.mask earlier.rank) }
 {
-    if mask & keys == 0 {
+    if earlier.mask & keys == 0 {
         return true;
     }
-    saves_counted(words, w, n, i, u, mask, rank)
+    saves_counted(issue, earlier)
 }
 
-// Whether each read of issue i with a key of the mask counts up to the issue of writer u with
-// this rank.
-fn saves_counted(
-    words: &[u32],
-    w: usize,
-    n: usize,
-    i: usize,
-    u: usize,
-    mask: u32,
-    rank: u32,
-) -> bool
-    requires { IssuesOf words.now w n × (i < n) × KeysLow words.now i × (u < w) }
-    ensures { let b = words.now in
-        result ≡ all_reads b i (save_counted b u mask rank) }
+// Whether each read of the issue with a key that the earlier one saved counts up to that.
+fn saves_counted(issue: Issue<'_>, earlier: Earlier) -> bool
+    requires { KeysLow issue.words.now issue.i × (earlier.u < issue.w) }
+    ensures { let b = issue.entry.words.now in
+        result ≡ all_reads b issue.entry.i (save_counted b earlier.u earlier.mask earlier.rank) }
 {
-    let number = word(words, 7 + 4 * i + 3);
-    let mut at = reads_at(words, w, n, i);
-    let mut r = 0;
-    while r < number {
-        let handed = read_from(words, at, w);
-        let Handed::Read(key, counts, next) = handed else {
-            return false;
-        };
-        if !save_counted(key, words[counts + u], mask, rank) {
-            return false;
-        }
-        at = next;
-        r += 1;
-    }
-    true
+    let words = issue.words;
+    each_read(
+        issue,
+        |read| save_counted(read.key, words[read.counts + earlier.u], earlier),
+    )
 }
 
 // Whether the count is no less than this rank, if the mask has the key.
-fn save_counted(key: u32, count: u32, mask: u32, rank: u32) -> bool
+fn save_counted(key: u32, count: u32, earlier: Earlier) -> bool
     requires { key < 32 }
-    ensures { result ≡ implies (test_bit mask key) (leb rank count) }
+    ensures { result ≡ implies (test_bit earlier.mask key) (leb earlier.rank count) }
 {
-    if !has(mask, key) {
-        return true;
-    }
-    rank <= count
+    !has(earlier.mask, key) || earlier.rank <= count
 }

@@ -1,7 +1,7 @@
 -- Laws of a text's lines, one after the other.
--- run-full, run_none, run-line: no room, no line, one line more. put_front, put_rest: an answer
--- that is put. drop-further: what stays. done-line: a line that is done. text-line, text-end: a
--- text, line by line. ran: what the lent slices become.
+-- run-full, run_none, run-line: no room, no line, one line more. put_rest: what stays behind an
+-- answer that is put. drop-further: what stays. done-line: a line that is done. text-line,
+-- text-end: a text, line by line. ran: what the lent slices become.
 -- Assumes nothing.
 use mathlib.Core.Path.{◌≡◌, refl, sym, ap, ◌∙◌}
 use mathlib.Core.List.{List, [], ◌∷◌, ◌++◌}
@@ -38,15 +38,12 @@ run-line room p s ss h = rw (le-leb (length p.answers + line_room) room h) refl
 
 -- ---- a line that is done
 
--- The answer t, made in row, was put after the first at bytes of out.
-module _ (out row : List ℕ) (at n : ℕ) (f : at + n ≤ length out) (g : n ≤ length row) where
-  pub put_front : (out' t : List ℕ) (e : ℕ) → e ≡ at + n → out' ≡ paste out at row n
-      → take n row ≡ t → take e out' ≡ take at out ++ t
-  put_front out' t e j i d = rw (j, i, ← d) (take-paste out at row n (omega (arith, f)) g)
-
-  pub put_rest : (out' : List ℕ) (e : ℕ) → e ≡ at + n → out' ≡ paste out at row n
-      → drop e out' ≡ drop e out
-  put_rest out' e j i = rw (j, i) (drop-paste out at row n (omega (arith, f)) g)
+-- Bytes were put after the first at bytes of out.
+pub put_rest : (out bytes : List ℕ) (at : ℕ) (out' : List ℕ) (e : ℕ)
+    → at + length bytes ≤ length out → e ≡ at + length bytes
+    → out' ≡ paste out at bytes (length bytes) → drop e out' ≡ drop e out
+put_rest out bytes at out' e f j i =
+    rw (j, i) (drop-paste out at bytes (length bytes) (omega (arith, f)) (omega arith))
 
 -- What stays behind one place stays behind a later one.
 pub drop-further : (n k : ℕ) (l m : List ℕ) → n ≤ k → drop n l ≡ drop n m → drop k l ≡ drop k m

@@ -1,10 +1,9 @@
 -- Laws of the whole lines of a text.
--- end-here, end_more, end_none: the first line end, byte by byte. whole-none, whole-some: the
--- whole lines by it. whole_append: with more text behind. lines_none, lines-some: from an index
--- on.
+-- end-place: the first line end is the place of its byte. whole-none, whole-some: the whole lines
+-- by it. whole_append: with more text behind. lines_none, lines-some: from an index on.
 -- Assumes nothing.
-use mathlib.Core.Path.{◌≡◌, refl, ap, ◌∙◌}
-use mathlib.Core.Logic.{◌≢◌}
+use mathlib.Core.Path.{◌≡◌, refl, sym, ap, ◌∙◌}
+use mathlib.Core.Bool.{Bool, cond, not}
 use mathlib.Core.List.{List, [], ◌∷◌, ◌++◌}
 use Prim.Native.Nat.{ℕ, suc, ◌+◌, ◌-◌, ◌≤◌, ◌<◌}
 use native.Mathlib.Numerals.{add-one}
@@ -12,24 +11,25 @@ use native.Mathlib.Omega.{arith}
 use lib.Dec.{eqb}
 use lib.ListN.{length, take, drop, get_or, length-append, length-drop, drop_of_length-le}
 use lib.Seq.{drop-cons, drop-drop, take-append-le, drop-append-le}
-use Rattle.words.proofs.Bools.{test, ne_eqb}
+use Rattle.std.specs.List.{position_or_len}
+use Rattle.std.proofs.lemmas.List.Recursion.{is_position_or_len}
+use Rattle.std.proofs.lemmas.List.Sums.{prefix_len-le-length}
+use Rattle.words.proofs.Bools.{test}
 use Rattle.batch.specs.Lines.{in_front_of, whole_lines}
 use Rattle.batch.specs.Parts.{end_of}
 
--- ---- the first line end from index i on
+-- ---- the first line end
 
-pub end-here : (l : List ℕ) (i : ℕ) → i < length l → get_or l i 0 ≡ 10 → end_of (drop i l) ≡ 0
-unfolding end_of
-end-here l i h e = rw (drop-cons l i 0 h, e) refl
+abbrev is_end : ℕ → Bool
+is_end b = eqb b 10
 
-pub end_more : (l : List ℕ) (i : ℕ) → i < length l → get_or l i 0 ≢ 10
-    → end_of (drop i l) ≡ suc (end_of (drop (i + 1) l))
+pub end-place : (l : List ℕ) (n : ℕ) → n ≡ position_or_len is_end l
+    → (n ≤ length l) × (n ≡ end_of l)
 unfolding end_of
-end_more l i h d = rw (drop-cons l i 0 h, ne_eqb (get_or l i 0) 10 d, add-one) refl
-
-pub end_none : (l : List ℕ) (i : ℕ) → length l ≤ i → end_of (drop i l) ≡ 0
-unfolding end_of
-end_none l i h = rw (drop_of_length-le l h) refl
+end-place l n e =
+    let f = is_position_or_len end_of is_end refl
+    (λ b bs. ap (cond (is_end b) 0) (omega arith)) l in
+    rw e (prefix_len-le-length (λ b. not (is_end b)) l, sym f)
 
 -- ---- the whole lines by the first line end
 

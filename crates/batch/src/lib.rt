@@ -41,6 +41,7 @@ fn make_lines(
     let mut ready = in_form(store);
     let mut at = 0;
     let mut end = 0;
+    // No index is counted here: at moves on by a line, and out may be full before the text ends.
     while Line::ROOM <= out.len() - end {
         let stop = line_end(text, at);
         if stop == text.len() {

@@ -1,6 +1,5 @@
 // A line of a text: where it ends, its call, and its answer.
 ghost use Rattle.std.specs.Prelude.{◌≡◌, ◌+◌, ◌≤◌, length, take, drop};
-ghost use Rattle.std.proofs.Math.Seq.{paste};
 ghost use Rattle.answers.specs.Answers.{answer_room};
 ghost use Rattle.layout.specs.Buffer.{in_form};
 ghost use Rattle.print.specs.Print.{line_room};
@@ -13,7 +12,6 @@ use calls::forecasts::forecast;
 use calls::{Performed, perform};
 use command::Command;
 use script::ends::print_words;
-use words::wide;
 
 // After a line. ready: the buffer is in form. end: bytes of answers.
 #[derive(Clone, Copy)]
@@ -28,14 +26,7 @@ pub fn line_end(text: &[u8], at: usize) -> usize
     ensures { (result ≤ length text.now)
         × (result ≡ at + end_of (drop at text.now)) }
 {
-    let mut i = at;
-    while i < text.len() {
-        if text[i] == 10 {
-            return i;
-        }
-        i += 1;
-    }
-    i
+    at + text::bytes_before(&text[at..], b'\n')
 }
 
 // Makes the call of a command; a forecast on the scratch that is lent.
@@ -62,26 +53,11 @@ fn perform_lent(
             let n = forecast(store, ready, scratch, run, answer);
             Performed {
                 ready,
-                count: wide(n),
+                count: n as usize,
             }
         }
         _ => perform(store, ready, command, numbers, answer),
     }
-}
-
-// Puts the first n bytes of row after the first at bytes of out, and answers how many there are
-// then.
-fn put_row(out: &mut [u8], at: usize, row: &[u8], n: usize) -> usize
-    requires { (at + n ≤ length out.old) × (n ≤ length row.now) }
-    ensures { (result ≡ at + n)
-        × (out.new ≡ paste out.old at row.now n) }
-{
-    let mut i = 0;
-    while i < n {
-        out[at + i] = row[i];
-        i += 1;
-    }
-    at + i
 }
 
 // A line of any length: read, performed, answered after the first at bytes of out. The answer is
@@ -110,7 +86,7 @@ pub fn line_done(
     let command = lines::read_line(line, numbers);
     let made = perform_lent(store, ready, scratch, command, numbers, answer);
     let n = print_words(row, 0, answer, made.count);
-    let end = put_row(out, at, row, n);
+    let end = text::put_bytes(out, at, &row[..n]);
     Done {
         ready: made.ready,
         end,

@@ -10,7 +10,7 @@ ghost use Rattle.layout.specs.Calls.{on, call_on, leaves};
 ghost use Rattle.caches.specs.Range.{out_of_range_of};
 ghost use Rattle.answers.specs.Answers.{answered_words};
 
-use answers::Answered;
+use answers::refusal::Refusal;
 use fetching::{find_taken, take_keys, taking_cause};
 use form::header::counts;
 use masks::with_item;
@@ -27,7 +27,7 @@ fn out_of_range(z: Counts, site: usize, key: usize) -> bool
 
 // A site's cache takes a key from the master, and with it what its version needs. Answers the mask
 // of the keys taken.
-pub fn fetch(words: &mut [u32], site: u32, key: u32) -> Answered
+pub fn fetch(words: &mut [u32], site: u32, key: u32) -> Result<u32, Refusal>
     requires { So (in_form words.old) }
     ensures answers { answered_words result
         ≡ answer (call_on (on (fetch site key)) words.old) }
@@ -38,21 +38,18 @@ pub fn fetch(words: &mut [u32], site: u32, key: u32) -> Answered
     let o = site as usize;
     let k = key as usize;
     if out_of_range(z, o, k) {
-        return Answered::Refused(3);
+        return Err(Refusal::OutOfRange);
     }
     let wanted = with_item(0, key);
     let taken = find_taken(words, z, o, wanted);
-    let cause = taking_cause(words, z, o, taken, taken);
-    if cause != 0 {
-        return Answered::Refused(cause);
-    }
+    taking_cause(words, z, o, taken, taken)?;
     take_keys(words, z, o, taken);
-    Answered::Done(taken)
+    Ok(taken)
 }
 
 // A key leaves a site's cache, and with it the keys whose versions need it. Answers the mask of
 // the keys gone.
-pub fn evict(words: &mut [u32], site: u32, key: u32) -> Answered
+pub fn evict(words: &mut [u32], site: u32, key: u32) -> Result<u32, Refusal>
     requires { So (in_form words.old) }
     ensures answers { answered_words result
         ≡ answer (call_on (on (evict site key)) words.old) }
@@ -63,14 +60,14 @@ pub fn evict(words: &mut [u32], site: u32, key: u32) -> Answered
     let o = site as usize;
     let k = key as usize;
     if out_of_range(z, o, k) {
-        return Answered::Refused(3);
+        return Err(Refusal::OutOfRange);
     }
     let at = z.site_at(o);
     if !held(words, z, at, k) {
-        return Answered::Refused(8);
+        return Err(Refusal::NotHeld);
     }
     let areas = z.areas();
     let unwanted = with_item(0, key);
     let gone = evict_keys(words, z, areas.master, at, unwanted);
-    Answered::Done(gone)
+    Ok(gone)
 }

@@ -1,6 +1,6 @@
 -- A call that is made, or refused, and the form of the buffer after it.
--- does_it, does_not, not-made: what a call that was made, or refused, comes to. few-answered: how
--- many words. call-form, made-form: in form stays in form, and an accepted call leaves it in form.
+-- does_it, does_not, not-made: what a call that was made, or refused, comes to. call-form,
+-- made-form: in form stays in form, and an accepted call leaves it in form.
 -- Assumes nothing.
 use mathlib.Core.Path.{◌≡◌, refl, sym, ap, subst, ◌∙◌}
 use mathlib.Core.Bool.{Bool, false, So, ◌&&◌, ◌||◌}
@@ -14,8 +14,7 @@ use lib.ListN.{length, get_or, take}
 use borrow.Author.Tests.{lt-ltb, le-leb, not-true, not-false}
 use Rattle.words.proofs.Bools.{clash, test, and_left, and_right, and_cases, or_true_right, or-false-right, leb-le, eqb-eq, eqb-ne}
 use Rattle.sizes.specs.Bounds.{counts_of}
-use Rattle.answers.specs.declared.Answered.{Answered}
-use Rattle.answers.specs.Answers.{max_answer, answer_room, over, Lays, answered_words}
+use Rattle.answers.specs.Answers.{max_answer, answer_room, over, Lays}
 use Rattle.model.specs.Outcome.{Outcome, refused, broken, done, told, answer}
 use Rattle.model.specs.Calls.{StoreCall, Query, open_run, ask}
 use Rattle.layout.specs.Buffer.{in_form}
@@ -27,8 +26,6 @@ use Rattle.layout.proofs.Forms.{no-form, form-kept, audit-leaves, ask-leaves}
 use Rattle.layout.proofs.Rules.{new-fine, new-done, new-refused}
 use Rattle.records.specs.Audit.{verdict_of, audit_of, audit_call}
 use Rattle.records.proofs.Exact.{audit_anywhere}
-use Rattle.audit.specs.declared.Audited.{Audited}
-use Rattle.audit.specs.Answers.{audited_words}
 use Rattle.command.specs.declared.Command.{Command}
 use Rattle.command.specs.Commands.{spelled}
 use Rattle.calls.specs.Performs.{asks_new, Does, Exported, scratch_after, TurnedDown, Made, MadeOf}
@@ -37,11 +34,11 @@ use Rattle.calls.specs.Performs.{asks_new, Does, Exported, scratch_after, Turned
 
 -- w: the words of the call's answer.
 does_it : (c : Call) (l m a b w : List ℕ) (n : ℕ) → w ≡ answer (call_on c l)
-    → m ≡ leaves (call_on c l) l → Lays w a b n → length w ≤ max_answer → Does c l m a b n
+    → m ≡ leaves (call_on c l) l → Lays w a b n → n ≤ max_answer → Does c l m a b n
 does_it c l m a b w n p q r f = record {
   answers = subst (λ (v : List ℕ). Lays v a b n) p r;
   changes = q;
-  few = omega (arith, r.count, f);
+  few = f;
 }
 
 -- On a buffer that isn't in form.
@@ -63,7 +60,7 @@ export_short c l a h = record {
 }
 
 pub export_done : (c : Call) (l m a b w : List ℕ) (n : ℕ) → answer_room ≤ length a
-    → w ≡ answer (call_on c l) → m ≡ leaves (call_on c l) l → Lays w a b n → length w ≤ max_answer
+    → w ≡ answer (call_on c l) → m ≡ leaves (call_on c l) l → Lays w a b n → n ≤ max_answer
     → Exported c l m a b n
 export_done c l m a b w n h p q r f = record {
   does = λ _. does_it c l m a b w n p q r f;
@@ -72,13 +69,13 @@ export_done c l m a b w n h p q r f = record {
 
 -- A call that only answers.
 pub export_asked : (q : Query) (l a b w : List ℕ) (n : ℕ) → answer_room ≤ length a
-    → w ≡ answer (call_on (on (ask q)) l) → Lays w a b n → length w ≤ max_answer
+    → w ≡ answer (call_on (on (ask q)) l) → Lays w a b n → n ≤ max_answer
     → Exported (on (ask q)) l l a b n
 export_asked q l a b w n h p r f = export_done _ l l a b w n h p (sym (ask-leaves q l)) r f
 
 -- An audit, on any desk.
 pub audits-done : (b l a c w : List ℕ) (n : ℕ) → answer_room ≤ length a → w ≡ answer (audit_of b)
-    → Lays w a c n → length w ≤ max_answer → Exported (audit_call b) l l a c n
+    → Lays w a c n → n ≤ max_answer → Exported (audit_call b) l l a c n
 audits-done b l a c w n h p r f =
     export_done (audit_call b) l l a c w n h (p ∙ ap answer (sym (audit_anywhere b l)))
     (sym (audit-leaves (verdict_of b) l)) r f
@@ -89,6 +86,19 @@ count_fits a b w n r f = omega (arith, r.count, f)
 
 pub count_same : (a b w : List ℕ) (n k : ℕ) → k ≡ n → Lays w a b n → Lays w a b k
 count_same a b w n k e r = rw e r
+
+-- An answer that is counted in fewer bits: k for n.
+pub done_counted : (c : Call) (l m a b w : List ℕ) (n k : ℕ) → answer_room ≤ length a
+    → w ≡ answer (call_on c l) → m ≡ leaves (call_on c l) l → Lays w a b n → length w ≤ max_answer
+    → k ≡ n → Exported c l m a b k
+done_counted c l m a b w n k h p q r f e =
+    export_done c l m a b w k h p q (count_same a b w n k e r) (omega (arith, e, r.count, f))
+
+pub asked_counted : (q : Query) (l a b w : List ℕ) (n k : ℕ) → answer_room ≤ length a
+    → w ≡ answer (call_on (on (ask q)) l) → Lays w a b n → length w ≤ max_answer → k ≡ n
+    → Exported (on (ask q)) l l a b k
+asked_counted q l a b w n k h p r f e =
+    done_counted _ l l a b w n k h p (sym (ask-leaves q l)) r f e
 
 -- f: whether the buffer is in form. g: whether the call can be made.
 module _ (l a : List ℕ) (f g : Bool) (e : f ≡ in_form l)
@@ -143,13 +153,6 @@ pub made_of : (k j : Command) (ws l m a b : List ℕ) (n : ℕ) (c : Call) → k
 unfolding Made MadeOf
 made_of k j ws l m a b n c e x s h = rw (e, s) (x.does h)
 
--- ---- how many words an answer has
-
-pub few-answered : (r : Answered) → length (answered_words r) ≤ max_answer
-unfolding answered_words
-few-answered (Answered.Done n) = omega arith
-few-answered (Answered.Refused n) = omega arith
-
 -- What a function of `calls` is asked: whether it may make its call, and what that comes to.
 pub ruleset exports = (
   export_short,
@@ -161,13 +164,7 @@ pub ruleset exports = (
   can-make-room,
   not-true,
   not-false,
-  few-answered,
 )
-
-pub few-audited : (e : Audited) → length (audited_words e) ≤ max_answer
-unfolding audited_words
-few-audited Audited.Unreadable = omega arith
-few-audited (Audited.Judged n) = omega arith
 
 -- ---- the form of the buffer after a call
 

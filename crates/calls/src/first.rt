@@ -8,7 +8,6 @@ ghost use Rattle.calls.specs.Performs.{Exported};
 use crate::laying::{can_make, lay, narrow, turn_down};
 use answers::Room;
 use look::put_looked;
-use step::put_stepped;
 
 pub fn new(
     store: &mut [u32],
@@ -24,8 +23,7 @@ pub fn new(
     if out.len() < Room::ANSWER {
         return 0;
     }
-    let r = create::new(store, keys, writers, sites, runs);
-    lay(out, r)
+    lay(out, create::new(store, keys, writers, sites, runs))
 }
 
 pub fn open(store: &mut [u32], ready: bool, run: u32, jobs: &[u32], out: &mut [u32]) -> u32
@@ -36,8 +34,7 @@ pub fn open(store: &mut [u32], ready: bool, run: u32, jobs: &[u32], out: &mut [u
     if !can_make(ready, out) {
         return turn_down(out);
     }
-    let r = runs::open(store, run, jobs);
-    lay(out, r)
+    lay(out, runs::open(store, run, jobs))
 }
 
 pub fn fetch(store: &mut [u32], ready: bool, site: u32, key: u32, out: &mut [u32]) -> u32
@@ -48,8 +45,7 @@ pub fn fetch(store: &mut [u32], ready: bool, site: u32, key: u32, out: &mut [u32
     if !can_make(ready, out) {
         return turn_down(out);
     }
-    let r = caches::fetch(store, site, key);
-    lay(out, r)
+    lay(out, caches::fetch(store, site, key))
 }
 
 pub fn evict(store: &mut [u32], ready: bool, site: u32, key: u32, out: &mut [u32]) -> u32
@@ -60,8 +56,7 @@ pub fn evict(store: &mut [u32], ready: bool, site: u32, key: u32, out: &mut [u32
     if !can_make(ready, out) {
         return turn_down(out);
     }
-    let r = caches::evict(store, site, key);
-    lay(out, r)
+    lay(out, caches::evict(store, site, key))
 }
 
 pub fn prepare(store: &mut [u32], ready: bool, run: u32, out: &mut [u32]) -> u32
@@ -72,8 +67,7 @@ pub fn prepare(store: &mut [u32], ready: bool, run: u32, out: &mut [u32]) -> u32
     if !can_make(ready, out) {
         return turn_down(out);
     }
-    let r = prepare::prepare(store, run);
-    lay(out, r)
+    lay(out, prepare::prepare(store, run))
 }
 
 pub fn step(store: &mut [u32], ready: bool, run: u32, job: u32, line: u32, out: &mut [u32]) -> u32
@@ -84,9 +78,7 @@ pub fn step(store: &mut [u32], ready: bool, run: u32, job: u32, line: u32, out: 
     if !can_make(ready, out) {
         return turn_down(out);
     }
-    let r = step::step(store, run, job, line);
-    let n = put_stepped(out, r);
-    narrow(n)
+    lay(out, step::step(store, run, job, line))
 }
 
 pub fn issue(
@@ -104,8 +96,7 @@ pub fn issue(
     if !can_make(ready, out) {
         return turn_down(out);
     }
-    let r = issue::issue(store, run, writer, mask);
-    lay(out, r)
+    lay(out, issue::issue(store, run, writer, mask))
 }
 
 pub fn drop(store: &mut [u32], ready: bool, run: u32, out: &mut [u32]) -> u32
@@ -116,8 +107,7 @@ pub fn drop(store: &mut [u32], ready: bool, run: u32, out: &mut [u32]) -> u32
     if !can_make(ready, out) {
         return turn_down(out);
     }
-    let r = runs::drop(store, run);
-    lay(out, r)
+    lay(out, runs::drop(store, run))
 }
 
 pub fn look(store: &[u32], ready: bool, place: u32, number: u32, key: u32, out: &mut [u32]) -> u32
@@ -128,7 +118,6 @@ pub fn look(store: &[u32], ready: bool, place: u32, number: u32, key: u32, out: 
     if !can_make(ready, out) {
         return turn_down(out);
     }
-    let r = look::look(store, place, number, key);
-    let n = put_looked(out, store, r);
+    let n = put_looked(out, store, look::look(store, place, number, key));
     narrow(n)
 }

@@ -6,8 +6,7 @@ ghost use Rattle.layout.specs.Calls.{on};
 ghost use Rattle.command.specs.Commands.{scratch_room};
 ghost use Rattle.calls.specs.Performs.{Exported, scratch_after};
 
-use crate::laying::{can_make, narrow, turn_down};
-use forecast::put_foretold;
+use crate::laying::{can_make, lay, turn_down};
 
 pub fn forecast(store: &[u32], ready: bool, scratch: &mut [u32], run: u32, out: &mut [u32]) -> u32
     requires { ready ≡ in_form store.now }
@@ -19,9 +18,7 @@ pub fn forecast(store: &[u32], ready: bool, scratch: &mut [u32], run: u32, out: 
     if !can_make(ready, out) {
         return turn_down(out);
     }
-    let e = forecast::forecast(store, scratch, run);
-    let n = put_foretold(out, e);
-    narrow(n)
+    lay(out, forecast::forecast(store, scratch, run))
 }
 
 // With a scratch of its own, which nobody sees.

@@ -7,7 +7,6 @@ ghost use Rattle.calls.specs.Performs.{Exported};
 
 use crate::laying::{can_make, lay, narrow, turn_down};
 use explain::put::put_explained;
-use fork::put_joined;
 use pick::put_picked;
 
 pub fn explain(store: &[u32], ready: bool, run: u32, job: u32, line: u32, out: &mut [u32]) -> u32
@@ -18,8 +17,7 @@ pub fn explain(store: &[u32], ready: bool, run: u32, job: u32, line: u32, out: &
     if !can_make(ready, out) {
         return turn_down(out);
     }
-    let r = explain::explain(store, run, job, line);
-    let n = put_explained(out, r);
+    let n = put_explained(out, explain::explain(store, run, job, line));
     narrow(n)
 }
 
@@ -31,8 +29,7 @@ pub fn stale(store: &[u32], ready: bool, site: u32, out: &mut [u32]) -> u32
     if !can_make(ready, out) {
         return turn_down(out);
     }
-    let r = stale::stale(store, site);
-    lay(out, r)
+    lay(out, stale::stale(store, site))
 }
 
 pub fn admit(store: &[u32], ready: bool, out: &mut [u32]) -> u32
@@ -43,8 +40,7 @@ pub fn admit(store: &[u32], ready: bool, out: &mut [u32]) -> u32
     if !can_make(ready, out) {
         return turn_down(out);
     }
-    let r = admit::admit(store);
-    lay(out, r)
+    lay(out, admit::admit(store))
 }
 
 pub fn allow(store: &mut [u32], ready: bool, site: u32, number: u32, out: &mut [u32]) -> u32
@@ -55,8 +51,7 @@ pub fn allow(store: &mut [u32], ready: bool, site: u32, number: u32, out: &mut [
     if !can_make(ready, out) {
         return turn_down(out);
     }
-    let r = allow::allow(store, site, number);
-    lay(out, r)
+    lay(out, allow::allow(store, site, number))
 }
 
 pub fn pick(store: &mut [u32], ready: bool, out: &mut [u32]) -> u32
@@ -67,8 +62,7 @@ pub fn pick(store: &mut [u32], ready: bool, out: &mut [u32]) -> u32
     if !can_make(ready, out) {
         return turn_down(out);
     }
-    let r = pick::pick(store);
-    let n = put_picked(out, r);
+    let n = put_picked(out, pick::pick(store));
     narrow(n)
 }
 
@@ -80,8 +74,7 @@ pub fn mayhold(store: &mut [u32], ready: bool, site: u32, mask: u32, out: &mut [
     if !can_make(ready, out) {
         return turn_down(out);
     }
-    let r = rights::mayhold(store, site, mask);
-    lay(out, r)
+    lay(out, rights::mayhold(store, site, mask))
 }
 
 pub fn maysave(store: &mut [u32], ready: bool, writer: u32, mask: u32, out: &mut [u32]) -> u32
@@ -92,8 +85,7 @@ pub fn maysave(store: &mut [u32], ready: bool, writer: u32, mask: u32, out: &mut
     if !can_make(ready, out) {
         return turn_down(out);
     }
-    let r = rights::maysave(store, writer, mask);
-    lay(out, r)
+    lay(out, rights::maysave(store, writer, mask))
 }
 
 pub fn fork(store: &mut [u32], ready: bool, run: u32, out: &mut [u32]) -> u32
@@ -104,8 +96,7 @@ pub fn fork(store: &mut [u32], ready: bool, run: u32, out: &mut [u32]) -> u32
     if !can_make(ready, out) {
         return turn_down(out);
     }
-    let r = fork::fork(store, run);
-    lay(out, r)
+    lay(out, fork::fork(store, run))
 }
 
 pub fn join(store: &mut [u32], ready: bool, run: u32, out: &mut [u32]) -> u32
@@ -116,7 +107,5 @@ pub fn join(store: &mut [u32], ready: bool, run: u32, out: &mut [u32]) -> u32
     if !can_make(ready, out) {
         return turn_down(out);
     }
-    let r = fork::join(store, run);
-    let n = put_joined(out, r);
-    narrow(n)
+    lay(out, fork::join(store, run))
 }

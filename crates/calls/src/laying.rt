@@ -1,9 +1,10 @@
 // What every call does: it is made or not, and the words of its answer are laid.
 ghost use Rattle.std.specs.Prelude.{◌≡◌, ◌&&◌, ◌≤◌, ◌<◌, leb, length};
-ghost use Rattle.answers.specs.Answers.{answer_room, Lays, answered_words};
+ghost use Rattle.answers.specs.Answers.{max_answer, answer_room, Lays, result_words};
 ghost use Rattle.calls.specs.Performs.{TurnedDown};
 
-use answers::{Answered, Room, put_answered, put_two};
+use answers::refusal::Refusal;
+use answers::{Answer, Room, put_result};
 
 // A count of words, in fewer bits.
 pub fn narrow(n: usize) -> u32
@@ -27,15 +28,15 @@ pub fn turn_down(out: &mut [u32]) -> u32
     if out.len() < Room::ANSWER {
         return 0;
     }
-    put_two(out, 2, 1);
-    2
+    lay::<u32>(out, Err(Refusal::NotInForm))
 }
 
-// The words of an answer with one number.
-pub fn lay(out: &mut [u32], r: Answered) -> u32
+// The words of an answer, or of a refusal.
+pub fn lay<A: Answer>(out: &mut [u32], r: Result<A, Refusal>) -> u32
     requires { answer_room ≤ length out.old }
-    ensures { Lays (answered_words r) out.old out.new result }
+    ensures laid { Lays (result_words A.words r) out.old out.new result }
+    ensures few { result ≤ max_answer }
 {
-    let n = put_answered(out, r);
+    let n = put_result(out, r);
     narrow(n)
 }

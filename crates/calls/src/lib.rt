@@ -19,7 +19,6 @@ use command::Command;
 use first::{drop, evict, fetch, issue, look, new, open, prepare, step};
 use forecasts::forecast_alone;
 use later::{admit, allow, explain, fork, join, mayhold, maysave, pick, stale};
-use words::wide;
 
 // Whether the buffer is in form after a call, and how many words its answer has.
 #[derive(Clone, Copy)]
@@ -86,7 +85,7 @@ pub fn perform(
     ensures { Performs (spelled command numbers.now) store.old
         store.new answer.old answer.new result }
 {
-    let count = wide(make(store, ready, command, numbers, answer));
+    let count = make(store, ready, command, numbers, answer) as usize;
     let accepted = (0 < count) & (answer[0] == 0);
     Performed {
         ready: ready | (is_new(command) & accepted),

@@ -1,12 +1,10 @@
 // Writers' counts: a type of their own, so that none is taken for an issue number or for a plain
 // word. Only this file takes one out of a word or puts one into it.
-ghost use Rattle.std.specs.Prelude.{◌≡◌, ◌<◌, max, eqb, leb, ltb, length, get_or, set};
+ghost use Rattle.std.specs.Prelude.{◌≡◌, ◌<◌, eqb, leb, length, get_or, set};
 ghost use Rattle.clock.specs.Count.{max_word, count_after};
 
-use words::larger;
-
 // How many issues a writer has made.
-#[derive(Clone, Copy)]
+#[derive(Clone, Copy, PartialEq, Eq, PartialOrd, Ord)]
 pub struct WriterCount(u32);
 
 // The largest count, and the largest issue number: no issue follows it.
@@ -18,27 +16,6 @@ pub fn limits()
 {}
 
 impl WriterCount {
-    // Whether it is larger than another.
-    pub fn exceeds(self, other: WriterCount) -> bool
-        ensures { result ≡ ltb other.0 self.0 }
-    {
-        other.0 < self.0
-    }
-
-    // Whether it is the same as another.
-    pub fn equals(self, other: WriterCount) -> bool
-        ensures { result ≡ eqb self.0 other.0 }
-    {
-        self.0 == other.0
-    }
-
-    // The larger of two.
-    pub fn larger(self, other: WriterCount) -> WriterCount
-        ensures { result.0 ≡ max self.0 other.0 }
-    {
-        WriterCount(larger(self.0, other.0))
-    }
-
     // Whether the writer is present: its count isn't 0.
     pub fn is_present(self) -> bool
         ensures { result ≡ leb 1 self.0 }

@@ -10,7 +10,7 @@ ghost use Rattle.clock.specs.Clock.{standing, standing_of, standing_number, cove
 use count::{count_at, set_count};
 
 // How two clocks stand.
-#[derive(Clone, Copy)]
+#[derive(Clone, Copy, PartialEq, Eq)]
 pub enum Standing {
     Equal,
     Older,
@@ -19,14 +19,16 @@ pub enum Standing {
 }
 
 // The number of a standing.
-pub fn standing_number(s: Standing) -> u32
-    ensures { result ≡ standing_number s }
-{
-    match s {
-        Standing::Equal => 0,
-        Standing::Older => 1,
-        Standing::Newer => 2,
-        Standing::Rival => 3,
+impl From<Standing> for u32 {
+    ghost from_gives = { λ s n. n ≡ standing_number s };
+
+    fn from(s: Standing) -> u32 {
+        match s {
+            Standing::Equal => 0,
+            Standing::Older => 1,
+            Standing::Newer => 2,
+            Standing::Rival => 3,
+        }
     }
 }
 
@@ -34,12 +36,7 @@ pub fn standing_number(s: Standing) -> u32
 pub fn covering(s: Standing) -> bool
     ensures { result ≡ covering s }
 {
-    match s {
-        Standing::Equal => true,
-        Standing::Older => false,
-        Standing::Newer => true,
-        Standing::Rival => false,
-    }
+    matches!(s, Standing::Equal | Standing::Newer)
 }
 
 // The standing seen from the other clock.
@@ -66,12 +63,7 @@ pub fn covered(s: Standing) -> bool
 pub fn differing(s: Standing) -> bool
     ensures { result ≡ differing s }
 {
-    match s {
-        Standing::Equal => false,
-        Standing::Older => true,
-        Standing::Newer => true,
-        Standing::Rival => true,
-    }
+    s != Standing::Equal
 }
 
 // The standing by whether some count differs, whether some is larger, and whether some is smaller.
@@ -102,14 +94,12 @@ pub fn compare(p: &[u32], a: usize, q: &[u32], b: usize, w: usize) -> Standing
     let mut unequal = false;
     let mut over = false;
     let mut under = false;
-    let mut i = 0;
-    while i < w {
+    for i in 0..w {
         let x = count_at(p, a + i);
         let y = count_at(q, b + i);
-        unequal = unequal | !x.equals(y);
-        over = over | x.exceeds(y);
-        under = under | y.exceeds(x);
-        i += 1;
+        unequal = unequal | (x != y);
+        over = over | (x > y);
+        under = under | (x < y);
     }
     standing_of(unequal, over, under)
 }
@@ -121,10 +111,8 @@ pub fn present(words: &[u32], at: usize, w: usize) -> bool
     ensures { result ≡ present w (clock_at words.now at) }
 {
     let mut all: u32 = 0;
-    let mut i = 0;
-    while i < w {
-        all = all | words[at + i];
-        i += 1;
+    for i in 0..w {
+        all |= words[at + i];
     }
     1 <= all
 }
@@ -135,11 +123,9 @@ pub fn merge_into(words: &mut [u32], dst: usize, src: usize, n: usize)
     ensures { words.new ≡ put words.old dst n
         (join (clock_at words.old dst) (clock_at words.old src)) }
 {
-    let mut i = 0;
-    while i < n {
+    for i in 0..n {
         let x = count_at(words, dst + i);
         let y = count_at(words, src + i);
-        set_count(words, dst + i, x.larger(y));
-        i += 1;
+        set_count(words, dst + i, x.max(y));
     }
 }

@@ -12,16 +12,22 @@ ghost use Rattle.layout.specs.Words.{header_words};
 ghost use Rattle.layout.specs.Buffer.{written};
 ghost use Rattle.layout.specs.Calls.{new, new_cause, call_on, leaves};
 ghost use Rattle.answers.specs.Answers.{answered_words};
+ghost use Rattle.answers.specs.Refusals.{cause_number};
 ghost use Rattle.create.specs.Room.{Room, allowances_put};
 
-use answers::Answered;
+use answers::refusal::Refusal;
 use sizes::header::HeaderOffset;
 use sizes::{Counts, Sizes};
 use tail::store_tail;
-use words::wide;
 
 // Writes a fresh store, or refuses and leaves every word. Answers the total.
-pub fn new(words: &mut [u32], keys: u32, writers: u32, sites: u32, runs: u32) -> Answered
+pub fn new(
+    words: &mut [u32],
+    keys: u32,
+    writers: u32,
+    sites: u32,
+    runs: u32,
+) -> Result<u32, Refusal>
     ensures answers { answered_words result
         ≡ answer (call_on (new keys writers sites runs) words.old) }
     ensures leaves { words.new
@@ -29,26 +35,23 @@ pub fn new(words: &mut [u32], keys: u32, writers: u32, sites: u32, runs: u32) ->
         words.old }
 {
     let z = counts_of(keys, writers, sites, runs);
-    let no = cause(words, z);
-    if no != 0 {
-        return Answered::Refused(no);
-    }
+    cause(words, z)?;
     let total = store_fresh(words, z);
-    Answered::Done(total)
+    Ok(total)
 }
 
-// The cause for which new is refused, or 0. No size is computed from counts out of range.
-fn cause(words: &[u32], z: Counts) -> u32
-    ensures { result ≡ new_cause words.now z }
+// Why new is refused. No size is computed from counts out of range.
+fn cause(words: &[u32], z: Counts) -> Result<(), Refusal>
+    ensures { cause_number result ≡ new_cause words.now z }
 {
     if !z.is_ranged() {
-        return 2;
+        return Err(Refusal::BadCount);
     }
     let at = sizes_of(z);
     if words.len() < at.total {
-        return 1;
+        return Err(Refusal::NotInForm);
     }
-    0
+    Ok(())
 }
 
 // Zeros up to the total, then the header, the allowances and the tail. Answers the total.
@@ -71,13 +74,10 @@ fn store_allowances(words: &mut [u32], z: Counts)
     ensures { words.new ≡ allowances_put z z.sites words.old }
 {
     let keys = narrow(z.keys);
-    let n = z.sites;
-    let mut o = 0;
-    while o < n {
+    for o in 0..z.sites {
         let site = z.site_at(o);
         let at = z.allowance_at(site);
         words[at] = keys;
-        o += 1;
     }
 }
 
@@ -103,10 +103,10 @@ fn counts_of(keys: u32, writers: u32, sites: u32, runs: u32) -> Counts
     ensures { result ≡ counts_of keys writers sites runs }
 {
     Counts {
-        keys: wide(keys),
-        writers: wide(writers),
-        sites: wide(sites),
-        runs: wide(runs),
+        keys: keys as usize,
+        writers: writers as usize,
+        sites: sites as usize,
+        runs: runs as usize,
     }
 }
 

@@ -1,7 +1,6 @@
 // The tail of a new desk: the round, then the masks of all sheets.
-ghost use Rattle.std.specs.Prelude.{◌≡◌, ◌+◌, ◌-◌, ◌^◌, ◌≤◌, length};
+ghost use Rattle.std.specs.Prelude.{◌≡◌, ◌-◌, ◌^◌, ◌≤◌, length};
 ghost use Rattle.std.proofs.lemmas.List.Edits.{sets};
-ghost use Rattle.words.specs.Words.{put};
 ghost use Rattle.sizes.specs.Bounds.{max_keys};
 ghost use Rattle.model.specs.Tail.{fresh_tail};
 ghost use Rattle.layout.specs.Words.{tail_words};
@@ -18,8 +17,9 @@ pub fn store_tail(words: &mut [u32], z: Counts, at: Sizes)
 {
     let round = at.tail;
     words[round] = narrow(z.runs - 1);
-    let every = every_key(z.keys);
-    fill(words, round + 1, z.sites + z.writers, every);
+    let masks = round + 1;
+    let number = z.sites + z.writers;
+    words[masks..masks + number].fill(every_key(z.keys));
 }
 
 // The mask of all keys. The power is one of 64 bits: there may be 32 keys.
@@ -28,16 +28,4 @@ fn every_key(keys: usize) -> u32
     ensures { result ≡ 2 ^ keys - 1 }
 {
     ((1usize << keys) - 1) as u32
-}
-
-// Stores n words that are equal, from index at on.
-fn fill(words: &mut [u32], at: usize, n: usize, x: u32)
-    requires { at + n ≤ length words.old }
-    ensures { words.new ≡ put words.old at n (λ _. x) }
-{
-    let mut i = 0;
-    while i < n {
-        words[at + i] = x;
-        i += 1;
-    }
 }

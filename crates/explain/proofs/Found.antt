@@ -45,9 +45,10 @@ use Rattle.explain.specs.Drawing.{source_of, drawn_edge, drawn_start, drawn_path
 use lib.ListN.{length}
 use Rattle.words.proofs.Lists.{length-window}
 use Rattle.answers.specs.Answers.{max_answer}
-use Rattle.explain.specs.declared.Finding.{Finding}
-use Rattle.explain.specs.declared.Explained.{Explained}
-use Rattle.explain.specs.Answers.{found_words, explained_words, Fits, Listed}
+use Rattle.std.specs.Prelude.{Option, Some, None, Result, Ok, Err}
+use Rattle.answers.specs.declared.refusal.Refusal.{Refusal}
+use Rattle.paths.specs.declared.ItemPath.{ItemPath}
+use Rattle.explain.specs.Answers.{explained_words, Listed}
 
 module _ (l : List ℕ) (z : Counts) (r j n : ℕ) (v : Visit) (t : Trial)
     (F : Finds l z r j n v t) where
@@ -174,12 +175,9 @@ words-refused l r j n m F e h =
     rw no refl
 
 -- How many words the answer has.
-few-found : (f : Finding) (keys : List ℕ) → Fits f keys → length (found_words f keys) ≤ max_answer
-unfolding found_words Fits
-few-found Finding.Clear keys h = omega arith
-few-found (Finding.Path n) keys h = omega (arith, length-window keys 0 n, h.1)
-few-found (Finding.Refused n) keys h = omega arith
-
-pub few_explained : (r : Explained) → Listed r → length (explained_words r) ≤ max_answer
-unfolding explained_words
-few_explained r h = few-found r.finding r.keys h
+pub few_explained : (r : Result (Option ItemPath) Refusal) → Listed r
+    → length (explained_words r) ≤ max_answer
+unfolding explained_words Listed
+few_explained (Ok None) h = omega arith
+few_explained (Ok (Some p)) h = omega (arith, length-window p.items 0 p.count, h.1)
+few_explained (Err r) h = omega arith

@@ -1,26 +1,21 @@
 -- The answer of explain in words.
--- found_words, explained_words: for each finding. Fits, Listed: the keys of a path are there.
+-- explained_words: so. Listed: the keys of a path are there.
 -- Assumes nothing.
-use Rattle.std.specs.Prelude.{List, [], ◌∷◌, ℕ, ◌≤◌, length}
+use Rattle.std.specs.Prelude.{List, [], ◌∷◌, ℕ, ◌≤◌, length, Option, Some, None, Result, Ok, Err}
+use Rattle.answers.specs.declared.refusal.Refusal.{Refusal}
+use Rattle.answers.specs.Refusals.{refusal_number}
 use Rattle.words.specs.Lists.{window}
+use Rattle.paths.specs.declared.ItemPath.{ItemPath}
 use Rattle.model.specs.Calls.Explain.{clear_word, path_word}
-use Rattle.explain.specs.declared.Finding.{Finding}
-use Rattle.explain.specs.declared.Explained.{Explained}
 
 -- "clear", a path, or the cause's number.
-unfoldable pub found_words : Finding → List ℕ → List ℕ
-found_words Finding.Clear keys = clear_word ∷ []
-found_words (Finding.Path n) keys = path_word ∷ window keys 0 n
-found_words (Finding.Refused n) keys = 2 ∷ n ∷ []
-
-unfoldable pub explained_words : Explained → List ℕ
-explained_words r = found_words r.finding r.keys
+unfoldable pub explained_words : Result (Option ItemPath) Refusal → List ℕ
+explained_words (Ok None) = clear_word ∷ []
+explained_words (Ok (Some p)) = path_word ∷ window p.items 0 p.count
+explained_words (Err r) = 2 ∷ refusal_number r ∷ []
 
 -- The keys of a path are there, and no more than an answer holds.
-unfoldable pub Fits : Finding → List ℕ → Type 0
-Fits Finding.Clear keys = Unit
-Fits (Finding.Path n) keys = (n ≤ length keys) × (n ≤ 32)
-Fits (Finding.Refused n) keys = Unit
-
-abbrev pub Listed : Explained → Type 0
-Listed r = Fits r.finding r.keys
+unfoldable pub Listed : Result (Option ItemPath) Refusal → Type 0
+Listed (Ok None) = Unit
+Listed (Ok (Some p)) = (p.count ≤ length p.items) × (p.count ≤ 32)
+Listed (Err r) = Unit

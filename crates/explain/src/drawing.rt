@@ -14,18 +14,16 @@ use sets::missing::lacking;
 use sizes::Counts;
 use trial::{Trial, Visit};
 
-// For each key of the mask, the keys of the scope to which it leads; no key for another.
+// For each key of the mask, the keys of the scope to which it leads; no key for another. An array
+// for the most keys, since there is no heap.
 fn led_rows(words: &[u32], z: Counts, rule: Rule, scope: u32, mask: u32) -> [u32; 32]
     requires { RuleArea (length words.now) z rule }
     ensures { result ≡ put no_items_of 0 z.keys (λ t. when (test_bit mask t)
         (mask_below z.keys (leads_to z words.now rule scope t))) }
 {
-    let n = z.keys;
     let mut rows = [0u32; 32];
-    let mut t = 0;
-    while t < n {
+    for t in 0..z.keys {
         rows[t] = led_if(words, z, rule, scope, mask, t);
-        t += 1;
     }
     rows
 }

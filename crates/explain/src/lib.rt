@@ -6,9 +6,8 @@
 mod drawing;
 pub mod put;
 
-ghost use Rattle.std.specs.Prelude.{◌≡◌};
+ghost use Rattle.std.specs.Prelude.{◌≡◌, Ok};
 ghost use Rattle.std.proofs.Math.Bool.{So};
-ghost use Rattle.paths.specs.Rows.{no_items_of};
 ghost use Rattle.model.specs.Outcome.{answer};
 ghost use Rattle.model.specs.Calls.{explain, ask};
 ghost use Rattle.layout.specs.Buffer.{in_form};
@@ -16,63 +15,34 @@ ghost use Rattle.layout.specs.Calls.{on, call_on};
 ghost use Rattle.explain.specs.Answers.{explained_words, Listed};
 ghost use Rattle.explain.specs.Drawing.{Draws, drawn_words};
 
+use answers::refusal::Refusal;
 use drawing::path_of;
 use form::header::counts;
+use paths::ItemPath;
 use sizes::Counts;
-use trial::{Trial, Tried, Visit, try_job};
-
-// The step would go through; or break, by a path of so many keys; or is refused, for this cause.
-#[derive(Clone, Copy)]
-pub enum Finding {
-    Clear,
-    Path(usize),
-    Refused(u32),
-}
-
-// A finding, and the keys of its path from the first on.
-#[derive(Clone, Copy)]
-pub struct Explained {
-    pub finding: Finding,
-    pub keys: [u32; 32],
-}
+use trial::{Trial, Visit, try_job};
 
 // What a step of a job of a run would come to, on a branch (CR 10: a line), in a buffer that is in
-// form.
-pub fn explain(words: &[u32], run: u32, job: u32, line: u32) -> Explained
+// form: nothing where it would go through, and the path by which it would break its run.
+pub fn explain(words: &[u32], run: u32, job: u32, line: u32) -> Result<Option<ItemPath>, Refusal>
     requires { So (in_form words.now) }
     ensures answers { explained_words result
         ≡ answer (call_on (on (ask (explain run job line))) words.now) }
     ensures listed { Listed result }
 {
     let z = counts(words);
-    let tried = try_job(words, z, run as usize, job as usize, line as usize);
-    match tried {
-        Tried::Refused(no) => alone(Finding::Refused(no)),
-        Tried::Found(visit, trial) => judge(words, z, visit, trial),
-    }
+    let (visit, trial) = try_job(words, z, run as usize, job as usize, line as usize)?;
+    Ok(judge(words, z, visit, trial))
 }
 
-// A finding without keys.
-fn alone(finding: Finding) -> Explained
-    ensures { result ≡ record { finding = finding; keys = no_items_of } }
-{
-    let keys = [0u32; 32];
-    Explained { finding, keys }
-}
-
-// Clear where C has no key that the branch has read, otherwise the path.
-fn judge(words: &[u32], z: Counts, visit: Visit, trial: Trial) -> Explained
+// The path, where C has a key that the branch has read.
+fn judge(words: &[u32], z: Counts, visit: Visit, trial: Trial) -> Option<ItemPath>
     requires { Draws words.now z visit trial }
-    ensures answers { explained_words result ≡ drawn_words z words.now visit trial }
-    ensures listed { Listed result }
+    ensures answers { explained_words (Ok result) ≡ drawn_words z words.now visit trial }
+    ensures listed { Listed (Ok result) }
 {
     if trial.pulled & visit.read == 0 {
-        return alone(Finding::Clear);
+        return None;
     }
-    let path = path_of(words, z, visit, trial);
-    let keys = path.items;
-    Explained {
-        finding: Finding::Path(path.count),
-        keys,
-    }
+    Some(path_of(words, z, visit, trial))
 }

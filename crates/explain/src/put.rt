@@ -5,8 +5,9 @@ ghost use Rattle.model.specs.Calls.Explain.{path_word};
 ghost use Rattle.answers.specs.Answers.{answer_room, Lays};
 ghost use Rattle.explain.specs.Answers.{explained_words, Listed};
 
-use crate::{Explained, Finding};
+use answers::refusal::Refusal;
 use answers::{put_one, put_two};
+use paths::ItemPath;
 use words::copy_from;
 
 // The word of a path, and its keys.
@@ -22,16 +23,15 @@ fn put_path(answer: &mut [u32], keys: &[u32], n: usize) -> usize
 }
 
 // The words of an explanation, laid over an answer slice.
-pub fn put_explained(answer: &mut [u32], r: Explained) -> usize
+#[tactic(auto, unfolding(crate::specs::Answers::explained_words, crate::specs::Answers::Listed))]
+pub fn put_explained(answer: &mut [u32], r: Result<Option<ItemPath>, Refusal>) -> usize
     requires answer_room_in_bounds { answer_room ≤ length answer.old }
     requires listed { Listed r }
     ensures { Lays (explained_words r) answer.old answer.new result }
 {
-    let finding = r.finding;
-    let keys = r.keys;
-    match finding {
-        Finding::Clear => put_one(answer, 3),
-        Finding::Path(n) => put_path(answer, &keys, n),
-        Finding::Refused(no) => put_two(answer, 2, no),
+    match r {
+        Ok(None) => put_one(answer, 3),
+        Ok(Some(path)) => put_path(answer, &path.items, path.count),
+        Err(refusal) => put_two(answer, 2, u32::from(refusal)),
     }
 }

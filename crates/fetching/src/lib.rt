@@ -2,6 +2,7 @@
 #![tactic(auto)]
 
 ghost use Rattle.std.specs.Prelude.{◌≡◌, ◌<◌, ◌^◌};
+ghost use Rattle.answers.specs.Refusals.{cause_number};
 ghost use Rattle.masks.specs.Mask.{test_bit, mask_below};
 ghost use Rattle.model.specs.Version.{versions};
 ghost use Rattle.model.specs.Sets.{fetch_set, unfetchable};
@@ -13,6 +14,7 @@ ghost use Rattle.version.specs.Places.{choice};
 ghost use Rattle.form.specs.Parts.{FormWith};
 ghost use Rattle.fetching.specs.Takes.{takes_over, takes_cause};
 
+use answers::refusal::Refusal;
 use masks::without;
 use sets::fetch_set;
 use sets::missing::is_unfetchable;
@@ -66,26 +68,33 @@ pub fn is_over(words: &[u32], z: Counts, o: usize, taken: u32) -> bool
     words[at] < count
 }
 
-// The first cause for which a fetch at site o that takes T is refused, or 0. The site must have
-// the right to each key that is asked.
-pub fn taking_cause(words: &[u32], z: Counts, o: usize, asked: u32, taken: u32) -> u32
+// Why a fetch at site o that takes T is refused. The site must have the right to each key that is
+// asked.
+pub fn taking_cause(
+    words: &[u32],
+    z: Counts,
+    o: usize,
+    asked: u32,
+    taken: u32,
+) -> Result<(), Refusal>
     requires form_with { FormWith words.now z × (o < z.sites) }
     requires asked_bound { (asked < 2 ^ z.keys) × (taken < 2 ^ z.keys) }
-    ensures { result ≡ takes_cause z (store_of words.now) o asked taken }
+    ensures { cause_number result
+        ≡ takes_cause z (store_of words.now) o asked taken }
 {
     let barred = is_barred(words, z, o, asked);
     let lacked = is_lacked(words, z, taken);
     let over = is_over(words, z, o, taken);
     if barred {
-        return 13;
+        return Err(Refusal::NoRight);
     }
     if lacked {
-        return 7;
+        return Err(Refusal::NotOnMaster);
     }
     if over {
-        return 12;
+        return Err(Refusal::OverAllowance);
     }
-    0
+    Ok(())
 }
 
 // The cache of site o takes the master's version of each key in T, and its mark is set. Where T

@@ -11,7 +11,7 @@ use Rattle.masks.specs.Mask.{test_bit}
 use Rattle.model.specs.Store.{Store}
 use Rattle.model.specs.Outcome.{Outcome, refused, broken, done, answer}
 use Rattle.model.specs.Step.{step_rule_of, step_broken, step_done}
-use Rattle.model.specs.Calls.Forecast.{undone_at, walk_on, walk}
+use Rattle.model.specs.Calls.Forecast.{undone_at, Ended, through, breaks_at, turned_at, walk_on, walk}
 use Rattle.model.specs.Calls.{step, rule_of}
 use Rattle.model.proofs.Forecasts.{step-cases}
 use Rattle.layout.specs.Reading.{store_of}
@@ -20,15 +20,16 @@ use Rattle.layout.specs.Calls.{on, call_on, leaves}
 use Rattle.layout.proofs.Whole.{store_kept}
 use Rattle.layout.proofs.Forms.{form_rule}
 use Rattle.form.proofs.Known.{in_shape}
+use Rattle.std.specs.Prelude.{Result, Ok, Err}
+use Rattle.answers.specs.declared.refusal.Refusal.{Refusal}
 use Rattle.step.specs.declared.Stepped.{Stepped}
 use Rattle.step.specs.Answers.{stepped_words}
-use Rattle.forecast.specs.declared.Foretold.{Foretold}
-use Rattle.forecast.specs.Answers.{foretold_of, stopped_at}
+use Rattle.forecast.specs.Answers.{stopped_at}
 
 -- What the walk over some jobs from a buffer comes to: its end, and the buffer.
-abbrev pub Walks : ℕ → List ℕ → List ℕ → Foretold → List ℕ → Type 0
+abbrev pub Walks : ℕ → List ℕ → List ℕ → Ended → List ℕ → Type 0
 Walks r js l x m =
-    (x ≡ foretold_of (walk r js (store_of l)).ended)
+    (x ≡ (walk r js (store_of l)).ended)
     × (m ≡ written (walk r js (store_of l)).store l)
 
 abbrev head : List ℕ → ℕ
@@ -40,32 +41,34 @@ second l = get_or l 1 0
 -- ---- the answer of a step
 
 -- It tells how the walk over that job alone ends.
-abbrev Tells : Store → ℕ → Stepped → Outcome → Type 0
+abbrev Tells : Store → ℕ → Result Stepped Refusal → Outcome → Type 0
 Tells s j x y =
     stepped_words x ≡ answer y
-    → stopped_at j x ≡ foretold_of (walk_on j s y (λ t. walk 0 [] t)).ended
+    → stopped_at j x ≡ (walk_on j s y (λ t. walk 0 [] t)).ended
 
-tells-refused : (s : Store) (j : ℕ) (x : Stepped) (n : ℕ) → Tells s j x (refused n)
-unfolding stepped_words answer stopped_at foretold_of walk_on
-tells-refused s j (Stepped.Done a b c) n e = absurd (omega (arith, ap head e))
-tells-refused s j (Stepped.Broken m) n e = absurd (omega (arith, ap head e))
-tells-refused s j (Stepped.Refused m) n e = ap (λ (k : ℕ). Foretold.Turned j k) (ap second e)
+tells-refused : (s : Store) (j : ℕ) (x : Result Stepped Refusal) (n : ℕ) → Tells s j x (refused n)
+unfolding answer stopped_at walk_on
+tells-refused s j (Ok (Stepped.Done a b c)) n e = absurd (omega (arith, ap head e))
+tells-refused s j (Ok (Stepped.Broken m)) n e = absurd (omega (arith, ap head e))
+tells-refused s j (Err m) n e = ap (λ (k : ℕ). turned_at j k) (ap second e)
 
-tells-broken : (s : Store) (j : ℕ) (x : Stepped) (m : ℕ) (t : Store) → Tells s j x (broken m t)
-unfolding stepped_words answer stopped_at foretold_of walk_on
-tells-broken s j (Stepped.Done a b c) m t e = absurd (omega (arith, ap head e))
-tells-broken s j (Stepped.Broken k) m t e = ap (λ (k : ℕ). Foretold.Breaks j k) (ap second e)
-tells-broken s j (Stepped.Refused k) m t e = absurd (omega (arith, ap head e))
+tells-broken : (s : Store) (j : ℕ) (x : Result Stepped Refusal) (m : ℕ) (t : Store)
+    → Tells s j x (broken m t)
+unfolding answer stopped_at walk_on
+tells-broken s j (Ok (Stepped.Done a b c)) m t e = absurd (omega (arith, ap head e))
+tells-broken s j (Ok (Stepped.Broken k)) m t e = ap (λ (k : ℕ). breaks_at j k) (ap second e)
+tells-broken s j (Err k) m t e = absurd (omega (arith, ap head e))
 
-tells-done : (s : Store) (j : ℕ) (x : Stepped) (l : List ℕ) (t : Store) → Tells s j x (done l t)
-unfolding stepped_words answer stopped_at foretold_of walk_on walk
-tells-done s j (Stepped.Done a b c) l t e = refl
-tells-done s j (Stepped.Broken k) l t e = absurd (omega (arith, ap head e))
-tells-done s j (Stepped.Refused k) l t e = absurd (omega (arith, ap head e))
+tells-done : (s : Store) (j : ℕ) (x : Result Stepped Refusal) (l : List ℕ) (t : Store)
+    → Tells s j x (done l t)
+unfolding answer stopped_at walk_on walk
+tells-done s j (Ok (Stepped.Done a b c)) l t e = refl
+tells-done s j (Ok (Stepped.Broken k)) l t e = absurd (omega (arith, ap head e))
+tells-done s j (Err k) l t e = absurd (omega (arith, ap head e))
 
-stepped-tells : (s : Store) (r j : ℕ) (x : Stepped) → stepped_words x ≡ answer (step_rule_of r j 0
-    s)
-    → stopped_at j x ≡ foretold_of (walk r (j ∷ []) s).ended
+stepped-tells : (s : Store) (r j : ℕ) (x : Result Stepped Refusal)
+    → stepped_words x ≡ answer (step_rule_of r j 0 s)
+    → stopped_at j x ≡ (walk r (j ∷ []) s).ended
 unfolding walk step_broken step_done
 stepped-tells s r j x =
     step-cases (Tells s j x) s r j 0 (λ _. tells-refused s j x _) (λ _. tells-broken s j x _ _)
@@ -85,11 +88,11 @@ module _ (r finished j : ℕ) (l : List ℕ) (F : So (in_form l)) where
   kept : written (store_of l) l ≡ l
   kept = store_kept l (in_shape l F)
 
-  pub turn-passed : So (test_bit finished j) → Walks r (undone_at finished j) l Foretold.Through l
-  unfolding undone_at walk foretold_of
+  pub turn-passed : So (test_bit finished j) → Walks r (undone_at finished j) l through l
+  unfolding undone_at walk
   turn-passed p = rw p (refl, sym kept)
 
-  pub turn-stepped : test_bit finished j ≡ false → (x : Stepped) (m : List ℕ)
+  pub turn-stepped : test_bit finished j ≡ false → (x : Result Stepped Refusal) (m : List ℕ)
       → stepped_words x ≡ answer (call_on (on (step r j 0)) l)
       → m ≡ leaves (call_on (on (step r j 0)) l) l
       → Walks r (undone_at finished j) l (stopped_at j x) m

@@ -1,5 +1,6 @@
 -- The walk over the jobs of a run, turn by turn.
--- Goes: the scratch on the way. goes-start, goes_on, goes-stops, goes_end.
+-- is-through: which answer means that all steps are done. Goes: the scratch on the way.
+-- goes-start, goes_on, goes-stops, goes_end.
 -- Assumes nothing.
 use mathlib.Core.Path.{◌≡◌, refl, sym, ap, ◌∙◌}
 use mathlib.Core.Bool.{So}
@@ -17,7 +18,7 @@ use Rattle.layout.proofs.Follow.{fine-form, form-fine}
 use Rattle.layout.proofs.Foreseeing.{walk_kept}
 use Rattle.form.proofs.Known.{in_shape}
 use Rattle.forecast.specs.declared.Foretold.{Foretold}
-use Rattle.forecast.specs.Answers.{foretold_of}
+use Rattle.forecast.specs.Answers.{ended_of}
 use Rattle.forecast.proofs.Turns.{Walks}
 
 -- From the buffer l₀, over the jobs of n that a mask lacks, the walk has come to job j and the
@@ -28,22 +29,21 @@ pub record Goes (r finished n : ℕ) (l₀ : List ℕ) (j : ℕ) (l : List ℕ) 
   pub past : (t : Store) → t.counts ≡ (store_of l₀).counts → written t l ≡ written t l₀
   pub rest : walk r (undone_from finished n j) (store_of l) ≡ forecast_walk r (store_of l₀)
 
-abbrev tag : Foretold → ℕ
-tag Foretold.Through = 0
-tag (Foretold.Breaks j m) = 1
-tag (Foretold.Turned j n) = 1
-tag (Foretold.Refused n) = 1
+abbrev tag : Ended → ℕ
+tag through = 0
+tag (breaks_at j m) = 1
+tag (turned_at j n) = 1
 
-is-through : (e : Ended) → Foretold.Through ≡ foretold_of e → e ≡ through
-unfolding foretold_of
-is-through through q = refl
-is-through (breaks_at j m) q = absurd (omega (arith, ap tag q))
-is-through (turned_at j n) q = absurd (omega (arith, ap tag q))
+pub is-through : (x : Foretold) → ended_of x ≡ through → x ≡ Foretold.Through
+unfolding ended_of
+is-through Foretold.Through q = refl
+is-through (Foretold.Breaks j m) q = absurd (omega (arith, ap tag q))
+is-through (Foretold.Turned j r) q = absurd (omega (arith, ap tag q))
 
 -- What the call answers, and what the scratch becomes.
-abbrev pub Foretells : ℕ → List ℕ → Foretold → List ℕ → Type 0
+abbrev pub Foretells : ℕ → List ℕ → Ended → List ℕ → Type 0
 Foretells r l₀ x m =
-    (x ≡ foretold_of (forecast_walk r (store_of l₀)).ended)
+    (x ≡ (forecast_walk r (store_of l₀)).ended)
     × (m ≡ written (forecast_walk r (store_of l₀)).store l₀)
 
 pub goes-start : (r finished n : ℕ) (l : List ℕ) → So (in_form l)
@@ -59,29 +59,28 @@ goes-start r finished n l F e f = record {
 
 module _ (r finished n : ℕ) (l₀ : List ℕ) (j : ℕ) (l : List ℕ) (G : Goes r finished n l₀ j l) where
   -- Nothing is left.
-  pub goes_end : n ≤ j → Foretells r l₀ Foretold.Through l
-  unfolding walk foretold_of
+  pub goes_end : n ≤ j → Foretells r l₀ through l
+  unfolding walk
   goes_end h =
       let e : walk r [] (store_of l) ≡ forecast_walk r (store_of l₀) =
       rw (undone-end finished n j h) at G.rest in
       rw (← e)
       (refl, sym (store_kept l (in_shape l G.form)) ∙ G.past (store_of l) G.counts)
 
-  module _ (h : j < n) (x : Foretold) (m : List ℕ) (W : Walks r (undone_at finished j) l x m) where
+  module _ (h : j < n) (x : Ended) (m : List ℕ) (W : Walks r (undone_at finished j) l x m) where
     -- The walk ends with this job,
-    pub goes-stops : x ≢ Foretold.Through → Foretells r l₀ x m
-    unfolding foretold_of
+    pub goes-stops : x ≢ through → Foretells r l₀ x m
     goes-stops q =
         let s = store_of l in
         let e : walk r (undone_at finished j) s ≡ forecast_walk r (store_of l₀) =
         sym (walk-stopped r (undone_from finished n (j + 1)) (undone_at finished j) s
-        (λ y. q (W.0 ∙ ap foretold_of y))) ∙ ap (λ js. walk r js s)
+        (λ y. q (W.0 ∙ y))) ∙ ap (λ js. walk r js s)
         (sym (undone-more finished n j h)) ∙ G.rest in
         let K = walk_kept r (undone_at finished j) s (form-fine l G.form) in
         rw (← e) (W.0, W.1 ∙ G.past _ (K.1 ∙ G.counts))
 
     -- or goes on.
-    pub goes_on : x ≡ Foretold.Through → Goes r finished n l₀ (j + 1) m
+    pub goes_on : x ≡ through → Goes r finished n l₀ (j + 1) m
     goes_on q =
         let s = store_of l in
         let js = undone_at finished j in
@@ -90,7 +89,7 @@ module _ (r finished n : ℕ) (l₀ : List ℕ) (j : ℕ) (l : List ℕ) (G : Go
         let back : store_of m ≡ t = ap store_of W.1 ∙ store-back t l K.0.fits in
         let e : walk r (undone_from finished n (j + 1)) t ≡ forecast_walk r (store_of l₀) =
         sym (walk-append r (undone_from finished n (j + 1)) js s
-        (is-through _ (sym q ∙ W.0))) ∙ ap (λ js. walk r js s)
+        (sym W.0 ∙ q)) ∙ ap (λ js. walk r js s)
         (sym (undone-more finished n j h)) ∙ G.rest in
         record {
           form = rw W.1 (fine-form t l K.0);

@@ -1,26 +1,33 @@
 -- The answers of forecast: CR 12's outcome and numbers for each case of the enum.
--- foretold_words: in words. foretold_of: of how the steps end. stopped_at: of a step's own answer.
+-- outcome_words, foretold_words: in words. ended_of: how the steps end. stopped_at: of a step's
+-- own answer.
 -- Assumes nothing.
-use Rattle.std.specs.Prelude.{List, [], ◌∷◌, ℕ}
+use Rattle.std.specs.Prelude.{List, [], ◌∷◌, ℕ, Result, Ok, Err}
+use Rattle.answers.specs.declared.refusal.Refusal.{Refusal}
+use Rattle.answers.specs.Answers.{result_words}
+use Rattle.answers.specs.Refusals.{refusal_number}
 use Rattle.model.specs.Calls.Forecast.{through_word, breaks_word, turned_word, Ended, through, breaks_at, turned_at}
 use Rattle.step.specs.declared.Stepped.{Stepped}
 use Rattle.forecast.specs.declared.Foretold.{Foretold}
 
--- ""goes through"", "the first job that breaks and its mask", "the first job turned down and its
--- number", or the cause's number.
-unfoldable pub foretold_words : Foretold → List ℕ
-foretold_words Foretold.Through = through_word ∷ []
-foretold_words (Foretold.Breaks j m) = breaks_word ∷ j ∷ m ∷ []
-foretold_words (Foretold.Turned j n) = turned_word ∷ j ∷ n ∷ []
-foretold_words (Foretold.Refused n) = 2 ∷ n ∷ []
+-- ""goes through"", "the first job that breaks and its mask", or "the first job turned down and
+-- its number".
+abbrev pub outcome_words : Foretold → List ℕ
+outcome_words Foretold.Through = through_word ∷ []
+outcome_words (Foretold.Breaks j m) = breaks_word ∷ j ∷ m ∷ []
+outcome_words (Foretold.Turned j r) = turned_word ∷ j ∷ refusal_number r ∷ []
 
-unfoldable pub foretold_of : Ended → Foretold
-foretold_of through = Foretold.Through
-foretold_of (breaks_at j m) = Foretold.Breaks j m
-foretold_of (turned_at j n) = Foretold.Turned j n
+-- The same, or the cause's number.
+abbrev pub foretold_words : Result Foretold Refusal → List ℕ
+foretold_words = result_words outcome_words
+
+unfoldable pub ended_of : Foretold → Ended
+ended_of Foretold.Through = through
+ended_of (Foretold.Breaks j m) = breaks_at j m
+ended_of (Foretold.Turned j r) = turned_at j (refusal_number r)
 
 -- After the step of job j.
-unfoldable pub stopped_at : ℕ → Stepped → Foretold
-stopped_at j (Stepped.Done a b c) = Foretold.Through
-stopped_at j (Stepped.Broken m) = Foretold.Breaks j m
-stopped_at j (Stepped.Refused n) = Foretold.Turned j n
+unfoldable pub stopped_at : ℕ → Result Stepped Refusal → Ended
+stopped_at j (Ok (Stepped.Done a b c)) = through
+stopped_at j (Ok (Stepped.Broken m)) = breaks_at j m
+stopped_at j (Err r) = turned_at j (refusal_number r)

@@ -7,6 +7,7 @@ ghost use Rattle.std.proofs.Math.Bool.{So};
 ghost use Rattle.sizes.specs.Bounds.{total_of};
 ghost use Rattle.sizes.specs.Runs.{max_jobs};
 ghost use Rattle.answers.specs.Answers.{answer_room, Lays};
+ghost use Rattle.answers.specs.Refusals.{cause_number};
 ghost use Rattle.model.specs.Outcome.{answer};
 ghost use Rattle.model.specs.Calls.Forecast.{undone_at, walk, forecast_cause, forecast_walk};
 ghost use Rattle.model.specs.Calls.{ask, forecast};
@@ -15,32 +16,33 @@ ghost use Rattle.layout.specs.Buffer.{written, in_form};
 ghost use Rattle.layout.specs.Forecast.{foreseen};
 ghost use Rattle.layout.specs.Calls.{on, call_on};
 ghost use Rattle.form.specs.Parts.{FormWith};
-ghost use Rattle.forecast.specs.Answers.{foretold_words, foretold_of, stopped_at};
+ghost use Rattle.forecast.specs.Answers.{outcome_words, foretold_words, ended_of, stopped_at};
+ghost use Rattle.forecast.specs.Few.{few-outcome};
 
-use answers::{put_one, put_three, put_two};
+use answers::refusal::Refusal;
+use answers::{Answer, put_one, put_three};
 use form::header::counts;
 use masks::has;
 use sizes::Counts;
 use sizes::run::RunOffset;
-use states::{FORECAST_ROW, FORKED_MARK};
+use states::{FORKED_MARK, Row};
 use status::run_cause;
 use step::{Stepped, step};
 use trial::jobs::job_count;
 use words::copy_from;
 
 // All steps are done; or this job breaks the run, with the mask of the keys that move; or this job
-// is turned down, for this cause; or the forecast is refused.
-#[derive(Clone, Copy)]
+// is turned down, for this cause.
+#[derive(Clone, Copy, PartialEq, Eq, Debug)]
 pub enum Foretold {
     Through,
     Breaks(u32, u32),
-    Turned(u32, u32),
-    Refused(u32),
+    Turned(u32, Refusal),
 }
 
 // What stepping the jobs of a run that aren't done would come to, in a buffer that is in form. The
 // scratch becomes the store that they would leave.
-pub fn forecast(words: &[u32], scratch: &mut [u32], run: u32) -> Foretold
+pub fn forecast(words: &[u32], scratch: &mut [u32], run: u32) -> Result<Foretold, Refusal>
     requires { So (in_form words.now) }
     ensures answers { foretold_words result ≡ answer
         (call_on (on (ask (forecast (length scratch.old) run))) words.now) }
@@ -49,35 +51,29 @@ pub fn forecast(words: &[u32], scratch: &mut [u32], run: u32) -> Foretold
 {
     let z = counts(words);
     let r = run as usize;
-    let cause = forecast_cause(words, z, scratch.len(), r);
-    if cause != 0 {
-        return Foretold::Refused(cause);
-    }
+    forecast_cause(words, z, scratch.len(), r)?;
     copy_store(words, scratch, z);
     let jobs = job_count(words, z, r);
     let at = z.run_at(r);
-    walk_jobs(scratch, run, jobs, words[at + RunOffset::DONE])
+    Ok(walk_jobs(scratch, run, jobs, words[at + RunOffset::DONE]))
 }
 
-// The first cause for which a forecast of run r is refused, with a scratch of so many words, or 0.
-fn forecast_cause(words: &[u32], z: Counts, room: usize, r: usize) -> u32
+// Why a forecast of run r is refused, with a scratch of so many words.
+fn forecast_cause(words: &[u32], z: Counts, room: usize, r: usize) -> Result<(), Refusal>
     requires { FormWith words.now z }
-    ensures { result ≡ forecast_cause (store_of words.now) room r }
+    ensures { cause_number result ≡ forecast_cause (store_of words.now) room r }
 {
     let areas = z.areas();
     let total = areas.total;
     if room < total {
-        return 1;
+        return Err(Refusal::NotInForm);
     }
-    let no = run_cause(words, z, FORECAST_ROW, r);
-    if no != 0 {
-        return no;
-    }
+    run_cause(words, z, Row::Forecast, r)?;
     let at = z.mark_at(r);
     if words[at] == FORKED_MARK {
-        return 14;
+        return Err(Refusal::WrongLine);
     }
-    0
+    Ok(())
 }
 
 // Copies the store to the front of the scratch.
@@ -97,19 +93,17 @@ fn walk_jobs(scratch: &mut [u32], run: u32, jobs: u32, done: u32) -> Foretold
     requires so { So (in_form scratch.old) }
     requires jobs_value { (jobs ≡ ((store_of scratch.old).run run).jobs)
         × (done ≡ ((store_of scratch.old).run run).done) × (jobs ≤ max_jobs) }
-    ensures answers { result
-        ≡ foretold_of (forecast_walk run (store_of scratch.old)).ended }
+    ensures answers { ended_of result
+        ≡ (forecast_walk run (store_of scratch.old)).ended }
     ensures leaves { scratch.new
         ≡ written (forecast_walk run (store_of scratch.old)).store
         scratch.old }
 {
-    let mut j = 0;
-    while j < jobs {
+    for j in 0..jobs {
         let told = turn(scratch, run, done, j);
         let Foretold::Through = told else {
             return told;
         };
-        j += 1;
     }
     Foretold::Through
 }
@@ -118,8 +112,8 @@ fn walk_jobs(scratch: &mut [u32], run: u32, jobs: u32, done: u32) -> Foretold
 fn turn(scratch: &mut [u32], run: u32, done: u32, j: u32) -> Foretold
     requires so { So (in_form scratch.old) }
     requires j_lt_max_jobs { j < max_jobs }
-    ensures answers { result
-        ≡ foretold_of (walk run (undone_at done j) (store_of scratch.old)).ended }
+    ensures answers { ended_of result
+        ≡ (walk run (undone_at done j) (store_of scratch.old)).ended }
     ensures leaves { scratch.new
         ≡ written (walk run (undone_at done j) (store_of scratch.old)).store
         scratch.old }
@@ -128,32 +122,34 @@ fn turn(scratch: &mut [u32], run: u32, done: u32, j: u32) -> Foretold
         return Foretold::Through;
     }
     let answer = step(scratch, run, j, 0);
-    let Stepped::Done(_, _, _) = answer else {
+    let Ok(Stepped::Done(_, _, _)) = answer else {
         return stopped(j, answer);
     };
     Foretold::Through
 }
 
 // What an answer of the step of job j comes to.
-fn stopped(j: u32, answer: Stepped) -> Foretold
-    ensures { result ≡ stopped_at j answer }
+#[tactic(auto, unfolding(crate::specs::Answers::stopped_at, crate::specs::Answers::ended_of))]
+fn stopped(j: u32, answer: Result<Stepped, Refusal>) -> Foretold
+    ensures { ended_of result ≡ stopped_at j answer }
 {
     match answer {
-        Stepped::Done(_, _, _) => Foretold::Through,
-        Stepped::Broken(moved) => Foretold::Breaks(j, moved),
-        Stepped::Refused(no) => Foretold::Turned(j, no),
+        Ok(Stepped::Done(_, _, _)) => Foretold::Through,
+        Ok(Stepped::Broken(moved)) => Foretold::Breaks(j, moved),
+        Err(refusal) => Foretold::Turned(j, refusal),
     }
 }
 
-// Puts the words of the answer.
-pub fn put_foretold(answer: &mut [u32], e: Foretold) -> usize
-    requires { answer_room ≤ length answer.old }
-    ensures { Lays (foretold_words e) answer.old answer.new result }
-{
-    match e {
-        Foretold::Through => put_one(answer, 6),
-        Foretold::Breaks(j, moved) => put_three(answer, 7, j, moved),
-        Foretold::Turned(j, no) => put_three(answer, 8, j, no),
-        Foretold::Refused(no) => put_two(answer, 2, no),
+impl Answer for Foretold {
+    ghost words = { outcome_words };
+
+    fn put(self, answer: &mut [u32]) -> usize {
+        match self {
+            Foretold::Through => put_one(answer, 6),
+            Foretold::Breaks(j, moved) => put_three(answer, 7, j, moved),
+            Foretold::Turned(j, refusal) => put_three(answer, 8, j, u32::from(refusal)),
+        }
     }
+
+    ghost few = { few-outcome };
 }

@@ -1,13 +1,12 @@
 -- What fork and join come to on a buffer in form: fork-refused, join-refused, by their cause;
--- fork-done; join-broken, join-done. few-joined: how many words the answer of join has.
+-- fork-done; join-broken, join-done.
 -- Assumes nothing.
 use mathlib.Core.Path.{◌≡◌, refl, sym, ap, ◌∙◌}
 use mathlib.Core.Bool.{false, cond, So}
 use mathlib.Core.Logic.{◌≢◌}
 use mathlib.Core.List.{List, [], ◌∷◌}
-use Prim.Native.Nat.{ℕ, ◌≤◌, ◌<◌}
-use native.Mathlib.Omega.{arith}
-use lib.ListN.{length, set}
+use Prim.Native.Nat.{ℕ, ◌<◌}
+use lib.ListN.{set}
 use Rattle.words.specs.Tests.{any_below}
 use Rattle.words.proofs.Bools.{test}
 use Rattle.words.proofs.Tests.{any-no}
@@ -28,9 +27,6 @@ use Rattle.layout.specs.Calls.{leaves}
 use Rattle.layout.proofs.RunUpdates.{put-state}
 use Rattle.form.specs.Parts.{FormWith}
 use Rattle.form.proofs.Known.{form-counts, form-again, Ends, ends-refused, ends-done}
-use Rattle.answers.specs.Answers.{max_answer}
-use Rattle.fork.specs.declared.Joined.{Joined}
-use Rattle.fork.specs.Answers.{joined_words}
 use Rattle.fork.proofs.Causes.{mark_cause}
 
 -- ---- fork
@@ -119,10 +115,3 @@ module _ (l : List ℕ) (z : Counts) (r : ℕ) (H : FormWith l z) (h : r < z.run
       join_rule r s ∙ rw none in
       ends-done (join r) l (mark_cause s join_row forked_mark r) (join_done s r) H.form rule free
       (0 ∷ 0 ∷ []) m refl f
-
--- How many words the answer has.
-pub few-joined : (r : Joined) → length (joined_words r) ≤ max_answer
-unfolding joined_words
-few-joined Joined.Done = omega arith
-few-joined (Joined.Broken m) = omega arith
-few-joined (Joined.Refused n) = omega arith

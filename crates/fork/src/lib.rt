@@ -2,7 +2,7 @@
 // would move is found first, and nothing is stored before that.
 #![tactic(auto)]
 
-ghost use Rattle.std.specs.Prelude.{◌≡◌, not, ◌≤◌, ◌<◌, eqb, length, set};
+ghost use Rattle.std.specs.Prelude.{◌≡◌, not, ◌<◌, eqb, length, set};
 ghost use Rattle.std.proofs.Math.Bool.{So};
 ghost use Rattle.sizes.specs.Bounds.{read_at_of, mark_at};
 ghost use Rattle.model.specs.Store.{with_run};
@@ -14,30 +14,34 @@ ghost use Rattle.layout.specs.Reading.{store_of};
 ghost use Rattle.layout.specs.Buffer.{written, in_form};
 ghost use Rattle.layout.specs.Calls.{on, call_on, leaves};
 ghost use Rattle.form.specs.Parts.{StoreArea, FormWith};
-ghost use Rattle.answers.specs.Answers.{answer_room, Lays, answered_words};
-ghost use Rattle.fork.specs.Answers.{joined_words};
+ghost use Rattle.answers.specs.Answers.{answered_words};
+ghost use Rattle.answers.specs.Refusals.{cause_number};
+ghost use Rattle.states.specs.Rows.{row_number};
+ghost use Rattle.fork.specs.Answers.{joined_words, union_words};
+ghost use Rattle.fork.specs.Few.{few-union};
 ghost use Rattle.fork.specs.Branches.{merged_run};
 
-use answers::{Answered, put_two};
+use answers::refusal::Refusal;
+use answers::{Answer, put_two};
 use form::header::counts;
 use sizes::Counts;
-use states::{FORK_ROW, FORKED_MARK, JOIN_ROW, JOINED_MARK};
+use states::{FORKED_MARK, JOINED_MARK, Row};
 use status::{mark_broken, run_cause};
 use version::held_mask;
 use version::merge::merge_keys;
 use version::moved::moved_keys;
 use words::{copy, zero};
 
-// The branches are one; or the keys that were read and would move; or the cause's number.
-#[derive(Clone, Copy)]
+// The branches are one; or the keys that were read and would move. An Option would say less: the
+// join that is done would be its None.
+#[derive(Clone, Copy, PartialEq, Eq, Debug)]
 pub enum Joined {
     Done,
     Broken(u32),
-    Refused(u32),
 }
 
 // A run gets a second branch, which is as the first. Answers 0.
-pub fn fork(words: &mut [u32], run: u32) -> Answered
+pub fn fork(words: &mut [u32], run: u32) -> Result<u32, Refusal>
     requires { So (in_form words.old) }
     ensures answers { answered_words result
         ≡ answer (call_on (on (fork run)) words.old) }
@@ -46,16 +50,13 @@ pub fn fork(words: &mut [u32], run: u32) -> Answered
 {
     let z = counts(words);
     let r = run as usize;
-    let cause = mark_cause(words, z, FORK_ROW, 0, r);
-    if cause != 0 {
-        return Answered::Refused(cause);
-    }
+    mark_cause(words, z, Row::Fork, 0, r)?;
     divide(words, z, r);
-    Answered::Done(0)
+    Ok(0)
 }
 
 // The second branch of a run is merged into the first, unless a key that was read would move.
-pub fn join(words: &mut [u32], run: u32) -> Joined
+pub fn join(words: &mut [u32], run: u32) -> Result<Joined, Refusal>
     requires { So (in_form words.old) }
     ensures answers { joined_words result
         ≡ answer (call_on (on (join run)) words.old) }
@@ -64,37 +65,29 @@ pub fn join(words: &mut [u32], run: u32) -> Joined
 {
     let z = counts(words);
     let r = run as usize;
-    let cause = mark_cause(words, z, JOIN_ROW, FORKED_MARK, r);
-    if cause != 0 {
-        return Joined::Refused(cause);
-    }
+    mark_cause(words, z, Row::Join, FORKED_MARK, r)?;
     let moved = moved_of(words, z, r);
     if moved != 0 {
         let at = z.run_at(r);
         mark_broken(words, at);
-        return Joined::Broken(moved);
+        return Ok(Joined::Broken(moved));
     }
     unite(words, z, r);
-    Joined::Done
+    Ok(Joined::Done)
 }
 
-// The first cause for which a call, a row of the table of states, that asks for a mark is refused
-// on run r, or 0.
-fn mark_cause(words: &[u32], z: Counts, row: u32, mark: u32, r: usize) -> u32
-    requires form_with { FormWith words.now z }
-    requires row_bound { row < 7 }
-    ensures { result ≡ run_cause (store_of words.now) row r
+// Why a call, a row of the table of states, that asks for a mark is refused on run r.
+fn mark_cause(words: &[u32], z: Counts, row: Row, mark: u32, r: usize) -> Result<(), Refusal>
+    requires { FormWith words.now z }
+    ensures { cause_number result ≡ run_cause (store_of words.now) (row_number row) r
         (refuse (not (eqb ((store_of words.now).run r).mark mark)) 14 0) }
 {
-    let no = run_cause(words, z, row, r);
-    if no != 0 {
-        return no;
-    }
+    run_cause(words, z, row, r)?;
     let at = z.mark_at(r);
     if words[at] != mark {
-        return 14;
+        return Err(Refusal::WrongLine);
     }
-    0
+    Ok(())
 }
 
 // The second branch of run r becomes as the first, and the run is forked.
@@ -174,14 +167,15 @@ fn put_marks(words: &mut [u32], z: Counts, r: usize, read: u32, mark: u32)
     words[at] = mark;
 }
 
-// Puts the words of the answer.
-pub fn put_joined(answer: &mut [u32], r: Joined) -> usize
-    requires { answer_room ≤ length answer.old }
-    ensures { Lays (joined_words r) answer.old answer.new result }
-{
-    match r {
-        Joined::Done => put_two(answer, 0, 0),
-        Joined::Broken(moved) => put_two(answer, 1, moved),
-        Joined::Refused(no) => put_two(answer, 2, no),
+impl Answer for Joined {
+    ghost words = { union_words };
+
+    fn put(self, answer: &mut [u32]) -> usize {
+        match self {
+            Joined::Done => put_two(answer, 0, 0),
+            Joined::Broken(moved) => put_two(answer, 1, moved),
+        }
     }
+
+    ghost few = { few-union };
 }

@@ -6,7 +6,6 @@ ghost use Rattle.layout.specs.Buffer.{header_right, shaped};
 
 use sizes::Counts;
 use sizes::header::HeaderOffset;
-use words::wide;
 
 // The counts in the header.
 pub fn counts(words: &[u32]) -> Counts
@@ -14,10 +13,10 @@ pub fn counts(words: &[u32]) -> Counts
     ensures { result ≡ counts_in words.now }
 {
     Counts {
-        keys: wide(words[HeaderOffset::KEYS]),
-        writers: wide(words[HeaderOffset::WRITERS]),
-        sites: wide(words[HeaderOffset::SITES]),
-        runs: wide(words[HeaderOffset::RUNS]),
+        keys: words[HeaderOffset::KEYS] as usize,
+        writers: words[HeaderOffset::WRITERS] as usize,
+        sites: words[HeaderOffset::SITES] as usize,
+        runs: words[HeaderOffset::RUNS] as usize,
     }
 }
 
@@ -26,7 +25,7 @@ pub fn word_is(words: &[u32], i: usize, x: usize) -> bool
     requires { i < length words.now }
     ensures { result ≡ eqb (read_word_of words.now i) x }
 {
-    wide(words[i]) == x
+    words[i] as usize == x
 }
 
 // Whether the offsets and the total in the header follow from the counts.
@@ -48,9 +47,7 @@ pub fn fits(words: &[u32], z: Counts) -> bool
     requires { Ranged z }
     ensures { result ≡ leb (total_of z) (length words.now) }
 {
-    let s = z.areas();
-    let total = s.total;
-    total <= words.len()
+    z.areas().total <= words.len()
 }
 
 // Whether header and length are right.

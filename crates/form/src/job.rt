@@ -10,14 +10,13 @@ ghost use Rattle.form.specs.Parts.{job_of, job_formed, reads_of};
 use masks::{has, mask_if};
 use sizes::run::JobOffset;
 use sizes::{Counts, Sizes, job_at};
-use words::wide;
 
 // Whether a mask has only items below n. The power is one of 64 bits: n may be 32.
 pub fn is_below(mask: u32, n: usize) -> bool
     requires { n ≤ max_keys }
     ensures { result ≡ ltb mask (2 ^ n) }
 {
-    wide(mask) < (1usize << n)
+    (mask as usize) < (1 << n)
 }
 
 // Whether the job is valid as job i.
@@ -26,7 +25,7 @@ pub fn valid_job(z: Counts, i: usize, site: u32, reads: u32, upstream: u32) -> b
     requires i_le_max_jobs { i ≤ max_jobs }
     ensures { result ≡ valid_job z i (job_of site reads upstream) }
 {
-    (wide(site) < z.sites) & (is_below(reads, z.keys) & is_below(upstream, i))
+    ((site as usize) < z.sites) & (is_below(reads, z.keys) & is_below(upstream, i))
 }
 
 // Whether the job has no words.
@@ -60,14 +59,7 @@ pub fn each_job(words: &[u32], z: Counts, at: usize, n: usize) -> bool
     ensures { result ≡ all_below max_jobs
         (λ i. job_formed z n i (read_jobs words.now at i)) }
 {
-    let mut i = 0;
-    while i < Sizes::MAX_JOBS {
-        if !job_formed(words, z, at, n, i) {
-            return false;
-        }
-        i += 1;
-    }
-    true
+    (0..Sizes::MAX_JOBS).all(|i| job_formed(words, z, at, n, i))
 }
 
 // What the jobs of a mask read, of the first n jobs at an index.
@@ -75,12 +67,10 @@ pub fn reads_of(words: &[u32], at: usize, n: u32, mask: u32) -> u32
     requires { (at + plan_size ≤ length words.now) × (n ≤ max_jobs) }
     ensures { result ≡ reads_of n (read_jobs words.now at) mask }
 {
-    let mut all: u32 = 0;
-    let mut j: u32 = 0;
-    while j < n {
-        let job = job_at(at, wide(j));
-        all = all | mask_if(has(mask, j), words[job + JobOffset::READS]);
-        j += 1;
+    let mut all = 0;
+    for j in 0..n {
+        let job = job_at(at, j as usize);
+        all |= mask_if(has(mask, j), words[job + JobOffset::READS]);
     }
     all
 }

@@ -9,7 +9,7 @@ pub mod run;
 pub mod site;
 pub mod tail;
 
-ghost use Rattle.std.specs.Prelude.{◌≡◌, length};
+ghost use Rattle.std.specs.Prelude.{◌≡◌, ◌<◌, length};
 ghost use Rattle.words.specs.Tests.{all_below};
 ghost use Rattle.layout.specs.Buffer.{in_form};
 ghost use Rattle.form.specs.Parts.{StoreArea, site_test, run_test};
@@ -27,16 +27,15 @@ fn sites_formed(words: &[u32], z: Counts) -> bool
     requires { StoreArea (length words.now) z }
     ensures { result ≡ all_below z.sites (site_test z words.now) }
 {
-    let sites = z.sites;
-    let mut o = 0;
-    while o < sites {
-        let right = words[z.may_hold_at(o)];
-        if !site_formed(words, z, HeaderOffset::SIZE, z.site_at(o), right) {
-            return false;
-        }
-        o += 1;
-    }
-    true
+    (0..z.sites).all(
+        |o|
+            requires { StoreArea (length words.now) z × (o < z.sites) }
+            ensures { result ≡ site_test z words.entry.now o }
+        {
+            let right = words[z.may_hold_at(o)];
+            site_formed(words, z, HeaderOffset::SIZE, z.site_at(o), right)
+        },
+    )
 }
 
 // Whether every run is in form.
@@ -44,15 +43,12 @@ fn runs_formed(words: &[u32], z: Counts) -> bool
     requires { StoreArea (length words.now) z }
     ensures { result ≡ all_below z.runs (run_test z words.now) }
 {
-    let runs = z.runs;
-    let mut i = 0;
-    while i < runs {
-        if !run_formed(words, z, z.run_at(i)) {
-            return false;
-        }
-        i += 1;
-    }
-    true
+    (0..z.runs).all(
+        |i|
+            requires { StoreArea (length words.now) z × (i < z.runs) }
+            ensures { result ≡ run_test z words.entry.now i }
+        { run_formed(words, z, z.run_at(i)) },
+    )
 }
 
 // Whether the buffer is in form. It may be any buffer.

@@ -61,13 +61,5 @@ pub fn place_formed(words: &[u32], z: Counts, at: usize) -> bool
     requires { Area (length words.now) z at }
     ensures { result ≡ place_formed z (read_place z words.now at) }
 {
-    let keys = z.keys;
-    let mut k = 0;
-    while k < keys {
-        if !version_formed(words, z, at, k) {
-            return false;
-        }
-        k += 1;
-    }
-    true
+    (0..z.keys).all(|k| version_formed(words, z, at, k))
 }

@@ -20,7 +20,6 @@ use sizes::run::RunOffset;
 use sizes::{Counts, Sizes, is_between};
 use states::{BROKEN_STATE, FORKED_MARK, FREE_STATE, JOINED_MARK};
 use version::held_mask;
-use words::wide;
 
 // How many words of a run stand before its mark.
 pub fn front_size(z: Counts) -> usize
@@ -31,16 +30,18 @@ pub fn front_size(z: Counts) -> usize
 }
 
 // Whether the run has 1 to 8 jobs, each in form.
+#[tactic(auto, unfolding(sizes::specs::Bounds::run_size))]
 pub fn jobs_formed(words: &[u32], z: Counts, at: usize) -> bool
     requires { RunArea (length words.now) z at }
     ensures { result ≡ jobs_formed z (read_run z words.now at) }
 {
-    let n = wide(words[at + RunOffset::JOBS]);
+    let n = words[at + RunOffset::JOBS] as usize;
     is_between(n, Sizes::MAX_JOBS) & each_job(words, z, at + RunOffset::PLAN, n)
 }
 
 // Whether the done mask is one of the run's jobs, and both read masks together just what these
 // read.
+#[tactic(auto, unfolding(sizes::specs::Bounds::run_size))]
 pub fn masks_formed(words: &[u32], z: Counts, at: usize) -> bool
     requires run_area { RunArea (length words.now) z at }
     requires so { So (jobs_formed z (read_run z words.now at)) }
@@ -52,11 +53,12 @@ pub fn masks_formed(words: &[u32], z: Counts, at: usize) -> bool
     let reads = reads_of(words, at + RunOffset::PLAN, n, done);
     let first = words[at + RunOffset::READ];
     let second = words[at + (front + RunOffset::SECOND_READ)];
-    is_below(done, wide(n)) & ((first | second) == reads)
+    is_below(done, n as usize) & ((first | second) == reads)
 }
 
 // Whether of a branch, by the indices of its read mask and snapshot, the snapshot is in form,
 // holds only keys of the plan, and each key that was read.
+#[tactic(auto, unfolding(sizes::specs::Bounds::run_size))]
 pub fn snapshot_formed(words: &[u32], z: Counts, at: usize, read: usize, card: usize) -> bool
     requires run_area { RunArea (length words.now) z at × Area (length words.now) z card }
     requires so { So (jobs_formed z (read_run z words.now at)) }
@@ -94,6 +96,7 @@ pub fn is_vacant(words: &[u32], z: Counts, read: usize, card: usize) -> bool
 }
 
 // Whether the mark is 0, 1 or 2, and the second branch in form: zero unless the run is forked.
+#[tactic(auto, unfolding(sizes::specs::Bounds::run_size))]
 pub fn second_formed(words: &[u32], z: Counts, at: usize) -> bool
     requires run_area { RunArea (length words.now) z at }
     requires so { So (jobs_formed z (read_run z words.now at)) }
@@ -114,6 +117,7 @@ pub fn second_formed(words: &[u32], z: Counts, at: usize) -> bool
 
 // Whether jobs, masks, mark and branches are in form. Jobs are tested first, then the masks; the
 // rest only if these are in form.
+#[tactic(auto, unfolding(sizes::specs::Bounds::run_size))]
 pub fn plan_formed(words: &[u32], z: Counts, at: usize) -> bool
     requires { RunArea (length words.now) z at }
     ensures { result ≡ (jobs_formed z (read_run z words.now at)
@@ -132,6 +136,7 @@ pub fn plan_formed(words: &[u32], z: Counts, at: usize) -> bool
 }
 
 // Whether a free run is all zero.
+#[tactic(auto, unfolding(sizes::specs::Bounds::run_size))]
 pub fn free_formed(words: &[u32], z: Counts, at: usize) -> bool
     requires { RunArea (length words.now) z at }
     ensures { result ≡ free_formed z (read_run z words.now at) }
@@ -147,6 +152,7 @@ pub fn free_formed(words: &[u32], z: Counts, at: usize) -> bool
 }
 
 // Whether the run is in form.
+#[tactic(auto, unfolding(sizes::specs::Bounds::run_size))]
 pub fn run_formed(words: &[u32], z: Counts, at: usize) -> bool
     requires { RunArea (length words.now) z at }
     ensures { result ≡ run_formed z (read_run z words.now at) }

@@ -12,7 +12,6 @@ use masks::{count_items, without};
 use sizes::Counts;
 use version::held_mask;
 use version::mark::stale_mask;
-use words::wide;
 
 // Whether the site at an index holds what it may: an allowance of at most K, no more than that,
 // and no key that its mask lacks.
@@ -30,7 +29,7 @@ fn holding_formed(words: &[u32], z: Counts, site: usize, right: u32) -> bool
     let n = z.keys;
     let count = count_items(kept, n);
     let barred = without(kept, right);
-    (wide(allowance) <= n) & ((count <= allowance) & (barred == 0))
+    (allowance as usize <= n) & ((count <= allowance) & (barred == 0))
 }
 
 // Whether the site at an index is in form: its cache, a mark that is true, and that it holds what

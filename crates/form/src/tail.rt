@@ -7,7 +7,6 @@ ghost use Rattle.form.specs.Parts.{StoreArea};
 
 use crate::job::is_below;
 use sizes::Counts;
-use words::wide;
 
 // Whether none of the n masks at an index has a bit at K or above.
 fn rights_formed(words: &[u32], z: Counts, at: usize, n: usize) -> bool
@@ -15,15 +14,7 @@ fn rights_formed(words: &[u32], z: Counts, at: usize, n: usize) -> bool
     requires n_in_bounds { at + n ≤ length words.now }
     ensures { result ≡ rights_formed z n (read_masks n words.now at) }
 {
-    let keys = z.keys;
-    let mut i = 0;
-    while i < n {
-        if !is_below(words[at + i], keys) {
-            return false;
-        }
-        i += 1;
-    }
-    true
+    (0..n).all(|i| is_below(words[at + i], z.keys))
 }
 
 // Whether the round is below the number of runs, and the masks are of K keys.
@@ -34,6 +25,6 @@ pub fn tail_formed(words: &[u32], z: Counts) -> bool
     let at = z.round_at();
     let hold = at + 1;
     let save = hold + z.sites;
-    (wide(words[at]) < z.runs)
+    ((words[at] as usize) < z.runs)
         & (rights_formed(words, z, hold, z.sites) & rights_formed(words, z, save, z.writers))
 }

@@ -71,6 +71,7 @@ fn run<W: Write>(
 {
     let output = Output::none();
     let mut listed = Listed { lines: 0, output };
+    // No index is counted here: a turn lists as many lines as there is room for.
     while listed.lines < Listing::LINES {
         listed = turn(listed, store, digits, words, answer, out, to);
         let failed = listed.output.failed();

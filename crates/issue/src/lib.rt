@@ -9,6 +9,7 @@ ghost use Rattle.std.proofs.Math.Bool.{So};
 ghost use Rattle.words.specs.Tests.{all_below};
 ghost use Rattle.masks.specs.Mask.{test_bit};
 ghost use Rattle.answers.specs.Answers.{answered_words};
+ghost use Rattle.answers.specs.Refusals.{cause_number};
 ghost use Rattle.sizes.specs.Bounds.{Ranged};
 ghost use Rattle.sizes.specs.Runs.{max_jobs};
 ghost use Rattle.model.specs.Tail.{barred};
@@ -22,7 +23,7 @@ ghost use Rattle.layout.specs.Calls.{on, call_on, leaves};
 ghost use Rattle.form.specs.Parts.{FormWith};
 ghost use Rattle.issue.specs.Saves.{Savable};
 
-use answers::Answered;
+use answers::refusal::Refusal;
 use clock::count::count_at;
 use form::header::counts;
 use form::job::is_below;
@@ -32,12 +33,12 @@ use numbers::{IssueNumber, Tally, last_issue, raised, set_last_issue};
 use past::{merge_saved, save_writer};
 use sizes::Counts;
 use sizes::run::RunOffset;
-use states::{FORKED_MARK, ISSUE_ROW};
+use states::{FORKED_MARK, Row};
 use status::{clear_run, run_cause};
 
 // A writer saves the keys of a mask from a run whose jobs are all done, and the run is freed, in a
 // buffer that is in form. Answers the issue number, 0 where no key is saved.
-pub fn issue(words: &mut [u32], run: u32, writer: u32, mask: u32) -> Answered
+pub fn issue(words: &mut [u32], run: u32, writer: u32, mask: u32) -> Result<u32, Refusal>
     requires { So (in_form words.old) }
     ensures answers { answered_words result
         ≡ answer (call_on (on (issue run writer mask)) words.old) }
@@ -48,43 +49,37 @@ pub fn issue(words: &mut [u32], run: u32, writer: u32, mask: u32) -> Answered
     let z = counts(words);
     let r = run as usize;
     let w = writer as usize;
-    let cause = issue_cause(words, z, r, w, mask);
-    if cause != 0 {
-        return Answered::Refused(cause);
-    }
+    issue_cause(words, z, r, w, mask)?;
     let number = save(words, z, r, w, mask);
     let freed = z.run_at(r);
     clear_run(words, z, freed);
-    let answer = number.word();
-    Answered::Done(answer)
+    let answer = u32::from(number);
+    Ok(answer)
 }
 
-// The first cause for which an issue is refused, or 0.
-fn issue_cause(words: &[u32], z: Counts, r: usize, w: usize, mask: u32) -> u32
+// Why an issue is refused.
+fn issue_cause(words: &[u32], z: Counts, r: usize, w: usize, mask: u32) -> Result<(), Refusal>
     requires { FormWith words.now z }
-    ensures { result ≡ issue_cause (store_of words.now) r w mask }
+    ensures { cause_number result ≡ issue_cause (store_of words.now) r w mask }
 {
     if out_of_range(z, r, w, mask) {
-        return 3;
+        return Err(Refusal::OutOfRange);
     }
-    let no = run_cause(words, z, ISSUE_ROW, r);
-    if no != 0 {
-        return no;
-    }
+    run_cause(words, z, Row::Issue, r)?;
     let forked = is_forked(words, z, r);
     let done = jobs_done(words, z, r);
     let barred = is_barred(words, z, w, mask);
     if forked {
-        return 14;
+        return Err(Refusal::WrongLine);
     }
     if !done {
-        return 6;
+        return Err(Refusal::WrongTurn);
     }
     if barred {
-        return 13;
+        return Err(Refusal::NoRight);
     }
     if mask == 0 {
-        return 0;
+        return Ok(());
     }
     raise_cause(words, z, w)
 }
@@ -124,14 +119,7 @@ fn has_all(mask: u32, n: u32) -> bool
     requires { n ≤ max_jobs }
     ensures { result ≡ all_below n (test_bit mask) }
 {
-    let mut j: u32 = 0;
-    while j < n {
-        if !has(mask, j) {
-            return false;
-        }
-        j += 1;
-    }
-    true
+    (0..n).all(|j| has(mask, j))
 }
 
 // Whether a key of the mask is one that writer w may not save. An empty mask needs no right.
@@ -158,21 +146,20 @@ fn numbers_of(words: &[u32], z: Counts, w: usize) -> Tally
     Tally { issue, count }
 }
 
-// The first cause for which no key can be saved: the last issue number, or the count of writer w,
-// can't be raised. 0: none.
-fn raise_cause(words: &[u32], z: Counts, w: usize) -> u32
+// Why no key can be saved: the last issue number, or the count of writer w, can't be raised.
+fn raise_cause(words: &[u32], z: Counts, w: usize) -> Result<(), Refusal>
     requires form_with { FormWith words.now z }
     requires w_lt_writers { w < z.writers }
-    ensures { result ≡ raise_cause (store_of words.now) w }
+    ensures { cause_number result ≡ raise_cause (store_of words.now) w }
 {
     let old = numbers_of(words, z, w);
     if old.issue.is_last() {
-        return 9;
+        return Err(Refusal::IssuesSpent);
     }
     if old.count.is_full() {
-        return 10;
+        return Err(Refusal::WriterSpent);
     }
-    0
+    Ok(())
 }
 
 // Saves the keys of the mask, if there are any, and answers the issue number.

@@ -14,11 +14,8 @@ pub fn mark_sites(words: &mut [u32], z: Counts, master: usize)
     ensures { words.new
         ≡ fold_below z.sites (mark_at z master) words.old }
 {
-    let n = z.sites;
-    let mut o = 0;
-    while o < n {
+    for o in 0..z.sites {
         let site = z.site_at(o);
         mark_site(words, z, master, site);
-        o += 1;
     }
 }

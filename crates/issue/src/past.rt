@@ -39,11 +39,8 @@ fn take_in(words: &mut [u32], z: Counts, at: usize, place: usize, read: u32)
         (taken_in z.keys read (read_place z words.old place)
         (read_writer z words.old at).past)) }
 {
-    let n = z.keys;
-    let mut k = 0;
-    while k < n {
+    for k in 0..z.keys {
         take_if(words, z, at, place, read, k);
-        k += 1;
     }
 }
 
@@ -68,11 +65,8 @@ fn set_rows(words: &mut [u32], z: Counts, at: usize, w: usize, mask: u32, new: W
         (with_past (read_writer z words.old at)
         (rows_set mask w new.0 (read_writer z words.old at).past)) }
 {
-    let n = z.keys;
-    let mut k = 0;
-    while k < n {
+    for k in 0..z.keys {
         set_if(words, z, at, w, mask, new, k);
-        k += 1;
     }
 }
 
@@ -146,10 +140,7 @@ pub fn merge_saved(
         (read_place z words.old place)) }
 {
     let leaders: u32 = 1 << w;
-    let n = z.keys;
-    let mut k = 0;
-    while k < n {
+    for k in 0..z.keys {
         merge_if(words, z, place, at, mask, number, leaders, k);
-        k += 1;
     }
 }

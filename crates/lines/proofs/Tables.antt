@@ -1,22 +1,24 @@
 -- The code's table of commands and the forms of the grammar.
--- row-agrees: a row of a table that agrees. found, passed, ended: a word sought in it.
+-- row-agrees: a row of a table that agrees. sought: a word sought in it.
 -- counted, uncounted: the counts of numbers; in_table, some_number: what a right one tells.
 -- Assumes nothing.
-use mathlib.Core.Path.{◌≡◌, refl, sym}
-use mathlib.Core.Bool.{true, false, So, ◌&&◌}
+use mathlib.Core.Path.{◌≡◌, refl, sym, ◌∙◌}
+use mathlib.Core.Bool.{Bool, true, false, So, not, ◌&&◌}
 use mathlib.Core.List.{List, [], ◌∷◌}
 use mathlib.Core.Option.{Option, none, some}
-use Prim.Native.Nat.{ℕ, zero, suc, ◌+◌, ◌-◌, ◌<◌, ◌≤◌}
-use native.Mathlib.Numerals.{add-one}
+use Prim.Native.Nat.{ℕ, zero, suc, ◌-◌, ◌<◌, ◌≤◌}
 use native.Mathlib.Omega.{arith}
 use native.Mathlib.Decide.{dec_lt}
 use lib.Dec.{eqb, leb}
 use lib.ListN.{length, get_or, take, drop}
 use lib.Seq.{take-nil}
+use borrow.Author.Tests.{lt-ltb, le-ltb}
 use Rattle.words.proofs.Bools.{clash, and_left, and_right, leb-le, eqb-eq}
 use Rattle.words.proofs.Tests.{all-at}
 use Rattle.text.specs.Bytes.{same_bytes}
-use Rattle.text.specs.Fields.{first_of}
+use Rattle.std.specs.Prelude.{MatchOption}
+use Rattle.std.specs.List.{position, position_or_len}
+use Rattle.std.proofs.lemmas.List.Sums.{prefix_len-le-length, fails_before_first, passes_at_first}
 use Rattle.lines.specs.declared.table.Row.{Row}
 use Rattle.lines.specs.Grammar.{Form, forms, max_line, form_of, form_at, takes}
 use Rattle.lines.specs.Rows.{is_row, no_row, agree}
@@ -33,14 +35,14 @@ same_bytes_lem (x ∷ xs) (y ∷ ys) e =
     let t = same_bytes_lem xs ys (and_right (eqb x y) (same_bytes xs ys) e) in rw (h, t)
 
 record RowOf (f : Form) (r : Row) : Type 0 where
-  word : first_of r.word ≡ f.word
+  word : r.word.now ≡ f.word
   least : r.least ≡ f.least
   most : r.most ≡ f.most
 
 row_of : (f : Form) (r : Row) → So (is_row (some f) r) → RowOf f r
 unfolding is_row
 row_of f r a =
-    let w = same_bytes (first_of r.word) f.word in
+    let w = same_bytes r.word.now f.word in
     let m = eqb r.least f.least in
     let n = eqb r.most f.most in
     let b = and_right w (m && n) a in record {
@@ -59,31 +61,51 @@ row-agrees rs i a h =
 
 module _ (w : List ℕ) (r : Row) where
   found_in : (fs : List Form) (i : ℕ) → So (is_row (form_at fs i) r)
-      → So (same_bytes w (first_of r.word)) → form_at fs i ≡ form_of (drop i fs) w
+      → So (same_bytes w r.word.now) → form_at fs i ≡ form_of (drop i fs) w
   unfolding is_row form_at form_of
   found_in [] i a e = clash a refl
   found_in (f ∷ fs) zero a e = let g = rw (row_of f r a).word at e in rw g
   found_in (f ∷ fs) (suc i) a e = found_in fs i a e
 
   passed_in : (fs : List Form) (i : ℕ) → So (is_row (form_at fs i) r)
-      → same_bytes w (first_of r.word) ≡ false → form_of (drop (suc i) fs) w ≡ form_of (drop i fs)
+      → same_bytes w r.word.now ≡ false → form_of (drop (suc i) fs) w ≡ form_of (drop i fs)
       w
   unfolding is_row form_at form_of
   passed_in [] i a e = clash a refl
   passed_in (f ∷ fs) zero a e = let g = rw (row_of f r a).word at e in rw g
   passed_in (f ∷ fs) (suc i) a e = passed_in fs i a e
 
-  module _ (i : ℕ) (a : So (is_row (form_at forms i) r)) where
-    pub found : So (same_bytes w (first_of r.word)) → form_at forms i ≡ form_of (drop i forms) w
-    found e = found_in forms i a e
+-- A word sought in a table that agrees: the forms before its place have other words.
+module _ (w : List ℕ) (rs : List Row) (a : So (agree rs)) where
+  unfoldable pub named : Row → Bool
+  named r = same_bytes w r.word.now
 
-    pub passed : same_bytes w (first_of r.word) ≡ false
-        → form_of (drop (i + 1) forms) w ≡ form_of (drop i forms) w
-    passed e = rw add-one (passed_in forms i a e)
+  skipped : (k : ℕ) → k ≤ position_or_len named rs → k ≤ length forms
+      → form_of (drop k forms) w ≡ form_of forms w
+  unfolding named
+  skipped zero h g = refl
+  skipped (suc k) h g =
+      let e = fails_before_first named rs k no_row (omega arith) in
+      passed_in w (get_or rs k no_row) forms k (row-agrees rs k a (omega arith)) e
+      ∙ skipped k (omega arith) (omega arith)
 
-pub ended : (w : List ℕ) (i : ℕ) → i ≡ length forms → form_at forms i ≡ form_of (drop i forms) w
-unfolding form_at form_of
-ended w i e = rw e
+  pub sought : length rs ≡ length forms
+      → MatchOption (position named rs) (form_of forms w ≡ none)
+      (λ i. form_at forms i ≡ form_of forms w)
+  unfolding named form_of
+  sought e =
+      let n = position_or_len named rs in
+      let l = prefix_len-le-length (λ r. not (named r)) rs in
+      elim (dec_lt n (length rs)) [
+        | yes h ↦
+            let r = row-agrees rs n a (omega arith) in
+            let f = passes_at_first named rs no_row h in
+            rw (lt-ltb n (length rs) h)
+            (found_in w _ forms n r f ∙ skipped n (omega arith) (omega arith))
+        | no h ↦
+            rw (le-ltb n (length rs) (omega arith))
+            (sym (skipped (length forms) (omega arith) (omega arith)))
+      ]
 
 -- ---- counts of numbers
 

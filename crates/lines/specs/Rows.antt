@@ -5,20 +5,19 @@ use Rattle.std.specs.Prelude.{Bool, false, ◌&&◌, List, [], eqb, length, get_
 use Rattle.std.proofs.Math.Option.{Option, none, some}
 use Rattle.words.specs.Tests.{all_below}
 use Rattle.text.specs.Bytes.{same_bytes}
-use Rattle.text.specs.Fields.{first_of}
 use Rattle.lines.specs.declared.table.Row.{Row}
 use Rattle.lines.specs.Grammar.{Form, forms, form_at}
 
--- It has the form's word, before the first space, and its counts of numbers.
+-- It has the form's word, and its counts of numbers.
 unfoldable pub is_row : Option Form → Row → Bool
 is_row none r = false
 is_row (some f) r =
-    same_bytes (first_of r.word) f.word
+    same_bytes r.word.now f.word
     && (eqb r.least f.least && eqb r.most f.most)
 
 -- A row that stands for none.
 abbrev pub no_row : Row
-no_row = record { word = []; least = 0; most = 0 }
+no_row = record { word = record { ref_ptr = (0, 0); now = [] }; least = 0; most = 0 }
 
 -- A command's number is its row's and its form's.
 unfoldable pub agree : List Row → Bool

@@ -11,7 +11,6 @@ ghost use Rattle.lines.specs.Grammar.{max_line, forms, form_at, takes, calling, 
 
 use command::Command;
 use table::{command_number, has_count};
-use text::Count;
 
 // How long a line may be.
 #[derive(Clone, Copy)]
@@ -63,7 +62,8 @@ fn later_command(number: usize, numbers: &[u32], n: usize) -> Command
     }
 }
 
-// A command with the first n of the numbers, of which it takes so many.
+// A command with the first n of the numbers, of which it takes so many. The command's number is
+// its row in the table: an enum of the words would say Command's variants once more.
 fn command_of(number: usize, numbers: &[u32], n: usize) -> Command
     requires so { So (takes (form_at forms number) n) }
     requires n_in_bounds { n ≤ length numbers.now }
@@ -113,12 +113,13 @@ pub fn read_line(line: &[u8], numbers: &mut [u32]) -> Command
         return Command::Unread;
     }
     let w = text::first_field(line);
-    let number = command_number(&line[0..w]);
+    let Some(number) = command_number(&line[0..w]) else {
+        return Command::Unread;
+    };
     if w == line.len() {
         return command_with(number, numbers, 0);
     }
-    let count = text::numbers(line, w + 1, numbers);
-    let Count::Of(n) = count else {
+    let Some(n) = text::numbers(line, w + 1, numbers) else {
         return Command::Unread;
     };
     command_with(number, numbers, n)

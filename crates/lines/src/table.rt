@@ -1,15 +1,16 @@
 // The table of commands: their words, and how many numbers may stand after each.
-ghost use Rattle.std.specs.Prelude.{◌≡◌, ◌<◌, length};
+ghost use Rattle.std.specs.Prelude.{◌≡◌, ◌<◌, length, MatchOption};
 ghost use Rattle.std.proofs.Math.Bool.{So};
+ghost use Rattle.std.proofs.Math.Option.{none};
 ghost use Rattle.lines.specs.Grammar.{forms, form_of, form_at, takes};
 ghost use Rattle.lines.specs.Rows.{is_row, agree};
 
 use crate::Longest;
 
-// A command's word, spaces behind it, and the least and the most numbers after it.
+// A command's word, and the least and the most numbers after it.
 #[derive(Clone, Copy)]
 struct Row {
-    word: [u8; 8],
+    word: &'static [u8],
     least: usize,
     most: usize,
 }
@@ -20,102 +21,102 @@ const COMMANDS: usize = 20;
 // The commands: a command's number is its row's. Document 01's nine, then the later ones.
 const ROWS: [Row; COMMANDS] = [
     Row {
-        word: *b"new     ",
+        word: b"new",
         least: 4,
         most: 4,
     },
     Row {
-        word: *b"open    ",
+        word: b"open",
         least: 1,
         most: Longest::LINE,
     },
     Row {
-        word: *b"fetch   ",
+        word: b"fetch",
         least: 2,
         most: 2,
     },
     Row {
-        word: *b"evict   ",
+        word: b"evict",
         least: 2,
         most: 2,
     },
     Row {
-        word: *b"prepare ",
+        word: b"prepare",
         least: 1,
         most: 1,
     },
     Row {
-        word: *b"step    ",
+        word: b"step",
         least: 2,
         most: 3,
     },
     Row {
-        word: *b"issue   ",
+        word: b"issue",
         least: 3,
         most: 3,
     },
     Row {
-        word: *b"drop    ",
+        word: b"drop",
         least: 1,
         most: 1,
     },
     Row {
-        word: *b"look    ",
+        word: b"look",
         least: 3,
         most: 3,
     },
     Row {
-        word: *b"explain ",
+        word: b"explain",
         least: 2,
         most: 3,
     },
     Row {
-        word: *b"stale   ",
+        word: b"stale",
         least: 1,
         most: 1,
     },
     Row {
-        word: *b"admit   ",
+        word: b"admit",
         least: 0,
         most: 0,
     },
     Row {
-        word: *b"allow   ",
+        word: b"allow",
         least: 2,
         most: 2,
     },
     Row {
-        word: *b"pick    ",
+        word: b"pick",
         least: 0,
         most: 0,
     },
     Row {
-        word: *b"mayhold ",
+        word: b"mayhold",
         least: 2,
         most: 2,
     },
     Row {
-        word: *b"maysave ",
+        word: b"maysave",
         least: 2,
         most: 2,
     },
     Row {
-        word: *b"fork    ",
+        word: b"fork",
         least: 1,
         most: 1,
     },
     Row {
-        word: *b"join    ",
+        word: b"join",
         least: 1,
         most: 1,
     },
     Row {
-        word: *b"forecast",
+        word: b"forecast",
         least: 1,
         most: 1,
     },
     Row {
-        word: *b"audit   ",
+        word: b"audit",
         least: 0,
         most: Longest::LINE,
     },
@@ -137,20 +138,13 @@ fn row_at(number: usize) -> Row
     rows[number]
 }
 
-// The number of a command's word; of any other word, how many commands there are.
-pub fn command_number(word: &[u8]) -> usize
-    ensures { form_at forms result ≡ form_of forms word.now }
+// The number of a command's word.
+pub fn command_number(word: &[u8]) -> Option<usize>
+    ensures { MatchOption result (form_of forms word.now ≡ none)
+        (λ i. form_at forms i ≡ form_of forms word.now) }
 {
     let rows = rows();
-    let mut i = 0;
-    while i < COMMANDS {
-        let row = rows[i];
-        if text::is_first(word, &row.word) {
-            return i;
-        }
-        i += 1;
-    }
-    i
+    rows.iter().position(|row| text::is_word(word, row.word))
 }
 
 // Whether n numbers may stand after the word of a command.

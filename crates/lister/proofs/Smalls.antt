@@ -1,17 +1,15 @@
 -- A call by its number, as the code has it: its words and its command.
 -- at-fetch ..: which call a number is. tells-fetch ..: what its words and its command tell.
 -- told_text: its text is that of its words. made-..: what making it comes to.
--- table-kind, no_kind: a kind's word. words-five: five words stored one by one.
 -- Assumes nothing.
 use mathlib.Core.Path.{◌≡◌, refl, sym, ap, subst, ◌∙◌}
 use mathlib.Core.Bool.{So}
-use mathlib.Core.List.{List, [], ◌∷◌, ◌++◌, map, append-nil}
+use mathlib.Core.List.{List, ◌∷◌, ◌++◌}
 use mathlib.Core.Option.{Option}
 use Prim.Native.Nat.{ℕ, ◌-◌, ◌/◌, ◌%◌, ◌≤◌, ◌<◌}
 use native.Mathlib.Omega.{arith}
-use lib.ListN.{length, get_or, take, drop, set, replicate, get_or-map, get_or-eq_default}
+use lib.ListN.{length, get_or, take, drop}
 use Rattle.words.proofs.Bools.{lt-ltb, ge-ltb, ne_eqb}
-use Rattle.text.specs.Fields.{in_first_of, fields_of, first_of}
 use Rattle.answers.specs.Answers.{max_answer}
 use Rattle.answers.proofs.Fronts.{over-front}
 use Rattle.model.specs.Outcome.{Outcome, refused, broken, done, told, answer}
@@ -25,10 +23,9 @@ use Rattle.command.specs.declared.Command.TheVariants.{Open, Fetch, Evict, Step,
 use Rattle.calls.specs.declared.Performed.{Performed}
 use Rattle.calls.specs.Performs.{Does, Made, Performs}
 use Rattle.listing.specs.Calls.{one_job, kind_of, arguments_of}
-use Rattle.listing.specs.Lines.{kind_words, kind_word, call_text}
+use Rattle.listing.specs.Lines.{kind_word, call_text}
 use Rattle.lister.specs.Numbered.{call_at, Tells}
 use Rattle.lister.specs.declared.small.Small.{Small}
-use Rattle.lister.specs.declared.small.Word.{Word}
 
 -- ---- which call a number is
 
@@ -150,22 +147,6 @@ pub told_text : (c : StoreCall) (s : Small) (l : List ℕ) → Tells c s l
 unfolding call_text
 told_text c s l t = rw t.words_are refl
 
--- The code's table: spaces fill what a word leaves of its row.
-abbrev row : List ℕ → Word
-row w = record { bytes = w ++ replicate (8 - length w) 32 }
-
-abbrev rows : List Word
-rows = map row kind_words
-
-pub table-kind : (t : ℕ) → first_of (get_or rows t (record { bytes = [] })).bytes ≡ kind_word t
-unfolding kind_word first_of fields_of in_first_of
-table-kind t =
-    sym (get_or-map (λ (w : Word). first_of w.bytes) rows t (record { bytes = [] }))
-
-pub no_kind : (m : List ℕ) (t : ℕ) → length kind_words ≤ t → m ≡ m ++ kind_word t
-unfolding kind_word
-no_kind m t h = rw (get_or-eq_default kind_words [] h, append-nil)
-
 -- ---- its answer
 
 answer-some : (x : Outcome) → 0 < length (answer x)
@@ -200,14 +181,3 @@ module _ (c : StoreCall) (s : Small) (ws l m a b : List ℕ) (p : Performed) (t 
 
   pub made-form : So (in_form l) → So (in_form m)
   made-form h = rw made.changes (form-kept c l h)
-
--- ---- five words
-
-pub words-five : (l : List ℕ) (k a b c d : ℕ) → 5 ≤ length l
-    → set (set (set (set (set l 0 k) 1 a) 2 b) 3 c) 4 d ≡ k ∷ a ∷ b ∷ c ∷ d ∷ drop 5 l
-words-five [] k a b c d h = absurd (omega arith)
-words-five (x ∷ []) k a b c d h = absurd (omega arith)
-words-five (x ∷ y ∷ []) k a b c d h = absurd (omega arith)
-words-five (x ∷ y ∷ z ∷ []) k a b c d h = absurd (omega arith)
-words-five (x ∷ y ∷ z ∷ u ∷ []) k a b c d h = absurd (omega arith)
-words-five (x ∷ y ∷ z ∷ u ∷ v ∷ l) k a b c d h = refl

@@ -59,7 +59,8 @@ impl Listing {
     {}
 }
 
-// The calls of a line's script by their numbers, to the front of digits; how many they are.
+// The calls of a line's script by their numbers, to the front of digits; how many they are stands
+// beside them: no heap.
 fn digits_of(line: usize, digits: &mut [u32]) -> usize
     requires { (line < line_count) × (longest ≤ length digits.old) }
     ensures result_nonzero { (0 < result) × (result ≤ longest) }
@@ -102,7 +103,7 @@ fn put_script(
     let colon_end = text::put_bytes(out, calls_end, b": ");
     start(store, answer);
     let end = put_replies(out, colon_end, store, digits, words, answer);
-    text::put_byte(out, end, 10)
+    text::put_byte(out, end, b'\n')
 }
 
 // Puts a line of the listing, counted from 0, after the first at bytes of out, and answers how
@@ -124,7 +125,7 @@ pub fn history_line(
     ensures upper_bound { result ≤ at + history_room }
 {
     let n = digits_of(line, digits);
-    put_script(out, at, store, &digits[0..n], words, answer)
+    put_script(out, at, store, &digits[..n], words, answer)
 }
 
 // The lines from one on, to the front of out: as many as there is surely room for.
@@ -145,14 +146,15 @@ pub fn fill(
     ensures end_bound { result.end ≤ history_room * (result.next - line) }
     ensures fact { (line_count ≤ result.next) ⊎ (length out.new < result.end + history_room) }
 {
-    let mut next = line;
     let mut end = 0;
-    while next < Listing::LINES {
+    for next in line..Listing::LINES {
         if out.len() < end + Listing::ROOM {
             return Filled { next, end };
         }
         end = history_line(out, end, next, store, digits, words, answer);
-        next += 1;
     }
-    Filled { next, end }
+    Filled {
+        next: Listing::LINES,
+        end,
+    }
 }

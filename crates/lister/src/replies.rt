@@ -39,13 +39,12 @@ fn put_reply(
         × So (in_form store.new) }
 {
     let small = small_at(i, words);
-    let command = small.command;
-    let made = calls::perform(store, true, command, words, reply);
-    let count = made.count;
-    print::put_answer(out, at, &reply[0..count])
+    let made = calls::perform(store, true, small.command, words, reply);
+    print::put_answer(out, at, &reply[..made.count])
 }
 
-// Makes the calls of a script, and puts their answers, joined.
+// Makes the calls of a script, and puts their answers, joined. One function over a closure for
+// this and `put_calls` is no plainer: its contract would have to take the desk from call to call.
 pub fn put_replies(
     out: &mut [u8],
     at: usize,
@@ -65,11 +64,9 @@ pub fn put_replies(
         (outcomes (map on (map call_at digits.now)) store.old)))) }
 {
     let mut end = put_reply(out, at, store, digits[0], words, reply);
-    let mut j = 1;
-    while j < digits.len() {
+    for digit in &digits[1..] {
         let start = put_joint(out, end);
-        end = put_reply(out, start, store, digits[j], words, reply);
-        j += 1;
+        end = put_reply(out, start, store, *digit, words, reply);
     }
     end
 }

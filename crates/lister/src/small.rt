@@ -9,51 +9,19 @@ ghost use Rattle.lister.specs.Numbered.{call_at, words_room, call_room, next_roo
 use command::Command;
 
 // A call. count: how many words it has, its kind and its numbers. command: what asks for it, with
-// these words lent beside it.
+// these words lent beside it: no heap.
 #[derive(Clone, Copy)]
 pub struct Small {
     pub count: usize,
     pub command: Command,
 }
 
-// A word of up to 8 bytes, spaces behind it.
-#[derive(Clone, Copy)]
-struct Word {
-    bytes: [u8; 8],
-}
-
-// The words of the kinds, from 0 on.
-const WORDS: [Word; 6] = [
-    Word {
-        bytes: *b"fetch   ",
-    },
-    Word {
-        bytes: *b"evict   ",
-    },
-    Word {
-        bytes: *b"open    ",
-    },
-    Word {
-        bytes: *b"step    ",
-    },
-    Word {
-        bytes: *b"issue   ",
-    },
-    Word {
-        bytes: *b"drop    ",
-    },
-];
-
-// A kind and up to four numbers.
-fn lay(words: &mut [u32], kind: u32, a: u32, b: u32, c: u32, d: u32)
+// A call's words.
+fn lay(words: &mut [u32], call: [u32; 5])
     requires { words_room ≤ length words.old }
-    ensures { words.new ≡ kind ∷ a ∷ b ∷ c ∷ d ∷ drop 5 words.old }
+    ensures { words.new ≡ call ++ drop 5 words.old }
 {
-    words[0] = kind;
-    words[1] = a;
-    words[2] = b;
-    words[3] = c;
-    words[4] = d;
+    words[..5].copy_from_slice(&call);
 }
 
 // Call i, from 0 on.
@@ -61,63 +29,70 @@ pub fn small_at(i: u32, words: &mut [u32]) -> Small
     requires { words_room ≤ length words.old }
     ensures { Tells (call_at i) result words.new }
 {
-    if i < 4 {
-        lay(words, 0, i / 2, i % 2, 0, 0);
-        return Small {
-            count: 3,
-            command: Command::Fetch(i / 2, i % 2),
-        };
-    }
-    if i < 8 {
-        let j = i - 4;
-        lay(words, 1, j / 2, j % 2, 0, 0);
-        return Small {
-            count: 3,
-            command: Command::Evict(j / 2, j % 2),
-        };
-    }
-    if i < 16 {
-        let j = i - 8;
-        lay(words, 2, 0, j / 4, j % 4, 0);
-        return Small {
-            count: 5,
-            command: Command::Open(0, 2, 3),
-        };
-    }
-    if i == 16 {
-        lay(words, 3, 0, 0, 0, 0);
-        return Small {
-            count: 3,
-            command: Command::Step(0, 0, 0),
-        };
-    }
-    if i < 25 {
-        let j = i - 17;
-        lay(words, 4, 0, j / 4, j % 4, 0);
-        return Small {
-            count: 4,
-            command: Command::Issue(0, j / 4, j % 4),
-        };
-    }
-    lay(words, 5, 0, 0, 0, 0);
-    Small {
-        count: 2,
-        command: Command::Drop(0),
+    match i {
+        0..4 => {
+            lay(words, [0, i / 2, i % 2, 0, 0]);
+            Small {
+                count: 3,
+                command: Command::Fetch(i / 2, i % 2),
+            }
+        }
+        4..8 => {
+            let j = i - 4;
+            lay(words, [1, j / 2, j % 2, 0, 0]);
+            Small {
+                count: 3,
+                command: Command::Evict(j / 2, j % 2),
+            }
+        }
+        8..16 => {
+            let j = i - 8;
+            lay(words, [2, 0, j / 4, j % 4, 0]);
+            Small {
+                count: 5,
+                command: Command::Open(0, 2, 3),
+            }
+        }
+        16 => {
+            lay(words, [3, 0, 0, 0, 0]);
+            Small {
+                count: 3,
+                command: Command::Step(0, 0, 0),
+            }
+        }
+        17..25 => {
+            let j = i - 17;
+            lay(words, [4, 0, j / 4, j % 4, 0]);
+            Small {
+                count: 4,
+                command: Command::Issue(0, j / 4, j % 4),
+            }
+        }
+        _ => {
+            lay(words, [5, 0, 0, 0, 0]);
+            Small {
+                count: 2,
+                command: Command::Drop(0),
+            }
+        }
     }
 }
 
-// The word of a kind; nothing for a number that is none.
-fn put_kind(out: &mut [u8], at: usize, kind: u32) -> usize
-    requires { at + 8 ≤ length out.old }
-    ensures { (result ≤ at + 8)
-        × (take result out.new ≡ take at out.old ++ kind_word kind) }
+// The word of a kind; none for a number that is none.
+#[tactic(auto, unfolding(listing::specs::Lines::kind_word))]
+fn word_of(kind: u32) -> &'static [u8]
+    ensures word { result.now ≡ kind_word kind }
+    ensures upper_bound { length result.now ≤ 8 }
 {
-    let row = words::wide(kind);
-    if WORDS.len() <= row {
-        return at;
+    match kind {
+        0 => b"fetch",
+        1 => b"evict",
+        2 => b"open",
+        3 => b"step",
+        4 => b"issue",
+        5 => b"drop",
+        _ => b"",
     }
-    let word = WORDS[row];
-    text::put_first(out, at, &word.bytes)
 }
 
 // The text of a call in words.
@@ -128,7 +103,7 @@ fn put_words(out: &mut [u8], at: usize, words: &[u32]) -> usize
         ≡ take at out.old ++ (kind_word (get_or words.now 0 0)
         ++ numbers_text (drop 1 words.now))) }
 {
-    let word_end = put_kind(out, at, words[0]);
+    let word_end = text::put_bytes(out, at, word_of(words[0]));
     print::put_numbers(out, word_end, words)
 }
 
@@ -140,8 +115,7 @@ fn put_call(out: &mut [u8], at: usize, i: u32, words: &mut [u32]) -> usize
         ≡ take at out.old ++ call_text (call_at i)) }
 {
     let small = small_at(i, words);
-    let count = small.count;
-    put_words(out, at, &words[0..count])
+    put_words(out, at, &words[..small.count])
 }
 
 // What joins two calls, or two answers.
@@ -163,11 +137,9 @@ pub fn put_calls(out: &mut [u8], at: usize, digits: &[u32], words: &mut [u32]) -
         ++ joined (map call_text (map call_at digits.now))) }
 {
     let mut end = put_call(out, at, digits[0], words);
-    let mut j = 1;
-    while j < digits.len() {
+    for digit in &digits[1..] {
         let start = put_joint(out, end);
-        end = put_call(out, start, digits[j], words);
-        j += 1;
+        end = put_call(out, start, *digit, words);
     }
     end
 }

@@ -6,7 +6,7 @@
 use mathlib.Core.Path.{◌≡◌, refl, sym, ap, ◌∙◌}
 use mathlib.Core.Bool.{not, So}
 use mathlib.Core.Logic.{◌≢◌}
-use mathlib.Core.List.{List, [], ◌∷◌, ◌++◌}
+use mathlib.Core.List.{List, [], ◌∷◌}
 use Prim.Native.Nat.{ℕ, ◌<◌, ◌≤◌}
 use native.Mathlib.Omega.{arith}
 use lib.Dec.{eqb, leb}
@@ -33,7 +33,10 @@ use Rattle.version.specs.Places.{Area}
 use Rattle.version.proofs.Areas.{row_in, standing-word}
 use Rattle.form.proofs.Known.{form-area}
 use Rattle.look.specs.declared.Looked.{Looked}
-use Rattle.look.specs.declared.Looked.TheVariants.{Done, Refused}
+use Rattle.std.specs.Prelude.{Result, Ok, Err}
+use Rattle.answers.specs.declared.refusal.Refusal.{Refusal}
+use Rattle.answers.specs.Refusals.{refusal_number}
+use Rattle.answers.proofs.Refusals.{refusal_some}
 use Rattle.look.specs.Places.{place_at, own_row_at}
 use Rattle.look.specs.Answer.{seen, shown, OwnRow, RowIn}
 use Rattle.look.proofs.Places.{place_in, place-area, row-window}
@@ -85,7 +88,7 @@ module _ (l : List ℕ) (p i k : ℕ) where
       }
 
   -- What it says, and which row it has.
-  abbrev pub Says : Looked → Type 0
+  abbrev pub Says : Result Looked Refusal → Type 0
   Says r =
       (shown l r ≡ answer (call_on (on (ask (look p i k))) l)) × OwnRow (counts_in l) p i k r
 
@@ -94,11 +97,13 @@ module _ (l : List ℕ) (p i k : ℕ) where
   unfolding reply_of look_reply
   refused-by F h = ask-refused (look p i k) l F h
 
-  pub look-refused : (n : ℕ) → So (in_form l) → n ≡ look_cause (store_of l) p i k → n ≢ 0
-      → Says (Refused n)
+  pub look-refused : (r : Refusal) → So (in_form l)
+      → refusal_number r ≡ look_cause (store_of l) p i k → Says (Err r)
   unfolding shown answer OwnRow
-  look-refused n F e h =
-      let no : call_on (on (ask (look p i k))) l ≡ refused n = rw e (refused-by F (rw e at h)) in
+  look-refused r F e =
+      let h = refusal_some r in
+      let no : call_on (on (ask (look p i k))) l ≡ refused (refusal_number r) =
+      rw e (refused-by F (rw e at h)) in
       (rw no refl, tt)
 
   -- The standing of the two rows is that of the versions.
@@ -116,16 +121,26 @@ module _ (l : List ℕ) (p i k : ℕ) where
       → (m : ℕ) → m ≡ (read_place z l (place_at z p i) k).leaders
       → (s : Standing) → s ≡ standing z.writers (clock_at l (own_row_at z p i k))
       (clock_at l (row_at z (key_at z (master_at z) k) k))
-      → Says (Done (record { 0 = read_word_of l (key_at z (place_at z p i) k) }) m (own_row_at z p
-      i k)
-      z.writers s)
+      → Says (Ok (record {
+        issue = record { 0 = read_word_of l (key_at z (place_at z p i) k) };
+        leaders = m;
+        row = own_row_at z p i k;
+        counts = z.writers;
+        standing = s;
+      }))
   unfolding look_numbers seen shown answer OwnRow own_row_at read_version
   look-done z d F T m e s q =
       let at = place_at z p i in
       let issue = ap (λ (v : Version). v.issue) (place_at_lem z l at k T.key) in
       let row = row-window z l at k k T.key T.key in
       let number : IssueNumber = record { 0 = read_word_of l (key_at z at k) } in
-      let r = Done number m (own_row_at z p i k) z.writers s in
+      let r : Result Looked Refusal = Ok (record {
+        issue = number;
+        leaders = m;
+        row = own_row_at z p i k;
+        counts = z.writers;
+        standing = s;
+      }) in
       let stands = q ∙ sym (standing-in z d T.number T.key) in
       let says : shown l r ≡ answer (call_on (on (ask (look p i k))) l) =
       rw (T.result, ← stands, place_in l z d p i T.number, counts_in_lem l, ← d)
@@ -134,12 +149,12 @@ module _ (l : List ℕ) (p i k : ℕ) where
       (says, (here, ap (λ (y : Counts). y.writers) d))
 
   -- Such a row lies in the buffer.
-  pub row_lies : (r : Looked) → So (in_form l)
+  pub row_lies : (r : Result Looked Refusal) → So (in_form l)
       → shown l r ≡ answer (call_on (on (ask (look p i k))) l)
       → OwnRow (counts_in l) p i k r → RowIn l r
   unfolding seen shown answer OwnRow RowIn own_row_at
-  row_lies (Refused n) F e o = tt
-  row_lies (Done n m at c s) F e o =
+  row_lies (Err n) F e o = tt
+  row_lies (Ok v) F e o =
       let x = look_cause (store_of l) p i k in
       test (eqb x 0)
       (λ t. let T = found (counts_in l) refl F (eqb-eq x 0 t) in
@@ -147,13 +162,15 @@ module _ (l : List ℕ) (p i k : ℕ) where
       rw (o.0, o.1)
       (row_in (length l) (counts_in l) _ A k k T.key T.key, A.ranged.writers-high))
       (λ t. let no = refused-by F (eqb-ne x 0 t) in
-      let two : 0 ∷ n.0 ∷ m ∷ (window l at c ++ standing_number s ∷ []) ≡ 2 ∷ x ∷ [] = e ∙ rw no in
+      let two : seen l v ≡ 2 ∷ x ∷ [] = e ∙ rw no in
       absurd (omega (arith, ap (λ (t : List ℕ). get_or t 0 0) two)))
 
 -- How many words the answer has.
-pub few-shown : (l : List ℕ) (r : Looked) → RowIn l r → length (shown l r) ≤ max_answer
+pub few-shown : (l : List ℕ) (r : Result Looked Refusal) → RowIn l r
+    → length (shown l r) ≤ max_answer
 unfolding seen shown RowIn
-few-shown l (Looked.Done i m at n s) h =
-    let last : List ℕ = standing_number s ∷ [] in
-    omega (arith, length-append (window l at n) last, length-window l at n, h.1)
-few-shown l (Looked.Refused n) h = omega arith
+few-shown l (Ok v) h =
+    let last : List ℕ = standing_number v.standing ∷ [] in
+    let row = window l v.row v.counts in
+    omega (arith, length-append row last, length-window l v.row v.counts, h.1)
+few-shown l (Err r) h = omega arith

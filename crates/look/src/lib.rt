@@ -7,6 +7,7 @@ mod row;
 ghost use Rattle.std.specs.Prelude.{◌≡◌, ◌≤◌, ◌<◌, length};
 ghost use Rattle.std.proofs.Math.Bool.{So};
 ghost use Rattle.answers.specs.Answers.{answer_room, Lays};
+ghost use Rattle.answers.specs.Refusals.{cause_number};
 ghost use Rattle.sizes.specs.Bounds.{Ranged};
 ghost use Rattle.model.specs.Outcome.{answer};
 ghost use Rattle.model.specs.Calls.Look.{place_kinds, look_limit, look_cause};
@@ -19,23 +20,28 @@ ghost use Rattle.look.specs.Places.{place_at};
 ghost use Rattle.look.specs.Answer.{shown, OwnRow, RowIn};
 
 use answers::put_two;
+use answers::refusal::Refusal;
 use clock::{Standing, compare};
 use form::header::counts;
 use numbers::{IssueNumber, version_issue};
 use row::put_version;
 use sizes::Counts;
 use version::{held, leaders_of, row_of};
-use words::wide;
 
-// The issue number, the mask of leading writers, where the own row's counts begin and how many
-// they are, and the standing; or the number of the cause for which a look is refused.
+// What a look shows of a version: the issue number, the mask of leading writers, where the own
+// row's counts begin and how many they are (the clause `row` of a look speaks of the index), and
+// the standing.
 #[derive(Clone, Copy)]
-pub enum Looked {
-    Done(IssueNumber, u32, usize, usize, Standing),
-    Refused(u32),
+pub struct Looked {
+    pub issue: IssueNumber,
+    pub leaders: u32,
+    pub row: usize,
+    pub counts: usize,
+    pub standing: Standing,
 }
 
-// The kinds of places that a look names.
+// The kinds of places that a look names. They are plain numbers, since the C interface and the
+// model's definitions number them.
 #[derive(Clone, Copy)]
 pub struct PlaceKinds {}
 
@@ -77,42 +83,39 @@ fn place_at(z: Counts, place: u32, i: usize) -> usize
     z.snapshot_on(i, 0)
 }
 
-// The cause for which a look is refused, or 0.
-fn cause(words: &[u32], z: Counts, place: u32, i: usize, k: usize) -> u32
+// Why a look is refused.
+fn cause(words: &[u32], z: Counts, place: u32, i: usize, k: usize) -> Result<(), Refusal>
     requires { FormWith words.now z }
-    ensures { result ≡ look_cause (store_of words.now) place i k }
+    ensures { cause_number result ≡ look_cause (store_of words.now) place i k }
 {
     if PlaceKinds::COUNT <= place {
-        return 3;
+        return Err(Refusal::OutOfRange);
     }
     if limit(z, place) <= i {
-        return 3;
+        return Err(Refusal::OutOfRange);
     }
     if z.keys <= k {
-        return 3;
+        return Err(Refusal::OutOfRange);
     }
     let at = place_at(z, place, i);
     if !held(words, z, at, k) {
-        return 8;
+        return Err(Refusal::NotHeld);
     }
-    0
+    Ok(())
 }
 
 // The version of a key in place 0 (the master), 1 (the cache of site `number`) or 2 (the
 // snapshot of run `number`), in a buffer that is in form.
-pub fn look(words: &[u32], place: u32, number: u32, key: u32) -> Looked
+pub fn look(words: &[u32], place: u32, number: u32, key: u32) -> Result<Looked, Refusal>
     requires { So (in_form words.now) }
     ensures answers { shown words.now result
         ≡ answer (call_on (on (ask (look place number key))) words.now) }
     ensures row { OwnRow (counts_in words.now) place number key result }
 {
     let z = counts(words);
-    let i = wide(number);
-    let k = wide(key);
-    let no = cause(words, z, place, i, k);
-    if no != 0 {
-        return Looked::Refused(no);
-    }
+    let i = number as usize;
+    let k = key as usize;
+    cause(words, z, place, i, k)?;
     let at = place_at(z, place, i);
     let version = z.key_at(at, k);
     let issue = version_issue(words, version);
@@ -120,20 +123,25 @@ pub fn look(words: &[u32], place: u32, number: u32, key: u32) -> Looked
     let row = row_of(z, at, k, k);
     let own = row_of(z, z.areas().master, k, k);
     let standing = compare(words, row, words, own, z.writers);
-    Looked::Done(issue, leaders, row, z.writers, standing)
+    Ok(Looked {
+        issue,
+        leaders,
+        row,
+        counts: z.writers,
+        standing,
+    })
 }
 
 // The words of a look at this buffer, laid over an answer slice.
-pub fn put_looked(answer: &mut [u32], store: &[u32], r: Looked) -> usize
+#[tactic(auto, unfolding(crate::specs::Answer::shown, crate::specs::Answer::RowIn))]
+pub fn put_looked(answer: &mut [u32], store: &[u32], r: Result<Looked, Refusal>) -> usize
     requires answer_room_in_bounds { answer_room ≤ length answer.old }
     requires row_in { RowIn store.now r }
     ensures { Lays (shown store.now r)
         answer.old answer.new result }
 {
     match r {
-        Looked::Done(issue, leaders, at, n, s) => {
-            put_version(answer, store, issue, leaders, at, n, s)
-        }
-        Looked::Refused(no) => put_two(answer, 2, no),
+        Ok(looked) => put_version(answer, store, looked),
+        Err(refusal) => put_two(answer, 2, u32::from(refusal)),
     }
 }

@@ -1,9 +1,9 @@
 // Masks of items below 32: bit k stands for item k.
 #![tactic(auto)]
 
-ghost use Rattle.std.specs.Prelude.{◌≡◌, ◌≤◌, ◌<◌};
+ghost use Rattle.std.specs.Prelude.{◌≡◌, ◌≤◌, ◌<◌, ℕ, Bool};
 ghost use Rattle.words.specs.Numbers.{when, count_below};
-ghost use Rattle.masks.specs.Mask.{test_bit, with_bit, with_if, without};
+ghost use Rattle.masks.specs.Mask.{test_bit, with_bit, with_if, without, mask_below};
 
 // Whether item k is in the mask.
 pub fn has(mask: u32, k: u32) -> bool
@@ -48,11 +48,23 @@ pub fn count_items(mask: u32, n: usize) -> u32
     requires { n ≤ 32 }
     ensures { result ≡ count_below n (test_bit mask) }
 {
-    let mut count: u32 = 0;
-    let mut k: usize = 0;
-    while k < n {
-        count += mask_if(has(mask, k as u32), 1);
-        k += 1;
+    let mut count = 0;
+    for k in 0..n as u32 {
+        count += mask_if(has(mask, k), 1);
     }
     count
+}
+
+// The items below n that pass a test, as a mask.
+pub fn mask_of<F: Fn(u32) -> bool>(n: usize, test: F) -> u32
+    requires n_le { n ≤ 32 }
+    requires callable { (k : ℕ) → k < n → F.pre test k }
+    ensures { (f : ℕ → Bool) → ((k : ℕ) (b : Bool) → k < n → F.post test k b → b ≡ f k)
+        → result ≡ mask_below n f }
+{
+    let mut mask = 0;
+    for k in 0..n as u32 {
+        mask = with_if(test(k), mask, k);
+    }
+    mask
 }

@@ -2,17 +2,16 @@
 // takes one out of a word or puts one into it.
 #![tactic(auto)]
 
-ghost use Rattle.std.specs.Prelude.{◌≡◌, ◌≤◌, ◌<◌, max, eqb, leb, ltb, length, get_or, set};
+ghost use Rattle.std.specs.Prelude.{◌≡◌, ◌≤◌, ◌<◌, eqb, leb, length, get_or, set};
 ghost use Rattle.clock.specs.Count.{max_word};
 ghost use Rattle.sizes.specs.Bounds.{header_size, last_offset};
 ghost use Rattle.numbers.specs.Rising.{issue_after, risen};
 
 use clock::count::{MAX, WriterCount};
 use sizes::header::HeaderOffset;
-use words::larger;
 
-// The number of an issue; 0 where nothing is held.
-#[derive(Clone, Copy)]
+// The number of an issue; 0 where nothing is held. (No Option: the interface for C hands out 0.)
+#[derive(Clone, Copy, PartialEq, Eq, PartialOrd, Ord)]
 pub struct IssueNumber(u32);
 
 // What an issue raises: the last issue number and its writer's count.
@@ -20,6 +19,15 @@ pub struct IssueNumber(u32);
 pub struct Tally {
     pub issue: IssueNumber,
     pub count: WriterCount,
+}
+
+// The number in an answer.
+impl From<IssueNumber> for u32 {
+    ghost from_gives = { λ i n. n ≡ i.0 };
+
+    fn from(number: IssueNumber) -> u32 {
+        number.0
+    }
 }
 
 impl IssueNumber {
@@ -30,32 +38,11 @@ impl IssueNumber {
         IssueNumber(0)
     }
 
-    // The number in an answer.
-    pub fn word(self) -> u32
-        ensures { result ≡ self.0 }
-    {
-        self.0
-    }
-
     // Whether a version with this number is held.
     pub fn is_held(self) -> bool
         ensures { result ≡ leb 1 self.0 }
     {
         1 <= self.0
-    }
-
-    // Whether it is larger than another.
-    pub fn exceeds(self, other: IssueNumber) -> bool
-        ensures { result ≡ ltb other.0 self.0 }
-    {
-        other.0 < self.0
-    }
-
-    // The larger of two.
-    pub fn later(self, other: IssueNumber) -> IssueNumber
-        ensures { result.0 ≡ max self.0 other.0 }
-    {
-        IssueNumber(larger(self.0, other.0))
     }
 
     // Whether no issue can follow.
@@ -80,11 +67,9 @@ pub fn raised(issue: IssueNumber, count: WriterCount) -> Tally
     requires count_lt_max_word { count.0 < max_word }
     ensures { result ≡ risen issue count }
 {
-    let number = issue.next();
-    let made = count.next();
     Tally {
-        issue: number,
-        count: made,
+        issue: issue.next(),
+        count: count.next(),
     }
 }
 

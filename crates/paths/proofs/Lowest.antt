@@ -1,6 +1,6 @@
 -- Laws of the lowest number that passes.
 -- Assumes nothing.
-use mathlib.Core.Path.{◌≡◌, refl, ap, ◌∙◌}
+use mathlib.Core.Path.{◌≡◌, refl, sym, ap, ◌∙◌}
 use mathlib.Core.Bool.{false, So}
 use mathlib.Core.Logic.{inl, inr}
 use Prim.Native.Nat.{ℕ, zero, suc, ◌≤◌, ◌<◌}
@@ -10,6 +10,9 @@ use lib.Dec.{ltb}
 use Rattle.words.specs.Tests.{Items, any_below}
 use Rattle.words.proofs.Bools.{test, clash, same_test, lt-ltb, ltb-lt}
 use Rattle.words.proofs.Tests.{below_or_not, any-intro, any_some}
+use Rattle.std.proofs.Common.{Option, None, Some}
+use Rattle.std.specs.Option.{MatchOption, unwrap_or}
+use Rattle.words.proofs.Ranges.{Found}
 use Rattle.paths.specs.Path.{lowest}
 
 -- Where some number passes, it is at most that one,
@@ -71,6 +74,16 @@ lowest-none zero p none = refl
 lowest-none (suc n) p none =
     rw (none 0 (omega arith)) (ap (λ (i : ℕ). suc i)
     (lowest-none n (λ j. p (suc j)) (λ i l. none (suc i) (omega arith))))
+
+-- By what `find` says.
+pub lowest-found : (n : ℕ) (p : Items) (r : Option ℕ) → Found n p r → unwrap_or r n ≡ lowest n p
+lowest-found n p None h = sym (lowest-none n p h)
+lowest-found n p (Some k) h = sym (lowest-is n p k h.0 h.1 h.2)
+
+pub lowest-option : (n : ℕ) (p : Items) (r : Option ℕ) → Found n p r
+    → MatchOption r (lowest n p ≡ n) (λ m. (m < n) × (m ≡ lowest n p))
+lowest-option n p None h = lowest-none n p h
+lowest-option n p (Some k) h = (h.0, sym (lowest-is n p k h.0 h.1 h.2))
 
 pub lowest-same : (n : ℕ) (p q : Items) → ((i : ℕ) → i < n → p i ≡ q i) → lowest n p ≡ lowest n q
 unfolding lowest

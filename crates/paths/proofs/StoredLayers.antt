@@ -5,7 +5,6 @@
 use mathlib.Core.Path.{◌≡◌, sym, ap, ◌∙◌}
 use mathlib.Core.Bool.{not, ◌&&◌, So}
 use mathlib.Core.List.{List, []}
-use mathlib.Core.Logic.{◌≢◌}
 use Prim.Native.Nat.{ℕ, ◌≤◌, ◌<◌, ◌^◌}
 use native.Mathlib.Omega.{arith}
 use native.Mathlib.Nat.{zero-add}
@@ -20,8 +19,8 @@ use Rattle.words.proofs.Words.{put_in, length-put}
 use Rattle.masks.specs.Mask.{test_bit}
 use Rattle.masks.proofs.Sets.{test-mask}
 use Rattle.paths.specs.Path.{lowest, near, meets, distance, path_by, shortest_path}
-use Rattle.paths.specs.Rows.{leads_by, RowsOf, layer, LayersOf, no_items_of}
-use Rattle.paths.proofs.Lowest.{lowest-top, lowest-same, lowest-passes}
+use Rattle.paths.specs.Rows.{leads_by, RowsOf, layer, LayersOf, meeting, no_items_of}
+use Rattle.paths.proofs.Lowest.{lowest-same, lowest-passes}
 use Rattle.paths.proofs.Rows.{and-meets, layer-first, layer-low}
 
 module _ (rows : List ℕ) (n goal : ℕ) (masks : List ℕ) (R : RowsOf rows n) (low : goal < 2 ^ n)
@@ -50,11 +49,11 @@ module _ (rows : List ℕ) (n goal : ℕ) (masks : List ℕ) (R : RowsOf rows n)
   -- ---- how many edges a shortest path has
 
   pub edges_are : (start : ℕ)
-      → lowest n (λ m. not (eqb (bit_and start (get_or masks m 0)) 0))
+      → lowest n (meeting masks start)
       ≡ distance n (leads_by rows) (test_bit start) (test_bit goal)
   unfolding distance layer
   edges_are start =
-      lowest-same n (λ m. not (eqb (bit_and start (get_or masks m 0)) 0)) _ (λ m h.
+      lowest-same n (meeting masks start) _ (λ m h.
       ap (λ (x : ℕ). not (eqb (bit_and start x) 0)) (layers-at m h)
       ∙ and-meets n start (layer rows n goal m) (layer-low rows n goal m)
       ∙ any_same n _ _ (λ k l. ap (λ b. test_bit start k && b)
@@ -63,19 +62,16 @@ module _ (rows : List ℕ) (n goal : ℕ) (masks : List ℕ) (R : RowsOf rows n)
 -- ---- the shortest path, by that number
 
 module _ (n : ℕ) (edge : ℕ → Items) (start goal : Items) where
-  pub path-not-there : (m : ℕ) → m ≡ distance n edge start goal → m ≡ n
-      → shortest_path n edge start goal ≡ []
+  pub path-not-there : distance n edge start goal ≡ n → shortest_path n edge start goal ≡ []
   unfolding shortest_path
-  path-not-there m e h = rw (ge-ltb (distance n edge start goal) n (omega (arith, e, h)))
+  path-not-there e = rw (ge-ltb (distance n edge start goal) n (omega (arith, e)))
 
-  pub path-there : (m : ℕ) → m ≡ distance n edge start goal → m ≢ n → (m < n)
-      × So (any_below n (meets n edge goal m start))
+  pub path-there : (m : ℕ) → m ≡ distance n edge start goal → m < n
+      → So (any_below n (meets n edge goal m start))
       × (path_by n edge goal m start ≡ shortest_path n edge start goal)
   unfolding shortest_path distance
-  path-there m e h =
-      let p : Items = λ m. any_below n (meets n edge goal m start) in
-      let l : m < n = omega (arith, e, lowest-top n p) in (
-        l,
+  path-there m e l =
+      let p : Items = λ m. any_below n (meets n edge goal m start) in (
         rw e (lowest-passes n p (omega (arith, e))),
         rw (e, lt-ltb (lowest n p) n (omega (arith, e))),
       )

@@ -1,8 +1,9 @@
 -- A relation as rows of masks, and a path as the code hands it out.
 -- leads_by: by the rows. RowsOf: where they lie. layer, LayersOf: how far items are away.
+-- meeting: which layers a start meets.
 -- item_path: a list as an ItemPath.
 -- Assumes nothing.
-use Rattle.std.specs.Prelude.{◌≡◌, List, ℕ, ◌≤◌, ◌<◌, length, get_or, replicate}
+use Rattle.std.specs.Prelude.{◌≡◌, not, List, ℕ, ◌≤◌, ◌<◌, eqb, length, get_or, replicate, bit_and}
 use Rattle.words.specs.Tests.{Items}
 use Rattle.words.specs.Words.{put}
 use Rattle.masks.specs.Mask.{test_bit, mask_below}
@@ -21,6 +22,10 @@ pub record RowsOf (rows : List ℕ) (n : ℕ) : Type 0 where
 -- The mask of the items that are m edges away from the goal.
 unfoldable pub layer : List ℕ → ℕ → ℕ → ℕ → ℕ
 layer rows n goal m = mask_below n (near n (leads_by rows) (test_bit goal) m)
+
+-- Some item of the start is in the mask m.
+abbrev pub meeting : List ℕ → ℕ → Items
+meeting masks start m = not (eqb (bit_and start (get_or masks m 0)) 0)
 
 -- The layers below n, of the goal that is the first of them.
 pub record LayersOf (rows : List ℕ) (n : ℕ) (masks : List ℕ) : Type 0 where

@@ -2,18 +2,18 @@
 // which item t leads.
 #![tactic(auto)]
 
-ghost use Rattle.std.specs.Prelude.{◌≡◌, not, ◌<◌, ◌≤◌, ◌^◌, eqb, length, get_or};
+ghost use Rattle.std.specs.Prelude.{◌≡◌, ◌<◌, ◌≤◌, ◌^◌, length, get_or, MatchOption};
 ghost use Rattle.std.proofs.Math.Bool.{So};
-ghost use Rattle.std.specs.Int.Bits.{bit_and};
 ghost use Rattle.words.specs.Tests.{any_below};
 ghost use Rattle.words.specs.Words.{put};
 ghost use Rattle.masks.specs.Mask.{test_bit, mask_below};
 ghost use Rattle.paths.specs.Path.{lowest, near, meets, path_by, shortest_path};
-ghost use Rattle.paths.specs.Rows.{leads_by, RowsOf, LayersOf, layer, no_items_of, item_path};
+ghost use Rattle.paths.specs.Rows.{leads_by, meeting, RowsOf, LayersOf, layer, no_items_of, item_path};
 
-use masks::{has, with_if};
+use masks::{has, mask_of};
 
-// The items of a path, from the first on, and how many they are. Behind them stand zeros.
+// The items of a path, from the first on, and how many they are. Behind them stand zeros. (An
+// array, since the project has no heap.)
 #[derive(Clone, Copy)]
 pub struct ItemPath {
     pub count: usize,
@@ -25,14 +25,7 @@ fn lowest_item(mask: u32, n: u32) -> u32
     requires { n ≤ 32 }
     ensures { result ≡ lowest n (test_bit mask) }
 {
-    let mut i = 0;
-    while i < n {
-        if has(mask, i) {
-            return i;
-        }
-        i += 1;
-    }
-    n
+    (0..n).find(|k| has(mask, *k)).unwrap_or(n)
 }
 
 // The items that lead to one of the mask.
@@ -40,13 +33,7 @@ fn leading_to(rows: &[u32], n: usize, mask: u32) -> u32
     requires { RowsOf rows.now n × (mask < 2 ^ n) }
     ensures { result ≡ mask_below n (near n (leads_by rows.now) (test_bit mask) 1) }
 {
-    let mut all: u32 = 0;
-    let mut k = 0;
-    while k < n {
-        all = with_if(rows[k] & mask != 0, all, k as u32);
-        k += 1;
-    }
-    all
+    mask_of(n, |k| rows[k as usize] & mask != 0)
 }
 
 // For each m below n, the items that are m edges away from the goal.
@@ -54,31 +41,22 @@ fn layers(rows: &[u32], n: usize, goal: u32) -> [u32; 32]
     requires { RowsOf rows.now n × (goal < 2 ^ n) }
     ensures { result ≡ put no_items_of 0 n (layer rows.now n goal) }
 {
-    let mut masks = [0u32; 32];
+    let mut masks = [0; 32];
     let mut mask = goal;
-    let mut m = 0;
-    while m < n {
+    for m in 0..n {
         masks[m] = mask;
         mask = leading_to(rows, n, mask);
-        m += 1;
     }
     masks
 }
 
-// How many edges a shortest path has, by the layers, and n where there is no path.
-fn edges_to(masks: &[u32], n: usize, start: u32) -> usize
+// How many edges a shortest path has, by the layers; nothing where there is no path.
+fn edges_to(masks: &[u32], n: usize, start: u32) -> Option<usize>
     requires { n ≤ length masks.now }
-    ensures { result ≡ lowest n (λ m.
-        not (eqb (bit_and start (get_or masks.now m 0)) 0)) }
+    ensures { MatchOption result (lowest n (meeting masks.now start) ≡ n)
+        (λ m. (m < n) × (m ≡ lowest n (meeting masks.now start))) }
 {
-    let mut edges = 0;
-    while edges < n {
-        if start & masks[edges] != 0 {
-            return edges;
-        }
-        edges += 1;
-    }
-    n
+    masks[..n].iter().position(|mask| start & *mask != 0)
 }
 
 // The path that begins m edges away from the goal: always the lowest item that is next.
@@ -89,16 +67,15 @@ fn follow(rows: &[u32], n: usize, masks: &[u32], start: u32, m: usize) -> ItemPa
     ensures { result ≡ item_path (path_by n (leads_by rows.now)
         (test_bit (get_or masks.now 0 0)) m (test_bit start)) }
 {
-    let mut items = [0u32; 32];
+    let mut items = [0; 32];
     let mut from = start;
-    let mut i = 0;
-    while i <= m {
+    let count = m + 1;
+    for i in 0..count {
         let item = lowest_item(from & masks[m - i], n as u32);
         items[i] = item;
         from = rows[item as usize];
-        i += 1;
     }
-    ItemPath { count: i, items }
+    ItemPath { count, items }
 }
 
 // The shortest path from the start to the goal, of these the smallest item by item; no item if
@@ -109,10 +86,11 @@ pub fn shortest_path(rows: &[u32], n: usize, start: u32, goal: u32) -> ItemPath
         (test_bit goal)) }
 {
     let masks = layers(rows, n, goal);
-    let m = edges_to(&masks, n, start);
-    if m == n {
-        let items = [0u32; 32];
-        return ItemPath { count: 0, items };
+    match edges_to(&masks, n, start) {
+        Some(m) => follow(rows, n, &masks, start, m),
+        None => ItemPath {
+            count: 0,
+            items: [0; 32],
+        },
     }
-    follow(rows, n, &masks, start, m)
 }

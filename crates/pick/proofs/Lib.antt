@@ -1,5 +1,5 @@
 pub mod Waiting
-pub mod Loops
+pub mod Searches
 pub mod Known
 pub mod Turning
 pub mod Rounds

@@ -11,6 +11,7 @@ use Prim.Native.Nat.{ℕ, ◌≤◌, ◌<◌}
 use native.Mathlib.Decide.{dec_lt}
 use native.Mathlib.Omega.{arith}
 use lib.ListN.{length, get_or, set}
+use Rattle.std.specs.Prelude.{Option, Some, None}
 use Rattle.words.specs.Tests.{Items}
 use Rattle.words.specs.Turns.{turn}
 use Rattle.words.proofs.Bools.{lt-ltb, ge-ltb}
@@ -71,10 +72,10 @@ module _ (s : Store) where
 
 -- ---- the answer
 
-pub few-picked : (p : Picked) → length (picked_words p) ≤ max_answer
+pub few-picked : (p : Option Picked) → length (picked_words p) ≤ max_answer
 unfolding picked_words
-few-picked (Picked.Job r j) = omega arith
-few-picked Picked.Nothing = omega arith
+few-picked (Some p) = omega arith
+few-picked None = omega arith
 
 -- ---- the call
 

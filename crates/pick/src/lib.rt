@@ -11,25 +11,24 @@ ghost use Rattle.sizes.specs.Bounds.{max_runs_of, round_at_of};
 ghost use Rattle.answers.specs.Answers.{answer_room, Lays};
 ghost use Rattle.model.specs.Outcome.{answer};
 ghost use Rattle.model.specs.Calls.{pick};
-ghost use Rattle.model.specs.Calls.Pick.{pick_turn};
+ghost use Rattle.model.specs.Calls.Pick.{waiting, pick_turn};
 ghost use Rattle.layout.specs.Reading.{store_of};
 ghost use Rattle.layout.specs.Buffer.{in_form};
 ghost use Rattle.layout.specs.Calls.{on, call_on, leaves};
 ghost use Rattle.form.specs.Parts.{FormWith};
-ghost use Rattle.pick.specs.Answers.{picked_words};
+ghost use Rattle.pick.specs.Answers.{picked_words, if_below};
 ghost use Rattle.pick.specs.Fairness.{Exact};
 
 use answers::{put_one, put_three};
 use form::header::counts;
 use ready::{is_waiting, ready_job};
 use sizes::Counts;
-use words::wide;
 
-// A run and the job of it that is next, or nothing to do.
+// A run and the job of it that is next.
 #[derive(Clone, Copy)]
-pub enum Picked {
-    Job(u32, u32),
-    Nothing,
+pub struct Picked {
+    pub run: u32,
+    pub job: u32,
 }
 
 // The last picked run.
@@ -38,7 +37,7 @@ fn last_picked(words: &[u32], z: Counts) -> usize
     ensures { result ≡ (store_of words.now).tail.round }
 {
     let at = z.round_at();
-    wide(words[at])
+    words[at] as usize
 }
 
 // The run at turn i, of so many runs, after the last picked one.
@@ -50,22 +49,24 @@ fn turn_run(runs: usize, last: usize, i: usize) -> usize
     if next < runs { next } else { next - runs }
 }
 
-// The turn of the first run that waits; the number of runs, if none does.
-fn pick_turn(words: &[u32], z: Counts, last: usize) -> usize
+// Whether the run at turn i, after the last picked one, waits.
+fn waits_at(words: &[u32], z: Counts, last: usize, i: usize) -> bool
     requires form_with { FormWith words.now z }
     requires last_value { last ≡ (store_of words.now).tail.round }
-    ensures { result ≡ pick_turn (store_of words.now) }
+    requires i_lt_runs { i < z.runs }
+    ensures { result ≡ waiting ((store_of words.now).run (turn z.runs last i)) }
 {
-    let runs = z.runs;
-    let mut i = 0;
-    while i < runs {
-        let r = turn_run(runs, last, i);
-        if is_waiting(words, z, r) {
-            return i;
-        }
-        i += 1;
-    }
-    runs
+    let r = turn_run(z.runs, last, i);
+    is_waiting(words, z, r)
+}
+
+// The turn of the first run that waits.
+fn pick_turn(words: &[u32], z: Counts, last: usize) -> Option<usize>
+    requires form_with { FormWith words.now z }
+    requires last_value { last ≡ (store_of words.now).tail.round }
+    ensures { result ≡ if_below z.runs (pick_turn (store_of words.now)) }
+{
+    (0..z.runs).find(|i| waits_at(words, z, last, *i))
 }
 
 // Stores the run that is the last picked one now.
@@ -77,8 +78,9 @@ fn store_round(words: &mut [u32], z: Counts, r: u32)
     words[at] = r;
 }
 
-// The next job. Nothing but the round is stored, and not even that if there is nothing to do.
-pub fn pick(words: &mut [u32]) -> Picked
+// The next job, if there is one. Nothing but the round is stored, and not even that if there is
+// nothing to do.
+pub fn pick(words: &mut [u32]) -> Option<Picked>
     requires { So (in_form words.old) }
     ensures answers { picked_words result ≡ answer (call_on (on pick) words.old) }
     ensures leaves { words.new
@@ -87,24 +89,21 @@ pub fn pick(words: &mut [u32]) -> Picked
 {
     let z = counts(words);
     let last = last_picked(words, z);
-    let i = pick_turn(words, z, last);
-    let runs = z.runs;
-    if runs <= i {
-        return Picked::Nothing;
-    }
-    let r = turn_run(runs, last, i);
-    let j = ready_job(words, z, r);
-    store_round(words, z, r as u32);
-    Picked::Job(r as u32, j as u32)
+    let i = pick_turn(words, z, last)?;
+    let r = turn_run(z.runs, last, i);
+    let j = ready_job(words, z, r).unwrap();
+    let run = r as u32;
+    store_round(words, z, run);
+    Some(Picked { run, job: j as u32 })
 }
 
 // Puts the words of the answer.
-pub fn put_picked(answer: &mut [u32], p: Picked) -> usize
+pub fn put_picked(answer: &mut [u32], p: Option<Picked>) -> usize
     requires { answer_room ≤ length answer.old }
     ensures { Lays (picked_words p) answer.old answer.new result }
 {
     match p {
-        Picked::Job(r, j) => put_three(answer, 0, r, j),
-        Picked::Nothing => put_one(answer, 5),
+        Some(picked) => put_three(answer, 0, picked.run, picked.job),
+        None => put_one(answer, 5),
     }
 }

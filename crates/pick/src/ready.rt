@@ -4,13 +4,13 @@ ghost use Rattle.model.specs.Calls.Pick.{ready, waiting, ready_job};
 ghost use Rattle.layout.specs.Reading.{store_of};
 ghost use Rattle.form.specs.Parts.{FormWith};
 ghost use Rattle.trial.specs.Jobs.{UsedRun};
+ghost use Rattle.pick.specs.Answers.{if_below};
 
 use sizes::Counts;
 use sizes::run::RunOffset;
 use states::OPEN_STATE;
 use trial::causes::is_unready;
 use trial::jobs::{job_count, job_of};
-use words::wide;
 
 // Whether job j of run r is ready.
 fn is_ready(words: &[u32], z: Counts, r: usize, j: usize) -> bool
@@ -24,20 +24,13 @@ fn is_ready(words: &[u32], z: Counts, r: usize, j: usize) -> bool
     !is_unready(done, job.upstream, j as u32)
 }
 
-// The lowest job of run r that is ready; the number of its jobs, if none is.
-pub fn ready_job(words: &[u32], z: Counts, r: usize) -> usize
+// The lowest job of run r that is ready.
+pub fn ready_job(words: &[u32], z: Counts, r: usize) -> Option<usize>
     requires { UsedRun words.now z r }
-    ensures { result ≡ ready_job ((store_of words.now).run r) }
+    ensures { result ≡ if_below ((store_of words.now).run r).jobs
+        (ready_job ((store_of words.now).run r)) }
 {
-    let n = wide(job_count(words, z, r));
-    let mut j = 0;
-    while j < n {
-        if is_ready(words, z, r, j) {
-            return j;
-        }
-        j += 1;
-    }
-    n
+    (0..job_count(words, z, r) as usize).find(|j| is_ready(words, z, r, *j))
 }
 
 // Whether run r is open and has a job that is ready.
@@ -50,6 +43,5 @@ pub fn is_waiting(words: &[u32], z: Counts, r: usize) -> bool
     if words[at] != OPEN_STATE {
         return false;
     }
-    let n = wide(job_count(words, z, r));
-    ready_job(words, z, r) < n
+    ready_job(words, z, r).is_some()
 }

@@ -19,20 +19,16 @@ use masks::mask_if;
 use sets::missing::lacking;
 use sizes::Counts;
 use trial::jobs::{job_count, job_of};
-use words::wide;
 
 // What the jobs of run r at site o read.
 fn reads_at(words: &[u32], z: Counts, r: usize, o: usize) -> u32
     requires { UsedRun words.now z r }
     ensures { result ≡ reads_at_of (store_of words.now) r o }
 {
-    let n = wide(job_count(words, z, r));
-    let mut all: u32 = 0;
-    let mut j = 0;
-    while j < n {
+    let mut all = 0;
+    for j in 0..job_count(words, z, r) as usize {
         let job = job_of(words, z, r, j);
-        all = all | mask_if(wide(job.site) == o, job.reads);
-        j += 1;
+        all |= mask_if(job.site as usize == o, job.reads);
     }
     all
 }
@@ -48,18 +44,15 @@ fn taken_at(words: &[u32], z: Counts, r: usize, o: usize) -> u32
     find_taken(words, z, o, start)
 }
 
-// T of each site, for run r.
+// T of each site, for run r: an array for the most sites, since there is no heap.
 pub fn site_sets(words: &[u32], z: Counts, r: usize) -> [u32; 8]
     requires { UsedRun words.now z r }
     ensures { result ≡ put no_sets 0 z.sites
         (λ o. mask_below z.keys (taken_at_of z (store_of words.now) r o)) }
 {
-    let n = z.sites;
     let mut sets = [0u32; 8];
-    let mut o = 0;
-    while o < n {
+    for o in 0..z.sites {
         sets[o] = taken_at(words, z, r, o);
-        o += 1;
     }
     sets
 }
@@ -72,15 +65,7 @@ pub fn is_unentitled(words: &[u32], z: Counts, sets: &[u32]) -> bool
         ((store_of words.now).tail.may_hold o)
         (test_bit (set_of_at sets.now o))) }
 {
-    let n = z.sites;
-    let mut o = 0;
-    while o < n {
-        if is_barred(words, z, o, sets[o]) {
-            return true;
-        }
-        o += 1;
-    }
-    false
+    (0..z.sites).any(|o| is_barred(words, z, o, sets[o]))
 }
 
 // Whether the master lacks a key of the T of a site.
@@ -90,15 +75,7 @@ pub fn is_unpreparable(words: &[u32], z: Counts, sets: &[u32]) -> bool
     ensures { result ≡ any_below z.sites (λ o. unfetchable (versions z.writers) z.keys
         (store_of words.now).master (test_bit (set_of_at sets.now o))) }
 {
-    let n = z.sites;
-    let mut o = 0;
-    while o < n {
-        if is_lacked(words, z, sets[o]) {
-            return true;
-        }
-        o += 1;
-    }
-    false
+    (0..z.sites).any(|o| is_lacked(words, z, sets[o]))
 }
 
 // Whether a site would hold more than it may with its T.
@@ -108,15 +85,7 @@ pub fn is_crowded(words: &[u32], z: Counts, sets: &[u32]) -> bool
     ensures { result ≡ any_below z.sites (λ o. takes_over z
         ((store_of words.now).site o) (set_of_at sets.now o)) }
 {
-    let n = z.sites;
-    let mut o = 0;
-    while o < n {
-        if is_over(words, z, o, sets[o]) {
-            return true;
-        }
-        o += 1;
-    }
-    false
+    (0..z.sites).any(|o| is_over(words, z, o, sets[o]))
 }
 
 // Each site takes its T.
@@ -126,10 +95,7 @@ pub fn take_sets(words: &mut [u32], z: Counts, sets: &[u32])
     ensures { words.new ≡ written (taken_sites (store_of words.old)
         (set_of_at sets.now) z.sites) words.old }
 {
-    let n = z.sites;
-    let mut o = 0;
-    while o < n {
+    for o in 0..z.sites {
         take_keys(words, z, o, sets[o]);
-        o += 1;
     }
 }

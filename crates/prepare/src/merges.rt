@@ -16,7 +16,7 @@ use masks::{has, with_item};
 use sizes::Counts;
 use trial::jobs::{job_count, job_of, plan_keys};
 use version::merge::merge_keys;
-use words::{wide, zero};
+use words::zero;
 
 // The sites that a job of run r is at.
 pub fn sites_used(words: &[u32], z: Counts, r: usize) -> u32
@@ -24,13 +24,10 @@ pub fn sites_used(words: &[u32], z: Counts, r: usize) -> u32
     ensures { test_bit result ≡ uses_site ((store_of words.now).run r).jobs
         ((store_of words.now).run r).job }
 {
-    let n = wide(job_count(words, z, r));
-    let mut mask: u32 = 0;
-    let mut j = 0;
-    while j < n {
+    let mut mask = 0;
+    for j in 0..job_count(words, z, r) as usize {
         let job = job_of(words, z, r, j);
         mask = with_item(mask, job.site);
-        j += 1;
     }
     mask
 }
@@ -66,11 +63,8 @@ pub fn merge_sites(words: &mut [u32], z: Counts, snapshot: usize, sites: u32, pl
         (sites_merged (versions z.writers) z.sites (test_bit sites) (test_bit plan)
         (λ o. read_place z words.old (site_at z o))) }
 {
-    let n = z.sites;
-    let mut o = 0;
-    while o < n {
+    for o in 0..z.sites {
         merge_site(words, z, snapshot, o, sites, plan);
-        o += 1;
     }
 }
 

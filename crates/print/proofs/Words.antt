@@ -1,32 +1,18 @@
 -- Laws of an answer's text.
--- table-word, no_word: an answer's first word. numbers_more, numbers-end: the
+-- no_word: of a first number that has none. numbers_more, numbers-end: the
 -- numbers from place i on, one by one. body-parts: an answer's text put in two parts; line-parts:
 -- its line.
 -- Assumes nothing.
-use mathlib.Core.Path.{◌≡◌, sym}
-use mathlib.Core.List.{List, [], ◌∷◌, ◌++◌, map, append_assoc, append-nil}
-use Prim.Native.Nat.{ℕ, suc, ◌+◌, ◌-◌, ◌<◌, ◌≤◌}
+use mathlib.Core.Path.{◌≡◌}
+use mathlib.Core.List.{List, [], ◌∷◌, ◌++◌, append_assoc, append-nil}
+use Prim.Native.Nat.{ℕ, suc, ◌+◌, ◌<◌, ◌≤◌}
 use native.Mathlib.Numerals.{add-one}
 use native.Mathlib.Omega.{arith}
-use lib.ListN.{length, get_or, drop, replicate, drop_of_length-le, get_or-map, get_or-eq_default}
+use lib.ListN.{length, get_or, drop, drop_of_length-le, get_or-eq_default}
 use lib.Seq.{drop-cons}
 use Rattle.text.specs.Decimal.{decimal_of}
-use Rattle.text.specs.Fields.{in_first_of, fields_of, first_of}
 use Rattle.text.proofs.Puts.{put_both}
-use Rattle.print.specs.declared.Word.{Word}
 use Rattle.print.specs.Print.{answer_words, answer_word, numbers_text, answer_body, answer_text}
-
--- The code's table: spaces fill what a word leaves of its row.
-abbrev row : List ℕ → Word
-row w = record { bytes = w ++ replicate (8 - length w) 32 }
-
-abbrev rows : List Word
-rows = map row answer_words
-
-pub table-word : (t : ℕ) → first_of (get_or rows t (record { bytes = [] })).bytes ≡ answer_word t
-unfolding answer_word first_of fields_of in_first_of
-table-word t =
-    sym (get_or-map (λ (w : Word). first_of w.bytes) rows t (record { bytes = [] }))
 
 pub no_word : (m : List ℕ) (t : ℕ) → length answer_words ≤ t → m ≡ m ++ answer_word t
 unfolding answer_word

@@ -20,55 +20,33 @@ impl Line {
     {}
 }
 
-// A word of up to 8 bytes, spaces behind it.
-#[derive(Clone, Copy)]
-struct Word {
-    bytes: [u8; 8],
+// The word of an answer's first number; none for a number that has none.
+#[tactic(auto, unfolding(crate::specs::Print::answer_word))]
+fn word_of(kind: u32) -> &'static [u8]
+    ensures word { result.now ≡ answer_word kind }
+    ensures upper_bound { length result.now ≤ 8 }
+{
+    match kind {
+        0 => b"ok",
+        1 => b"broken",
+        2 => b"refused",
+        3 => b"clear",
+        4 => b"path",
+        5 => b"nothing",
+        6 => b"through",
+        7 => b"breaks",
+        8 => b"turned",
+        _ => b"",
+    }
 }
 
-// The words of an answer's first number, from 0 on.
-const WORDS: [Word; 9] = [
-    Word {
-        bytes: *b"ok      ",
-    },
-    Word {
-        bytes: *b"broken  ",
-    },
-    Word {
-        bytes: *b"refused ",
-    },
-    Word {
-        bytes: *b"clear   ",
-    },
-    Word {
-        bytes: *b"path    ",
-    },
-    Word {
-        bytes: *b"nothing ",
-    },
-    Word {
-        bytes: *b"through ",
-    },
-    Word {
-        bytes: *b"breaks  ",
-    },
-    Word {
-        bytes: *b"turned  ",
-    },
-];
-
-// The word of a first number; nothing for a number that has none.
+// The word of a first number.
 fn put_word(out: &mut [u8], at: usize, kind: u32) -> usize
     requires { at + 8 ≤ length out.old }
     ensures { (result ≤ at + 8)
         × (take result out.new ≡ take at out.old ++ answer_word kind) }
 {
-    let row = words::wide(kind);
-    if WORDS.len() <= row {
-        return at;
-    }
-    let word = WORDS[row];
-    text::put_first(out, at, &word.bytes)
+    text::put_bytes(out, at, word_of(kind))
 }
 
 // A number after a space.
@@ -77,7 +55,7 @@ fn put_spaced(out: &mut [u8], at: usize, n: u32) -> usize
     ensures { (result ≤ at + 11)
         × (take result out.new ≡ take at out.old ++ (32 ∷ decimal_of n)) }
 {
-    let start = text::put_byte(out, at, 32);
+    let start = text::put_byte(out, at, b' ');
     text::put_number(out, start, n)
 }
 
@@ -89,10 +67,8 @@ pub fn put_numbers(out: &mut [u8], at: usize, answer: &[u32]) -> usize
         ≡ take at out.old ++ numbers_text (drop 1 answer.now)) }
 {
     let mut end = at;
-    let mut i = 1;
-    while i < answer.len() {
-        end = put_spaced(out, end, answer[i]);
-        i += 1;
+    for n in &answer[1..] {
+        end = put_spaced(out, end, *n);
     }
     end
 }
@@ -118,7 +94,7 @@ pub fn print_answer(out: &mut [u8], at: usize, answer: &[u32]) -> usize
     ensures upper_bound { result ≤ at + line_room }
 {
     let end = put_answer(out, at, answer);
-    text::put_byte(out, end, 10)
+    text::put_byte(out, end, b'\n')
 }
 
 // Puts the line `unread`.

@@ -13,11 +13,12 @@ pub struct RecordReader<'a> {
     pub at: usize,
 }
 
-// A read: its key, the index of its counts and that of the next read. Or the end of the words.
+// A read: its key, the index of its counts and that of the next read.
 #[derive(Clone, Copy)]
-pub enum Handed {
-    Read(u32, usize, usize),
-    End,
+pub struct Read {
+    pub key: u32,
+    pub counts: usize,
+    pub next: usize,
 }
 
 // A reader at an index.
@@ -27,29 +28,33 @@ pub fn reader_at<'a>(words: &'a [u32], at: usize) -> RecordReader<'a>
     RecordReader { words, at }
 }
 
-// The next read, of a key and w counts.
-pub fn next_read<'a>(r: RecordReader<'a>, w: usize) -> Handed
+// The next read, of a key and w counts. None where the words end before it does.
+pub fn next_read<'a>(r: RecordReader<'a>, w: usize) -> Option<Read>
     ensures { result ≡ read_from_of r.entry.words.now r.entry.at w }
 {
     read_at(r.words, r.at, w)
 }
 
 // The read at an index, of a key and w counts.
-fn read_at(words: &[u32], at: usize, w: usize) -> Handed
+fn read_at(words: &[u32], at: usize, w: usize) -> Option<Read>
     ensures { result ≡ read_from_of words.now at w }
 {
     let len = words.len();
     if len <= at {
-        return Handed::End;
+        return None;
     }
     if len - at <= w {
-        return Handed::End;
+        return None;
     }
-    Handed::Read(words[at], at + 1, at + 1 + w)
+    Some(Read {
+        key: words[at],
+        counts: at + 1,
+        next: at + 1 + w,
+    })
 }
 
 // The read that a reader at this index hands out.
-pub fn read_from(words: &[u32], at: usize, w: usize) -> Handed
+pub fn read_from(words: &[u32], at: usize, w: usize) -> Option<Read>
     ensures { result ≡ read_from_of words.now at w }
 {
     next_read(reader_at(words, at), w)

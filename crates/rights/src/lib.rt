@@ -18,7 +18,7 @@ ghost use Rattle.version.specs.Places.{Area};
 ghost use Rattle.form.specs.Parts.{FormWith};
 ghost use Rattle.answers.specs.Answers.{answered_words};
 
-use answers::Answered;
+use answers::refusal::Refusal;
 use form::header::counts;
 use form::job::is_below;
 use masks::without;
@@ -62,7 +62,7 @@ fn take_away(words: &mut [u32], z: Counts, o: usize, mask: u32)
 
 // Sets the keys that a site may hold. Those of its cache that it may hold no more leave it, and
 // with them the keys whose versions need them. Answers 0.
-pub fn mayhold(words: &mut [u32], site: u32, mask: u32) -> Answered
+pub fn mayhold(words: &mut [u32], site: u32, mask: u32) -> Result<u32, Refusal>
     requires { So (in_form words.old) }
     ensures answers { answered_words result
         ≡ answer (call_on (on (mayhold site mask)) words.old) }
@@ -72,16 +72,16 @@ pub fn mayhold(words: &mut [u32], site: u32, mask: u32) -> Answered
     let z = counts(words);
     let o = site as usize;
     if out_of_range(z, z.sites, o, mask) {
-        return Answered::Refused(3);
+        return Err(Refusal::OutOfRange);
     }
     take_away(words, z, o, mask);
     let right = z.may_hold_at(o);
     words[right] = mask;
-    Answered::Done(0)
+    Ok(0)
 }
 
 // Sets the keys that a writer may save. Answers 0.
-pub fn maysave(words: &mut [u32], writer: u32, mask: u32) -> Answered
+pub fn maysave(words: &mut [u32], writer: u32, mask: u32) -> Result<u32, Refusal>
     requires { So (in_form words.old) }
     ensures answers { answered_words result
         ≡ answer (call_on (on (maysave writer mask)) words.old) }
@@ -91,9 +91,9 @@ pub fn maysave(words: &mut [u32], writer: u32, mask: u32) -> Answered
     let z = counts(words);
     let w = writer as usize;
     if out_of_range(z, z.writers, w, mask) {
-        return Answered::Refused(3);
+        return Err(Refusal::OutOfRange);
     }
     let at = z.may_save_at(w);
     words[at] = mask;
-    Answered::Done(0)
+    Ok(0)
 }

@@ -19,21 +19,16 @@ pub fn each_valid(z: Counts, jobs: &[u32], n: usize) -> bool
     requires n_le_max_jobs { (n ≤ max_jobs) × (n * job_size ≤ length jobs.now) }
     ensures { result ≡ all_below n (λ i. valid_job z i (listed_job jobs.now i)) }
 {
-    let mut i = 0;
-    while i < n {
+    (0..n).all(|i| {
         let at = i * Sizes::JOB_SIZE;
-        if !valid_job(
+        valid_job(
             z,
             i,
             jobs[at],
             jobs[at + JobOffset::READS],
             jobs[at + JobOffset::UPSTREAM],
-        ) {
-            return false;
-        }
-        i += 1;
-    }
-    true
+        )
+    })
 }
 
 // Whether the list is one of 1 to 8 valid jobs. It may have any length.

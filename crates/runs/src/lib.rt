@@ -13,52 +13,46 @@ ghost use Rattle.layout.specs.Buffer.{in_form};
 ghost use Rattle.layout.specs.Calls.{on, call_on, leaves};
 ghost use Rattle.form.specs.Parts.{FormWith};
 ghost use Rattle.answers.specs.Answers.{answered_words};
+ghost use Rattle.answers.specs.Refusals.{cause_number};
 
-use answers::Answered;
+use answers::refusal::Refusal;
 use form::header::counts;
 use jobs::{list_valid, put_jobs};
 use sizes::Counts;
-use states::{DROP_ROW, OPEN_ROW};
+use states::Row;
 use status::{clear_run, run_cause};
-use words::wide;
 
 // Frees the run. Answers 0.
-pub fn drop(words: &mut [u32], run: u32) -> Answered
+pub fn drop(words: &mut [u32], run: u32) -> Result<u32, Refusal>
     requires { So (in_form words.old) }
     ensures answers { answered_words result
         ≡ answer (call_on (on (drop_run run)) words.old) }
     ensures leaves { words.new
         ≡ leaves (call_on (on (drop_run run)) words.old) words.old }
 {
-    let r = wide(run);
+    let r = run as usize;
     let z = counts(words);
-    let no = run_cause(words, z, DROP_ROW, r);
-    if no != 0 {
-        return Answered::Refused(no);
-    }
+    run_cause(words, z, Row::Drop, r)?;
     let at = z.run_at(r);
     clear_run(words, z, at);
-    Answered::Done(0)
+    Ok(0)
 }
 
-// The first cause for which open is refused on a buffer in form, or 0.
-pub fn open_cause(words: &[u32], z: Counts, r: usize, jobs: &[u32]) -> u32
+// Why open is refused on a buffer in form.
+pub fn open_cause(words: &[u32], z: Counts, r: usize, jobs: &[u32]) -> Result<(), Refusal>
     requires { FormWith words.now z }
-    ensures { result ≡ open_cause (store_of words.now) r jobs.now }
+    ensures { cause_number result ≡ open_cause (store_of words.now) r jobs.now }
 {
-    let no = run_cause(words, z, OPEN_ROW, r);
-    if no != 0 {
-        return no;
-    }
+    run_cause(words, z, Row::Open, r)?;
     if !list_valid(z, jobs) {
-        return 5;
+        return Err(Refusal::BadJobs);
     }
-    0
+    Ok(())
 }
 
 // Begins a run of the jobs in a list, three words for each. The list may have any length. Answers
 // the number of jobs.
-pub fn open(words: &mut [u32], run: u32, jobs: &[u32]) -> Answered
+pub fn open(words: &mut [u32], run: u32, jobs: &[u32]) -> Result<u32, Refusal>
     requires { So (in_form words.old) }
     ensures answers { answered_words result
         ≡ answer (call_on (on (open_run run jobs.now)) words.old) }
@@ -66,13 +60,10 @@ pub fn open(words: &mut [u32], run: u32, jobs: &[u32]) -> Answered
         ≡ leaves (call_on (on (open_run run jobs.now)) words.old)
         words.old }
 {
-    let r = wide(run);
+    let r = run as usize;
     let z = counts(words);
-    let no = open_cause(words, z, r, jobs);
-    if no != 0 {
-        return Answered::Refused(no);
-    }
+    open_cause(words, z, r, jobs)?;
     let at = z.run_at(r);
     let n = put_jobs(words, at, jobs);
-    Answered::Done(n)
+    Ok(n)
 }

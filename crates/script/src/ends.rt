@@ -75,9 +75,9 @@ pub fn part_done(
     if Buffers::LINE < state.len {
         let end = print::print_unread(out, state.end);
         return State {
-            ready: state.ready,
             len: 0,
             end,
+            ..state
         };
     }
     let n = state.len;

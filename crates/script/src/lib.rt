@@ -16,7 +16,8 @@ ghost use Rattle.script.specs.Tie.{Begun};
 use ends::part_done;
 
 // What is kept between chunks. ready: the buffer is in form. len: bytes of the line under way,
-// Buffers::OVER for one that is too long. end: bytes of output.
+// Buffers::OVER for one that is too long; no Option, since progress and Served take that number.
+// end: bytes of output.
 #[derive(Clone, Copy)]
 pub struct State {
     pub ready: bool,
@@ -85,22 +86,20 @@ fn step_byte(
         (take state.end out.old)) byte }
     ensures end_bound { result.end ≤ state.end + line_room }
 {
-    if byte == 10 {
+    if byte == b'\n' {
         return part_done(store, state, line, numbers, answer, out);
     }
     let n = state.len;
     if n < Buffers::LINE {
         line[n] = byte;
         return State {
-            ready: state.ready,
             len: n + 1,
-            end: state.end,
+            ..state
         };
     }
     State {
-        ready: state.ready,
         len: Buffers::OVER,
-        end: state.end,
+        ..state
     }
 }
 
@@ -125,27 +124,11 @@ pub fn feed(
         ≡ fed (progress store.old line.old len []) chunk.now }
     ensures end_bound { result.end ≤ line_room * length chunk.now }
 {
-    let mut is_ready = ready;
-    let mut kept = len;
-    let mut end = 0;
-    let mut i = 0;
-    while i < chunk.len() {
-        let state = State {
-            ready: is_ready,
-            len: kept,
-            end,
-        };
-        let next = step_byte(store, state, line, numbers, answer, out, chunk[i]);
-        is_ready = next.ready;
-        kept = next.len;
-        end = next.end;
-        i += 1;
+    let mut state = State { ready, len, end: 0 };
+    for byte in chunk {
+        state = step_byte(store, state, line, numbers, answer, out, *byte);
     }
-    State {
-        ready: is_ready,
-        len: kept,
-        end,
-    }
+    state
 }
 
 // The end of the input: the call of a last line that lacks its end. Its answer follows what

@@ -26,24 +26,24 @@ use Rattle.model.specs.Sets.{draws, draw_set, evict_set}
 use Rattle.layout.specs.Reading.{read_place}
 use Rattle.sets.specs.declared.View.{View}
 use Rattle.sets.specs.declared.growth.Rule.{Rule}
-use Rattle.sets.specs.Draws.{viewed}
-use Rattle.sets.specs.Leads.{RuleArea, led, leads_to}
+use Rattle.sets.specs.Draws.{viewed, draws_in, evicts_in}
+use Rattle.sets.specs.Leads.{RuleArea, led_within}
 
 pub rule_ranged : (len : ℕ) (z : Counts) (rule : Rule) → RuleArea len z rule → Ranged z
 unfolding RuleArea
 rule_ranged len z (Rule.Draw target source) h = h.target_in.ranged
 rule_ranged len z (Rule.Evict at) h = h.ranged
 
-module _ (z : Counts) (l : List ℕ) (rule : Rule) where
+module _ (edge : ℕ → Items) where
   -- A scope without the keys of m.
-  pub leads-outside : (scope m t d : ℕ) → leads_to z l rule (without scope m) t d
-      ≡ not (test_bit m d) && leads_to z l rule scope t d
-  unfolding leads_to
+  pub leads-outside : (scope m t d : ℕ) → led_within (without scope m) edge t d
+      ≡ not (test_bit m d) && led_within scope edge t d
+  unfolding led_within
   leads-outside scope m t d =
-      ap (◌&& led z l rule t d) (test-without scope m d)
+      ap (◌&& edge t d) (test-without scope m d)
       ∙ go (test_bit scope d) (test_bit m d)
     where
-      go : (a b : Bool) → (a && not b) && led z l rule t d ≡ not b && (a && led z l rule t d)
+      go : (a b : Bool) → (a && not b) && edge t d ≡ not b && (a && edge t d)
       go true true = refl
       go true false = refl
       go false true = refl
@@ -51,7 +51,7 @@ module _ (z : Counts) (l : List ℕ) (rule : Rule) where
 
   -- Key d is one to which a key of the mask, below n, leads.
   abbrev pub led_to : ℕ → ℕ → ℕ → Items
-  led_to n scope mask d = any_below n (λ t. test_bit mask t && leads_to z l rule scope t d)
+  led_to n scope mask d = any_below n (λ t. test_bit mask t && led_within scope edge t d)
 
   -- Nothing has been asked,
   pub led-start : (K scope mask : ℕ) → 0 ≡ mask_below K (led_to 0 scope mask)
@@ -60,24 +60,24 @@ module _ (z : Counts) (l : List ℕ) (rule : Rule) where
 
   -- or nothing is in the scope.
   pub led-none : (K n mask : ℕ) → 0 ≡ mask_below K (led_to n 0 mask)
-  unfolding leads_to
+  unfolding led_within
   led-none K n mask =
       sym (mask-no K (led_to n 0 mask)
-      (λ d _. any-no n (λ t. test_bit mask t && leads_to z l rule 0 t d)
-      (λ t _. ap (λ (b : Bool). test_bit mask t && (b && led z l rule t d)) (test-none d)
+      (λ d _. any-no n (λ t. test_bit mask t && led_within 0 edge t d)
+      (λ t _. ap (λ (b : Bool). test_bit mask t && (b && edge t d)) (test-none d)
       ∙ and-false-right (test_bit mask t))))
 
   -- One key more, which is asked only for what those before it don't lead to.
   pub led-more : (K n scope mask : ℕ) → mask_below K (led_to (n + 1) scope mask)
       ≡ bit_or (mask_below K (led_to n scope mask)) (when (test_bit mask n)
-      (mask_below K (leads_to z l rule (without scope (mask_below K (led_to n scope mask))) n)))
+      (mask_below K (led_within (without scope (mask_below K (led_to n scope mask))) edge n)))
   led-more K n scope mask =
       mask-ext-below K (mask_below K (led_to (n + 1) scope mask)) (bit_or all (when b row))
       (mask_lt K (led_to (n + 1) scope mask) K (omega arith))
       (or_lt K all (when b row) (mask_lt K (led_to n scope mask) K (omega arith))
       (omega (arith, when-le b row, mask_lt K next K (omega arith))))
       (λ d i. test-mask K (led_to (n + 1) scope mask) d i
-      ∙ any-more (λ t. test_bit mask t && leads_to z l rule scope t d) n
+      ∙ any-more (λ t. test_bit mask t && led_within scope edge t d) n
       ∙ rw (
         test-or,
         test-when,
@@ -85,7 +85,7 @@ module _ (z : Counts) (l : List ℕ) (rule : Rule) where
         leads-outside scope all n d,
         test-mask K (led_to n scope mask) d i,
       )
-      (go (led_to n scope mask d) (test_bit mask n) (leads_to z l rule scope n d)))
+      (go (led_to n scope mask d) (test_bit mask n) (led_within scope edge n d)))
     where
       b : Bool
       b = test_bit mask n
@@ -94,7 +94,7 @@ module _ (z : Counts) (l : List ℕ) (rule : Rule) where
       all = mask_below K (led_to n scope mask)
 
       next : Items
-      next = leads_to z l rule (without scope all) n
+      next = led_within (without scope all) edge n
 
       row : ℕ
       row = mask_below K next
@@ -106,24 +106,24 @@ module _ (z : Counts) (l : List ℕ) (rule : Rule) where
   -- What joins a set, where its scope is without the set.
   pub led-joining : (K scope m f rest r : ℕ) → rest ≡ without scope m
       → r ≡ mask_below K (led_to K rest f)
-      → r ≡ mask_below K (joining K (leads_to z l rule scope) (test_bit m) (test_bit f))
+      → r ≡ mask_below K (joining K (led_within scope edge) (test_bit m) (test_bit f))
   unfolding joining
   led-joining K scope m f rest r o e =
       e ∙ mask-same K (led_to K rest f)
-      (λ d. any_below K (λ t. test_bit f t && (not (test_bit m d) && leads_to z l rule scope t d)))
-      (λ d _. any_same K (λ t. test_bit f t && leads_to z l rule rest t d)
-      (λ t. test_bit f t && (not (test_bit m d) && leads_to z l rule scope t d))
+      (λ d. any_below K (λ t. test_bit f t && (not (test_bit m d) && led_within scope edge t d)))
+      (λ d _. any_same K (λ t. test_bit f t && led_within rest edge t d)
+      (λ t. test_bit f t && (not (test_bit m d) && led_within scope edge t d))
       (λ t _. ap (test_bit f t &&◌) (rw o (leads-outside scope m t d))))
 
 -- ---- T, C and E
 
 -- The set that Draw grows to.
 pub drawn-grown : (z : Counts) (l : List ℕ) (target : ℕ) (source : View) (scope start : ℕ)
-    → mask_below z.keys (closure z.keys (leads_to z l (Rule.Draw target source) scope)
+    → mask_below z.keys (closure z.keys (led_within scope (draws_in z l target source))
     (test_bit start))
     ≡ mask_below z.keys (draw_set (versions z.writers) z.keys (test_bit scope)
     (read_place z l target) (viewed z l source) (test_bit start))
-unfolding draw_set draws leads_to led
+unfolding draw_set draws led_within
 drawn-grown z l target source scope start = refl
 
 -- Only held keys are drawn in: they are scope enough.
@@ -150,13 +150,13 @@ drawn-held alg K target source start scope e =
 -- The set that Evict grows to, in the scope of the held keys.
 pub evict-grown : (z : Counts) (l : List ℕ) (at scope start : ℕ)
     → scope ≡ mask_below z.keys (λ k. held (read_place z l at k))
-    → mask_below z.keys (closure z.keys (leads_to z l (Rule.Evict at) scope) (test_bit start))
+    → mask_below z.keys (closure z.keys (led_within scope (evicts_in z l at)) (test_bit start))
     ≡ mask_below z.keys (evict_set (versions z.writers) z.keys (read_place z l at)
     (test_bit start))
-unfolding evict_set leads_to led
+unfolding evict_set led_within
 evict-grown z l at scope start e =
     let p = read_place z l at in
-    let edge = leads_to z l (Rule.Evict at) scope in
+    let edge = led_within scope (evicts_in z l at) in
     let leaves : ℕ → Items = λ t d. held (p d) && dependency z.writers d (p d) t in
     mask-same z.keys (closure z.keys edge (test_bit start))
     (closure z.keys leaves (test_bit start))

@@ -1,13 +1,14 @@
 -- What the contracts of drawn sets speak of: a place seen through a mask, and which of its keys
 -- draws in which.
--- view_at, viewed: a view. DrawArea: where target and source lie. draws_in: the relation.
+-- view_at, viewed: a view. DrawArea: where target and source lie. draws_in, evicts_in: whether a
+-- key leads to another.
 -- Assumes nothing.
 use Rattle.std.specs.Prelude.{cond, List, ℕ}
 use Rattle.words.specs.Tests.{Items}
 use Rattle.masks.specs.Mask.{test_bit}
 use Rattle.sizes.specs.declared.Counts.{Counts}
 use Rattle.model.specs.Algebra.{Place, everything}
-use Rattle.model.specs.Version.{Version, versions}
+use Rattle.model.specs.Version.{Version, dependency, versions}
 use Rattle.model.specs.Sets.{draws}
 use Rattle.layout.specs.Reading.{read_place}
 use Rattle.version.specs.Places.{Area}
@@ -36,3 +37,7 @@ pub record DrawArea (len : ℕ) (z : Counts) (target : ℕ) (source : View) : Ty
 abbrev pub draws_in : Counts → List ℕ → ℕ → View → ℕ → Items
 draws_in z l target source =
     draws (versions z.writers) z.keys everything (read_place z l target) (viewed z l source)
+
+-- E: key d of the place needs key t.
+abbrev pub evicts_in : Counts → List ℕ → ℕ → ℕ → Items
+evicts_in z l at t d = dependency z.writers d (read_place z l at d) t

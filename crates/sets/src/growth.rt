@@ -1,14 +1,14 @@
 // A set of keys grows by what its members lead to. Only those that joined last are asked, and only
 // for keys that are not in it yet.
-ghost use Rattle.std.specs.Prelude.{◌≡◌, ◌&&◌, ◌<◌, length};
-ghost use Rattle.words.specs.Tests.{any_below};
+ghost use Rattle.std.specs.Prelude.{◌≡◌, ◌&&◌, true, false, ℕ, ◌≤◌, ◌<◌, length};
+ghost use Rattle.words.specs.Tests.{Items, any_below};
 ghost use Rattle.words.specs.Numbers.{when};
 ghost use Rattle.masks.specs.Mask.{test_bit, mask_below};
 ghost use Rattle.reach.specs.Closure.{closure, Frontier};
-ghost use Rattle.sets.specs.Leads.{RuleArea, leads_to};
+ghost use Rattle.sets.specs.Leads.{Tells, RuleArea, leads_to, led_within};
 
 use crate::{View, draws};
-use masks::{has, with_if, without};
+use masks::{has, mask_of, without};
 use sizes::Counts;
 use version::needs;
 
@@ -35,23 +35,7 @@ pub fn leads(words: &[u32], z: Counts, rule: Rule, scope: u32, t: usize, d: usiz
     }
 }
 
-// The keys of the scope to which t leads.
-pub fn led_from(words: &[u32], z: Counts, rule: Rule, scope: u32, t: usize) -> u32
-    requires rule_area { RuleArea (length words.now) z rule }
-    requires t_lt_keys { t < z.keys }
-    ensures { result ≡ mask_below z.keys (leads_to z words.now rule scope t) }
-{
-    let n = z.keys;
-    let mut mask: u32 = 0;
-    let mut d = 0;
-    while d < n {
-        mask = with_if(leads(words, z, rule, scope, t, d), mask, d as u32);
-        d += 1;
-    }
-    mask
-}
-
-// The same, if t is in the mask.
+// The keys of the scope to which t leads, if t is in the mask.
 pub fn led_if(words: &[u32], z: Counts, rule: Rule, scope: u32, mask: u32, t: usize) -> u32
     requires rule_area { RuleArea (length words.now) z rule }
     requires t_lt_keys { t < z.keys }
@@ -59,45 +43,74 @@ pub fn led_if(words: &[u32], z: Counts, rule: Rule, scope: u32, mask: u32, t: us
         (mask_below z.keys (leads_to z words.now rule scope t)) }
 {
     if has(mask, t as u32) {
-        led_from(words, z, rule, scope, t)
+        mask_of(z.keys, |d| leads(words, z, rule, scope, t, d as usize))
     } else {
         0
     }
 }
 
-// The keys of the scope to which a key of the mask leads. One that is found isn't asked for again.
-pub fn led_by(words: &[u32], z: Counts, rule: Rule, scope: u32, mask: u32) -> u32
-    requires { RuleArea (length words.now) z rule }
-    ensures { result ≡ mask_below z.keys (λ d. any_below z.keys
-        (λ t. test_bit mask t && leads_to z words.now rule scope t d)) }
+// The keys of the scope to which t leads, by a test of two keys.
+pub fn led_from<F: Fn(usize, usize) -> bool>(keys: usize, scope: u32, t: usize, leads: &F) -> u32
+    requires keys_le { keys ≤ 32 }
+    requires t_lt_keys { t < keys }
+    requires callable { (t d : ℕ) → t < keys → d < keys → F.pre leads.now t d }
+    ensures { (edge : ℕ → Items) → Tells (F.post leads.now) keys edge
+        → result ≡ mask_below keys (led_within scope edge t) }
+{
+    mask_of(
+        keys,
+        |d|
+            requires d_lt { d < 32 }
+            requires callable { F.pre leads.now t d }
+            ensures outside { test_bit scope d ≡ false → result ≡ false }
+            ensures inside { test_bit scope d ≡ true → F.post leads.entry.now t d result }
+        { has(scope, d) && leads(t, d as usize) },
+    )
+}
+
+// The keys of the scope to which a key of the mask leads, by a test of two keys. One that is found
+// isn't asked for again.
+pub fn led_by<F: Fn(usize, usize) -> bool>(keys: usize, scope: u32, mask: u32, leads: &F) -> u32
+    requires keys_le { keys ≤ 32 }
+    requires callable { (t d : ℕ) → t < keys → d < keys → F.pre leads.now t d }
+    ensures { (edge : ℕ → Items) → Tells (F.post leads.now) keys edge
+        → result ≡ mask_below keys (λ d. any_below keys
+        (λ t. test_bit mask t && led_within scope edge t d)) }
 {
     if scope == 0 {
         return 0;
     }
-    let n = z.keys;
     let mut all: u32 = 0;
-    let mut t = 0;
-    while t < n {
-        let open = without(scope, all);
-        all = all | led_if(words, z, rule, open, mask, t);
-        t += 1;
+    for t in 0..keys {
+        if has(mask, t as u32) {
+            all |= led_from(keys, without(scope, all), t, leads);
+        }
     }
     all
 }
 
-// The least set that holds the mask and all of the scope to which its members lead, where only
-// those of the frontier may lead outside of the mask.
-pub fn grow(words: &[u32], z: Counts, rule: Rule, scope: u32, mask: u32, frontier: u32) -> u32
-    requires rule_area { RuleArea (length words.now) z rule }
-    requires frontier { Frontier z.keys (leads_to z words.now rule scope) mask frontier }
-    ensures { result ≡ mask_below z.keys
-        (closure z.keys (leads_to z words.now rule scope) (test_bit mask)) }
+// The least set that holds the mask and all of the scope to which its members lead, by a test of
+// two keys, where only those of the frontier may lead outside of the mask.
+pub fn grow<F: Fn(usize, usize) -> bool>(
+    keys: usize,
+    scope: u32,
+    mask: u32,
+    frontier: u32,
+    leads: &F,
+) -> u32
+    requires keys_le { keys ≤ 32 }
+    requires callable { (t d : ℕ) → t < keys → d < keys → F.pre leads.now t d }
+    requires frontier { (edge : ℕ → Items) × Tells (F.post leads.now) keys edge
+        × Frontier keys (led_within scope edge) mask frontier }
+    ensures { (edge : ℕ → Items) → Tells (F.post leads.now) keys edge
+        → Frontier keys (led_within scope edge) mask frontier
+        → result ≡ mask_below keys (closure keys (led_within scope edge) (test_bit mask)) }
 {
     let open = without(scope, mask);
-    let joining = led_by(words, z, rule, open, frontier);
+    let joining = led_by(keys, open, frontier, leads);
     if joining == 0 {
         mask
     } else {
-        grow(words, z, rule, scope, mask | joining, joining)
+        grow(keys, scope, mask | joining, joining, leads)
     }
 }

@@ -14,7 +14,7 @@ ghost use Rattle.version.specs.Places.{put_mark, SiteArea, Area};
 ghost use Rattle.layout.specs.Stored.{put_place};
 ghost use Rattle.sets.specs.Draws.{view_at, viewed, DrawArea, draws_in};
 
-use crate::growth::{Rule, grow};
+use crate::growth::grow;
 use masks::has;
 use sizes::Counts;
 use version::mark::mark_site;
@@ -84,7 +84,8 @@ pub fn draw_set(
         (read_place z words.now target) (viewed z words.now source)
         (test_bit start)) }
 {
-    grow(words, z, Rule::Draw(target, source), scope, start, start)
+    let leads = |t: usize, d: usize| draws(words, z, target, source, t, d);
+    grow(z.keys, scope, start, start, &leads)
 }
 
 // T: the keys that a cache takes from the master.
@@ -109,7 +110,8 @@ pub fn evict_set(words: &[u32], z: Counts, at: usize, start: u32) -> u32
         (test_bit start)) }
 {
     let scope = held_mask(words, z, at);
-    grow(words, z, Rule::Evict(at), scope, start, start)
+    let needing = |t: usize, d: usize| needs(words, z, at, d, t);
+    grow(z.keys, scope, start, start, &needing)
 }
 
 // E leaves the cache of a site, and its mark is set. Answers E.

@@ -16,29 +16,25 @@ use std::io::{Read, Write};
 use streams::{Input, Output, goes_on, hand_over, read_chunk};
 
 // What is kept from one read to the next. ready, len: as in script's State. input, output: what
-// was read and handed to write so far. more: the program reads on.
+// was read and handed to write so far.
 #[derive(Drop)]
 struct Kept {
     ready: bool,
     len: usize,
     input: Input,
     output: Output,
-    more: bool,
 }
 
 // What is kept after the bytes that were read are fed, and the answers handed over.
 fn kept_of(state: State, input: Input, output: Output) -> Kept
     ensures ready_value { (result.ready ≡ state.ready) × (result.len ≡ state.len) }
     ensures input_value { (result.input ≡ input) × (result.output ≡ output) }
-    ensures more_value { result.more ≡ goes_on_of input output }
 {
-    let more = goes_on(input, output);
     Kept {
         ready: state.ready,
         len: state.len,
         input,
         output,
-        more,
     }
 }
 
@@ -67,8 +63,7 @@ fn turn<R: Read, W: Write>(
         (take result.input.got chunk.new) }
     ensures reads { Reads kept.input result.input chunk.new
         × Hands kept.output result.output out.new }
-    ensures count_bound { (result.output.count ≤ line_room * result.input.got)
-        × (result.more ≡ goes_on_of result.input result.output) }
+    ensures count_bound { result.output.count ≤ line_room * result.input.got }
 {
     let input = read_chunk(kept.input, from, chunk);
     let got = input.got();
@@ -114,9 +109,9 @@ fn turns<R: Read, W: Write>(
         len: 0,
         input,
         output,
-        more: true,
     };
-    while kept.more {
+    // No index is counted here: the input ends when it ends.
+    while goes_on(kept.input, kept.output) {
         kept = turn(store, kept, line, numbers, answer, out, chunk, from, to);
     }
     kept

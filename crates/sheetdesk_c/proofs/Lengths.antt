@@ -2,13 +2,14 @@
 -- clock-at: a count of a lent clock. one-length: of clocks that are alike.
 -- compared-.., covers-..: clocks that aren't alike, and others. merged-..: the same for a merge.
 -- Assumes nothing.
-use mathlib.Core.Path.{◌≡◌, refl}
-use mathlib.Core.Bool.{Bool, false, So}
+use mathlib.Core.Path.{◌≡◌, refl, ◌∙◌}
+use mathlib.Core.Bool.{Bool, true, false, So}
 use mathlib.Core.List.{List}
 use Prim.Native.Nat.{ℕ, ◌+◌}
 use native.Mathlib.Omega.{arith}
 use lib.Dec.{eqb, leb}
 use lib.ListN.{length, get_or}
+use Rattle.std.specs.Int.{from_bool}
 use Rattle.words.specs.Numbers.{when}
 use Rattle.words.specs.Words.{put}
 use Rattle.words.proofs.Bools.{and_left, eqb-eq}
@@ -41,10 +42,15 @@ pub covers-no : (p q : List ℕ) → alike p q ≡ false → 2 ≡ covers p q
 unfolding covers
 covers-no p q n = rw n
 
+from-when : (b : Bool) → from_bool b ≡ when b 1
+unfolding when
+from-when true = refl
+from-when false = refl
+
 pub covers-test : (p q : List ℕ) (b : Bool) (s : Standing) → So (alike p q) → b ≡ covering s
-    → s ≡ standing (length p) (clock_at p 0) (clock_at q 0) → when b 1 ≡ covers p q
+    → s ≡ standing (length p) (clock_at p 0) (clock_at q 0) → from_bool b ≡ covers p q
 unfolding covers dominates
-covers-test p q b s y e d = rw (y, ← d, e)
+covers-test p q b s y e d = from-when b ∙ rw (y, ← d, e)
 
 pub merged-no : (t s : List ℕ) → alike t s ≡ false → (0 ≡ together t s) × (t ≡ merged t s)
 unfolding together merged when

@@ -5,7 +5,7 @@ ghost use Rattle.clock.specs.Clock.{join, clock_at};
 ghost use Rattle.sheetdesk_c.specs.Pairs.{alike, compared, covers, together, merged};
 
 use clock::count::{count_at, set_count};
-use clock::{compare, covering, standing_number};
+use clock::{compare, covering};
 use sizes::Sizes;
 
 // Whether two clocks can be compared: they have one length, which doesn't exceed the most writers.
@@ -21,12 +21,10 @@ fn raise(target: &mut [u32], source: &[u32], w: usize)
     ensures { target.new ≡ put target.old 0 w
         (join (clock_at target.old 0) (clock_at source.now 0)) }
 {
-    let mut i = 0;
-    while i < w {
+    for i in 0..w {
         let x = count_at(target, i);
         let y = count_at(source, i);
-        set_count(target, i, x.larger(y));
-        i += 1;
+        set_count(target, i, x.max(y));
     }
 }
 
@@ -39,7 +37,7 @@ pub extern "C" fn sheetdesk_compare(p: &[u32], q: &[u32]) -> u32
     if !are_alike(p, q) {
         return 4;
     }
-    standing_number(compare(p, 0, q, 0, p.len()))
+    u32::from(compare(p, 0, q, 0, p.len()))
 }
 
 // Whether clock p covers clock q: 1 or 0, and 2 if the lengths differ or exceed 16.
@@ -50,8 +48,7 @@ pub extern "C" fn sheetdesk_covers(p: &[u32], q: &[u32]) -> u32
     if !are_alike(p, q) {
         return 2;
     }
-    let yes = covering(compare(p, 0, q, 0, p.len()));
-    if yes { 1 } else { 0 }
+    u32::from(covering(compare(p, 0, q, 0, p.len())))
 }
 
 // Merges the source into the target: 1, or 0 with nothing changed if the lengths differ or exceed

@@ -92,7 +92,7 @@ impl Sizes {
 pub fn is_between(x: usize, top: usize) -> bool
     ensures { result ≡ between top x }
 {
-    (1 <= x) & (x <= top)
+    (1..=top).contains(&x)
 }
 
 // Where part i begins, of parts of one size from an index on.

@@ -9,11 +9,11 @@ ghost use Rattle.model.specs.Calls.{stale, ask};
 ghost use Rattle.layout.specs.Buffer.{in_form};
 ghost use Rattle.layout.specs.Calls.{on, call_on};
 
-use answers::Answered;
+use answers::refusal::Refusal;
 use form::header::counts;
 
 // The mask of the stale keys of a site's cache, in a buffer that is in form.
-pub fn stale(words: &[u32], site: u32) -> Answered
+pub fn stale(words: &[u32], site: u32) -> Result<u32, Refusal>
     requires { So (in_form words.now) }
     ensures { answered_words result
         ≡ answer (call_on (on (ask (stale site))) words.now) }
@@ -21,9 +21,9 @@ pub fn stale(words: &[u32], site: u32) -> Answered
     let z = counts(words);
     let o = site as usize;
     if z.sites <= o {
-        return Answered::Refused(3);
+        return Err(Refusal::OutOfRange);
     }
     let site = z.site_at(o);
     let at = z.stale_at(site);
-    Answered::Done(words[at])
+    Ok(words[at])
 }

@@ -2,27 +2,25 @@
 #![tactic(auto)]
 
 ghost use Rattle.std.specs.Prelude.{◌≡◌, ◌<◌};
+ghost use Rattle.states.specs.Rows.{row_number};
 ghost use Rattle.model.specs.Store.{forked_mark, joined_mark};
 ghost use Rattle.model.specs.Outcome.{allowed, free_state, open_state, broken_state, open_row_of, prepare_row, step_row, issue_row, drop_row, fork_row, join_row, forecast_row};
 
-// The calls that ask for a state, in the order of the table's rows.
-pub const OPEN_ROW: u32 = 0;
+// The calls that ask for a state: each has its row of the table.
+#[derive(Clone, Copy, PartialEq, Eq, Debug)]
+pub enum Row {
+    Open = 0,
+    Prepare = 1,
+    Step = 2,
+    Issue = 3,
+    Drop = 4,
+    Fork = 5,
+    Join = 6,
+    Forecast = 7,
+}
 
-pub const PREPARE_ROW: u32 = 1;
-
-pub const STEP_ROW: u32 = 2;
-
-pub const ISSUE_ROW: u32 = 3;
-
-pub const DROP_ROW: u32 = 4;
-
-pub const FORK_ROW: u32 = 5;
-
-pub const JOIN_ROW: u32 = 6;
-
-pub const FORECAST_ROW: u32 = 7;
-
-// The states of a run, in the order of the table's columns.
+// The states of a run, in the order of the table's columns. They and the marks are plain numbers,
+// since they are words of a buffer that other programs write too.
 pub const FREE_STATE: u32 = 0;
 
 pub const OPEN_STATE: u32 = 1;
@@ -63,24 +61,24 @@ const ALLOWED: [u8; 24] = [
 ];
 
 // May the call be made on a run in this state?
-pub fn is_allowed(call: u32, state: u32) -> bool
-    requires { (call < 8) × (state < 3) }
-    ensures { result ≡ allowed call state }
+pub fn is_allowed(row: Row, state: u32) -> bool
+    requires { state < 3 }
+    ensures { result ≡ allowed (row_number row) state }
 {
-    let at = words::wide(call * 3 + state);
+    let at = (row as u32 * 3 + state) as usize;
     ALLOWED[at] == 1
 }
 
 // The rows, states and marks above are those of the definitions.
 pub fn numbers()
-    ensures open { OPEN_ROW ≡ open_row_of }
-    ensures prepare { PREPARE_ROW ≡ prepare_row }
-    ensures step { STEP_ROW ≡ step_row }
-    ensures issue { ISSUE_ROW ≡ issue_row }
-    ensures drop { DROP_ROW ≡ drop_row }
-    ensures fork { FORK_ROW ≡ fork_row }
-    ensures join { JOIN_ROW ≡ join_row }
-    ensures forecast { FORECAST_ROW ≡ forecast_row }
+    ensures open { row_number Row.Open ≡ open_row_of }
+    ensures prepare { row_number Row.Prepare ≡ prepare_row }
+    ensures step { row_number Row.Step ≡ step_row }
+    ensures issue { row_number Row.Issue ≡ issue_row }
+    ensures drop { row_number Row.Drop ≡ drop_row }
+    ensures fork { row_number Row.Fork ≡ fork_row }
+    ensures join { row_number Row.Join ≡ join_row }
+    ensures forecast { row_number Row.Forecast ≡ forecast_row }
     ensures free_state { FREE_STATE ≡ free_state }
     ensures open_state { OPEN_STATE ≡ open_state }
     ensures broken_state { BROKEN_STATE ≡ broken_state }

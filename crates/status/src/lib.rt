@@ -5,6 +5,8 @@
 pub mod lent;
 
 ghost use Rattle.std.specs.Prelude.{◌≡◌, ◌+◌, ◌≤◌, ◌<◌, length};
+ghost use Rattle.answers.specs.Refusals.{cause_number};
+ghost use Rattle.states.specs.Rows.{row_number};
 ghost use Rattle.sizes.specs.Runs.{read_offset, plan_offset};
 ghost use Rattle.model.specs.Store.{free_run};
 ghost use Rattle.model.specs.Outcome.{run_cause};
@@ -13,28 +15,28 @@ ghost use Rattle.layout.specs.Stored.{put_run};
 ghost use Rattle.form.specs.Parts.{RunArea, FormWith};
 ghost use Rattle.status.specs.Lent.{status_at, put_status, freed, marked, spoiled};
 
+use answers::refusal::Refusal;
 use lent::{RunStatus, freed, marked, spoiled};
 use sizes::Counts;
 use sizes::run::RunOffset;
-use states::is_allowed;
+use states::{Row, is_allowed};
 use words::zero;
 
-// The first cause for which a call on run r is refused: there is no such run, or its state isn't
-// one that the call, a row of the table, allows. 0: none.
-pub fn run_cause(words: &[u32], z: Counts, row: u32, r: usize) -> u32
-    requires form_with { FormWith words.now z }
-    requires row_bound { row < 8 }
-    ensures { result ≡ run_cause (store_of words.now) row r 0 }
+// Why a call on run r is refused by the run alone: there is no such run, or its state isn't one
+// that the call, a row of the table, allows.
+pub fn run_cause(words: &[u32], z: Counts, row: Row, r: usize) -> Result<(), Refusal>
+    requires { FormWith words.now z }
+    ensures { cause_number result
+        ≡ run_cause (store_of words.now) (row_number row) r 0 }
 {
-    let runs = z.runs;
-    if runs <= r {
-        return 3;
+    if z.runs <= r {
+        return Err(Refusal::OutOfRange);
     }
     let at = z.run_at(r);
     if !is_allowed(row, words[at]) {
-        return 4;
+        return Err(Refusal::WrongState);
     }
-    0
+    Ok(())
 }
 
 // Makes the run at an index a free one: all its words are zero.

@@ -1,5 +1,4 @@
 -- What step comes to on a buffer in form: step-refused, by its cause; step-broken; step-done.
--- few-stepped: how many words its answer has.
 -- Assumes nothing.
 use mathlib.Core.Path.{◌≡◌, refl, sym, ap, ◌∙◌}
 use mathlib.Core.Bool.{cond, So, ◌&&◌}
@@ -29,6 +28,8 @@ use Rattle.trial.proofs.Finds.{found-counts, found-run, found-taken, found-pulle
 use Rattle.step.proofs.Divisions.{from-snapshot, from-cache, from-master}
 use native.Mathlib.Omega.{arith}
 use Rattle.answers.specs.Answers.{max_answer}
+use Rattle.std.specs.Prelude.{Result, Ok, Err}
+use Rattle.answers.specs.declared.refusal.Refusal.{Refusal}
 use Rattle.step.specs.declared.Stepped.{Stepped}
 use Rattle.step.specs.Answers.{stepped_words}
 
@@ -117,10 +118,3 @@ module _ (l : List ℕ) (z : Counts) (r j n : ℕ) (v : Visit) (t : Trial)
       step_rule_lem r j n s ∙ rw (moved, none) in
       ends-done (step r j n) l (step_cause s r j n) (step_done s r j n) F.form.form rule
       F.free _ m divided e
-
--- How many words the answer has.
-pub few-stepped : (r : Stepped) → length (stepped_words r) ≤ max_answer
-unfolding stepped_words
-few-stepped (Stepped.Done a b c) = omega arith
-few-stepped (Stepped.Broken m) = omega arith
-few-stepped (Stepped.Refused n) = omega arith

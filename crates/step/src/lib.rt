@@ -14,29 +14,30 @@ ghost use Rattle.layout.specs.Reading.{store_of};
 ghost use Rattle.layout.specs.Buffer.{in_form};
 ghost use Rattle.layout.specs.Calls.{on, call_on, leaves};
 ghost use Rattle.trial.specs.Trials.{Finds};
-ghost use Rattle.step.specs.Answers.{stepped_words};
+ghost use Rattle.step.specs.Answers.{outcome_words, stepped_words};
+ghost use Rattle.step.specs.Few.{few-outcome};
 
-use answers::put_two;
+use answers::refusal::Refusal;
+use answers::{Answer, put_two};
 use fetching::take_keys;
 use form::header::counts;
 use masks::{with_item, without};
 use sizes::Counts;
 use sizes::run::RunOffset;
 use status::{mark_broken, mark_done};
-use trial::{Trial, Tried, Visit, try_job};
+use trial::{Trial, Visit, try_job};
 use version::merge::merge_keys;
 
 // The reads from the snapshot, from the cache and from the master; or the keys that would move
-// though the branch has read them; or the cause's number.
-#[derive(Clone, Copy)]
+// though the branch has read them.
+#[derive(Clone, Copy, PartialEq, Eq, Debug)]
 pub enum Stepped {
     Done(u32, u32, u32),
     Broken(u32),
-    Refused(u32),
 }
 
 // A job of a run reads its keys, on a branch (CR 10: a line).
-pub fn step(words: &mut [u32], run: u32, job: u32, line: u32) -> Stepped
+pub fn step(words: &mut [u32], run: u32, job: u32, line: u32) -> Result<Stepped, Refusal>
     requires { So (in_form words.old) }
     ensures answers { stepped_words result
         ≡ answer (call_on (on (step run job line)) words.old) }
@@ -46,11 +47,8 @@ pub fn step(words: &mut [u32], run: u32, job: u32, line: u32) -> Stepped
     let z = counts(words);
     let r = run as usize;
     let n = line as usize;
-    let tried = try_job(words, z, r, job as usize, n);
-    match tried {
-        Tried::Refused(no) => Stepped::Refused(no),
-        Tried::Found(visit, trial) => act(words, z, r, job, n, visit, trial),
-    }
+    let (visit, trial) = try_job(words, z, r, job as usize, n)?;
+    Ok(act(words, z, r, job, n, visit, trial))
 }
 
 // Breaks the run or finishes the job, by what the trial found.
@@ -64,7 +62,7 @@ fn act(
     trial: Trial,
 ) -> Stepped
     requires { Finds words.old z r job n visit trial }
-    ensures answers { stepped_words result
+    ensures answers { stepped_words (Ok result)
         ≡ answer (call_on (on (step r job n)) words.old) }
     ensures leaves { words.new
         ≡ leaves (call_on (on (step r job n)) words.old) words.old }
@@ -119,14 +117,15 @@ fn put_masks(answer: &mut [u32], a: u32, b: u32, c: u32) -> usize
     4
 }
 
-// Puts the words of the answer.
-pub fn put_stepped(answer: &mut [u32], r: Stepped) -> usize
-    requires { answer_room ≤ length answer.old }
-    ensures { Lays (stepped_words r) answer.old answer.new result }
-{
-    match r {
-        Stepped::Done(a, b, c) => put_masks(answer, a, b, c),
-        Stepped::Broken(mask) => put_two(answer, 1, mask),
-        Stepped::Refused(no) => put_two(answer, 2, no),
+impl Answer for Stepped {
+    ghost words = { outcome_words };
+
+    fn put(self, answer: &mut [u32]) -> usize {
+        match self {
+            Stepped::Done(a, b, c) => put_masks(answer, a, b, c),
+            Stepped::Broken(mask) => put_two(answer, 1, mask),
+        }
     }
+
+    ghost few = { few-outcome };
 }

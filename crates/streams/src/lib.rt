@@ -13,8 +13,9 @@ use std::io;
 use std::io::{Read, Write};
 
 // What was read. all: how many bytes. got: how many by the last read, to the front of a buffer of
-// room bytes. ended: it delivered none, at the end of the input or because it failed.
-#[derive(Clone, Copy)]
+// room bytes. ended: it delivered none, at the end of the input or because it failed; no Option,
+// since Reads tells the counts then too.
+#[derive(Clone, Copy, Default)]
 pub struct Input {
     all: usize,
     got: usize,
@@ -23,8 +24,9 @@ pub struct Input {
 }
 
 // What was handed to write. all: how many bytes. count: how many the last time, from the front of
-// a buffer of room bytes. failed: write didn't take them all.
-#[derive(Clone, Copy)]
+// a buffer of room bytes. failed: write didn't take them all; no Result, since Hands tells the
+// counts then too.
+#[derive(Clone, Copy, Default)]
 pub struct Output {
     all: usize,
     count: usize,
@@ -36,10 +38,7 @@ pub struct Output {
 fn delivered(told: io::Result<usize>, most: usize) -> usize
     ensures { result ≡ told_len told most }
 {
-    match told {
-        Ok(n) => n.min(most),
-        Err(_) => 0,
-    }
+    told.map_or(0, |n| n.min(most))
 }
 
 impl Input {
@@ -47,12 +46,7 @@ impl Input {
     pub fn none() -> Input
         ensures { (result.all ≡ 0) × (result.ended ≡ false) }
     {
-        Input {
-            all: 0,
-            got: 0,
-            room: 0,
-            ended: false,
-        }
+        Input::default()
     }
 
     pub fn got(self) -> usize
@@ -82,12 +76,7 @@ impl Output {
     pub fn none() -> Output
         ensures { (result.all ≡ 0) × (result.failed ≡ false) }
     {
-        Output {
-            all: 0,
-            count: 0,
-            room: 0,
-            failed: false,
-        }
+        Output::default()
     }
 
     pub fn failed(self) -> bool

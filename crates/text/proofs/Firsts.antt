@@ -1,22 +1,26 @@
 -- The first field of a line.
--- fields-some: a line has one. field_from: the fields, where the first goes on after other bytes.
--- field-start, field-more: nothing, one byte more in front. field_space, field_end: where it ends.
--- first-is: the first field told by its length. begin-apart: of a word that begins otherwise.
+-- fields-some: a line has one. field-split: where it ends. first-is: the first field told by its
+-- length. same-bytes: words compared by `==`. or-all: the place of a byte, or past the last.
 -- Assumes nothing.
 use mathlib.Core.Path.{◌≡◌, refl, sym, ap}
-use mathlib.Core.Bool.{Bool, true, false, So, cond, not}
-use mathlib.Core.Logic.{◌≢◌}
-use mathlib.Core.List.{List, [], ◌∷◌, ◌++◌, append_assoc, append-nil}
-use Prim.Native.Nat.{ℕ, suc, ◌+◌, ◌-◌, ◌<◌, ◌≤◌}
+use mathlib.Core.Bool.{Bool, true, false, cond, not, ◌&&◌}
+use mathlib.Core.List.{List, [], ◌∷◌}
+use Prim.Native.Nat.{ℕ, suc, ◌+◌, ◌-◌, ◌≤◌}
 use native.Mathlib.Numerals.{add-one}
+use native.Mathlib.Decide.{dec_lt}
 use native.Mathlib.Omega.{arith}
 use lib.Dec.{eqb}
-use lib.ListN.{length, get_or, drop, take, drop_of_length-le}
-use lib.Seq.{drop-cons, take-suc}
-use borrow.Author.Tests.{eq-eqb, ne_eqb, lt-ltb, le-ltb}
-use Rattle.words.proofs.Bools.{clash}
+use lib.ListN.{length, take}
+use borrow.Author.Tests.{lt-ltb, le-ltb}
+use Rattle.std.specs.List.{position, position_or_len}
+use Rattle.std.specs.Cmp.Lexicographic.{pointwise}
+use Rattle.std.specs.Prelude.{nat_eq, unwrap_or}
+use Rattle.std.proofs.lemmas.List.Sums.{prefix_len-le-length}
 use Rattle.text.specs.Bytes.{same_bytes}
 use Rattle.text.specs.Fields.{in_first_of, fields_of, first_of, fields_after}
+
+abbrev space : ℕ → Bool
+space b = eqb b 32
 
 pub fields-some {κ} : (P : List (List ℕ) → Type κ)
     → ((f : List ℕ) (fs : List (List ℕ)) → P (f ∷ fs)) → (l : List ℕ) → P (fields_of l)
@@ -29,62 +33,59 @@ fields-some P k (b ∷ bs) = go (eqb b 32) (fields_of bs)
     go false [] = k (b ∷ []) []
     go false (f ∷ fs) = k (b ∷ f) fs
 
-unfoldable pub field_from : List ℕ → List (List ℕ) → List (List ℕ)
-field_from p [] = p ∷ []
-field_from p (f ∷ fs) = (p ++ f) ∷ fs
+-- A first field that is a byte longer leaves the same fields after it.
+after-suc : (b : ℕ) (bs : List ℕ) (n : ℕ) → fields_after n bs ≡ fields_after (suc n) (b ∷ bs)
+unfolding fields_after
+after-suc b bs n = elim (dec_lt n (length bs)) [
+  | yes h ↦
+      let e : suc n + 1 ≡ suc (suc n) = omega arith in
+      rw (lt-ltb n (length bs) h, lt-ltb (suc n) (suc (length bs)) (omega arith), e, add-one) refl
+  | no h ↦ rw (le-ltb n (length bs) (omega arith), le-ltb (suc n) (suc (length bs)) (omega arith))
+]
 
-pub field-start : (l : List ℕ) → fields_of l ≡ field_from [] (fields_of l)
-unfolding field_from
-field-start l = fields-some (λ (F : List (List ℕ)). F ≡ field_from [] F) (λ f fs. refl) l
+parts-more : (b : ℕ) (bs : List ℕ) (n : ℕ) (t : Bool)
+    → fields_of bs ≡ take n bs ∷ fields_after n bs
+    → cond t ([] ∷ fields_of bs) (in_first_of b (fields_of bs))
+    ≡ take (cond (not t) (1 + n) 0) (b ∷ bs) ∷ fields_after (cond (not t) (1 + n) 0) (b ∷ bs)
+unfolding in_first_of fields_after
+parts-more b bs n true e = rw (lt-ltb 0 (suc (length bs)) (omega arith)) refl
+parts-more b bs n false e =
+    let f : 1 + n ≡ suc n = omega arith in
+    rw (e, f)
+    (ap (λ (F : List (List ℕ)). (b ∷ take n bs) ∷ F) (after-suc b bs n))
 
-field_in : (p : List ℕ) (b : ℕ) (F : List (List ℕ))
-    → field_from p (in_first_of b F) ≡ field_from (p ++ (b ∷ [])) F
-unfolding field_from in_first_of
-field_in p b [] = refl
-field_in p b (f ∷ fs) = ap (λ (q : List ℕ). q ∷ fs) (sym (append_assoc p (b ∷ []) f))
+parts : (l : List ℕ)
+    → fields_of l ≡ take (position_or_len space l) l ∷ fields_after (position_or_len space l) l
+unfolding fields_of fields_after
+parts [] = refl
+parts (b ∷ bs) = parts-more b bs (position_or_len space bs) (space b) (parts bs)
 
-module _ (l : List ℕ) (i : ℕ) where
-  pub field-more : i < length l → (get_or l i 0 ≡ 32 → ⊥)
-      → field_from (take i l) (fields_of (drop i l))
-      ≡ field_from (take (i + 1) l) (fields_of (drop (i + 1) l))
-  unfolding fields_of
-  field-more h n =
-      rw (add-one, take-suc l i 0, drop-cons l i 0, ne_eqb (get_or l i 0) 32 n)
-      (field_in (take i l) (get_or l i 0) (fields_of (drop (suc i) l)))
-
-  pub field_space : i < length l → get_or l i 0 ≡ 32
-      → field_from (take i l) (fields_of (drop i l)) ≡ take i l ∷ fields_after i l
-  unfolding fields_of field_from fields_after
-  field_space h e =
-      rw (drop-cons l i 0, eq-eqb (get_or l i 0) 32 e, lt-ltb i (length l) h, append-nil, add-one)
-
-  pub field_end : length l ≤ i
-      → field_from (take i l) (fields_of (drop i l)) ≡ take i l ∷ fields_after i l
-  unfolding fields_of field_from fields_after
-  field_end h = rw (drop_of_length-le l h, le-ltb i (length l) h, append-nil)
+-- The fields of a line, told by the place of its first space.
+pub field-split : (l : List ℕ) (n : ℕ) → n ≡ position_or_len space l
+    → (n ≤ length l) × (fields_of l ≡ take n l ∷ fields_after n l)
+field-split l n e = rw e (prefix_len-le-length (λ b. not (space b)) l, parts l)
 
 pub first-is : (l : List ℕ) (n : ℕ) (fs : List (List ℕ)) → fields_of l ≡ take n l ∷ fs
     → first_of l ≡ take (n - 0) l
 unfolding first_of
 first-is l n fs e = let z : n - 0 ≡ n = omega arith in rw (z, e)
 
--- ---- words that begin with different bytes
+-- ---- words compared byte by byte
 
-apart-at : (x y : ℕ) (xs : List ℕ) (t : Bool) (F : List (List ℕ)) → eqb x y ≡ false
-    → same_bytes (x ∷ xs) (get_or (cond t ([] ∷ F) (in_first_of y F)) 0 []) ≡ false
-unfolding same_bytes in_first_of
-apart-at x y xs true F e = refl
-apart-at x y xs false [] e = rw e refl
-apart-at x y xs false (f ∷ fs) e = rw e refl
+pub same-bytes : (s w : List ℕ) → pointwise nat_eq s w ≡ same_bytes s w
+unfolding same_bytes
+same-bytes [] [] = refl
+same-bytes [] (y ∷ ys) = refl
+same-bytes (x ∷ xs) [] = refl
+same-bytes (x ∷ xs) (y ∷ ys) = ap (λ (t : Bool). nat_eq x y && t) (same-bytes xs ys)
 
-no_eqb : (b : Bool) → So (not b) → b ≡ false
-no_eqb true h = clash h refl
-no_eqb false h = refl
-
-pub begin-apart : (w l : List ℕ) → length w ≢ 0 → length l ≢ 0
-    → So (not (eqb (get_or w 0 0) (get_or l 0 0))) → same_bytes w (first_of l) ≡ false
-unfolding first_of fields_of
-begin-apart [] l h g d = absurd (h refl)
-begin-apart (x ∷ xs) [] h g d = absurd (g refl)
-begin-apart (x ∷ xs) (y ∷ ys) h g d =
-    apart-at x y xs (eqb y 32) (fields_of ys) (no_eqb (eqb x y) d)
+-- The place of the first element that passes, or past the last.
+pub or-all : (p : ℕ → Bool) (xs : List ℕ)
+    → unwrap_or (position p xs) (length xs) ≡ position_or_len p xs
+or-all p xs = elim (dec_lt (position_or_len p xs) (length xs)) [
+  | yes h ↦ rw (lt-ltb _ _ h)
+  | no h ↦
+      let m = prefix_len-le-length (λ x. not (p x)) xs in
+      let e : position_or_len p xs ≡ length xs = omega arith in
+      rw (le-ltb (position_or_len p xs) (length xs) (omega arith)) (sym e)
+]

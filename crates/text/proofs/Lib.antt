@@ -1,5 +1,4 @@
 pub mod Examples
-pub mod Same
 pub mod Firsts
 pub mod Scans
 pub mod Decimals

@@ -1,7 +1,7 @@
 -- How the numbers of a line's fields come up byte by byte.
 -- number_from, first_from: a number, and the numbers of fields, where the first goes on after
--- others worth v. told_from: the numbers xs and those from place i on.
--- The laws: what a byte at place i, or the line's end, makes of them.
+-- others worth v. in_range: of the digits so far. told_from: the numbers xs and those from place i
+-- on. The laws: what a byte at place i, or the line's end, makes of them.
 -- Assumes nothing.
 use mathlib.Core.Path.{◌≡◌, refl, sym, ap, ◌∙◌}
 use mathlib.Core.Bool.{Bool, true, false, cond, not, ◌&&◌, ◌||◌}
@@ -14,7 +14,8 @@ use lib.Dec.{leb}
 use lib.ListN.{length, get_or, drop, take, set, drop_of_length-le}
 use lib.Seq.{drop-cons, take-suc-set}
 use borrow.Author.Tests.{eq-eqb, ne_eqb, le-leb, lt-leb}
-use Rattle.words.proofs.Bools.{and_left, and_right, and-false-right, leb-le}
+use Rattle.std.specs.Prelude.{Option as Answer, Some, None, is_some, unwrap_or, IfSome}
+use Rattle.words.proofs.Bools.{and-false-right}
 use Rattle.text.proofs.Firsts.{fields-some}
 use Rattle.text.specs.Fields.{in_first_of, fields_of, is_digit_of, digits_only, value_from, is_empty, max_number, number_of, number_before, numbers_of}
 
@@ -32,16 +33,14 @@ unfoldable pub behind : List ℕ → Option (List ℕ) → Option (List ℕ)
 behind xs none = none
 behind xs (some ns) = some (xs ++ ns)
 
-abbrev pub told_from : List ℕ → ℕ → Bool → ℕ → List ℕ → Option (List ℕ)
-told_from s i any v xs = behind xs (first_from any v (fields_of (drop i s)))
+-- Some digits, worth v, or none yet.
+abbrev pub in_range : Answer ℕ → Type 0
+in_range o = IfSome o (λ v. v ≤ max_number)
+
+abbrev pub told_from : List ℕ → ℕ → Answer ℕ → List ℕ → Option (List ℕ)
+told_from s i o xs = behind xs (first_from (is_some o) (unwrap_or o 0) (fields_of (drop i s)))
 
 -- ---- one field
-
-pub digit-range : (b : ℕ) → is_digit_of b ≡ true → (48 ≤ b) × (b ≤ 57)
-digit-range b d = (
-  leb-le 48 b (and_left (leb 48 b) (leb b 57) d),
-  leb-le b 57 (and_right (leb 48 b) (leb b 57) d),
-)
 
 value_grows : (v : ℕ) (f : List ℕ) → v ≤ value_from v f
 unfolding value_from
@@ -108,9 +107,8 @@ unfolding behind number_before
 behind-number xs v none = refl
 behind-number xs v (some ns) = ap some (sym (append_assoc xs (v ∷ []) ns))
 
-pub told-start : (s : List ℕ) (at : ℕ)
-    → told_from s at false 0 [] ≡ numbers_of (fields_of (drop at s))
-told-start s at = behind-none _ ∙ first-start (drop at s)
+pub told-start : (s : List ℕ) → told_from s 0 None [] ≡ numbers_of (fields_of s)
+told-start s = behind-none _ ∙ first-start s
 
 -- A store at the end of the first k.
 pub stored : (l : List ℕ) (k v : ℕ) → k < length l
@@ -119,47 +117,56 @@ stored l k v h = rw add-one (take-suc-set l k v h)
 
 -- ---- a byte at place i
 
-module _ (s : List ℕ) (i v : ℕ) (any : Bool) (xs : List ℕ) (h : i < length s) where
+module _ (s : List ℕ) (i : ℕ) (xs : List ℕ) (h : i < length s) where
   at_space : get_or s i 0 ≡ 32 → fields_of (drop i s) ≡ [] ∷ fields_of (drop (i + 1) s)
   unfolding fields_of
   at_space e = rw (drop-cons s i 0, add-one) (simp (eq-eqb _ _ e))
 
-  pub gap : get_or s i 0 ≡ 32 → any ≡ false → told_from s i any v xs ≡ none
+  pub gap : get_or s i 0 ≡ 32 → told_from s i None xs ≡ none
   unfolding first_from number_from number_before is_empty behind
-  gap e n = rw (at_space e, n)
+  gap e = rw (at_space e)
 
-  pub number : get_or s i 0 ≡ 32 → any ≡ true → v ≤ max_number
-      → told_from s i any v xs ≡ told_from s (i + 1) false 0 (xs ++ (v ∷ []))
+  pub number : (v : ℕ) → get_or s i 0 ≡ 32 → v ≤ max_number
+      → told_from s i (Some v) xs ≡ told_from s (i + 1) None (xs ++ (v ∷ []))
   unfolding first_from
-  number e y m =
-      rw (at_space e, y, number-ends v m, first-start (drop (i + 1) s))
+  number v e m =
+      rw (at_space e, number-ends v m, first-start (drop (i + 1) s))
       (behind-number xs v (numbers_of (fields_of (drop (i + 1) s))))
 
-  module _ (ns : get_or s i 0 ≡ 32 → ⊥) where
+  module _ (o : Answer ℕ) (ns : get_or s i 0 ≡ 32 → ⊥) where
     at_other : fields_of (drop i s) ≡ in_first_of (get_or s i 0) (fields_of (drop (i + 1) s))
     unfolding fields_of
     at_other = rw (drop-cons s i 0, add-one) (simp (ne_eqb _ _ ns))
 
-    pub other : is_digit_of (get_or s i 0) ≡ false → told_from s i any v xs ≡ none
+    pub other : is_digit_of (get_or s i 0) ≡ false → told_from s i o xs ≡ none
     unfolding behind
-    other n = rw (at_other, first-other any v (get_or s i 0) (fields_of (drop (i + 1) s)) n)
+    other n =
+        rw (
+          at_other,
+          first-other (is_some o) (unwrap_or o 0) (get_or s i 0) (fields_of (drop (i + 1) s)) n,
+        )
 
     pub digit : is_digit_of (get_or s i 0) ≡ true
-        → told_from s i any v xs ≡ told_from s (i + 1) true (v * 10 + (get_or s i 0 - 48)) xs
-    digit d = rw (at_other, first-digit any v (get_or s i 0) (fields_of (drop (i + 1) s)) d)
+        → told_from s i o xs
+        ≡ told_from s (i + 1) (Some (unwrap_or o 0 * 10 + (get_or s i 0 - 48))) xs
+    digit d =
+        rw (
+          at_other,
+          first-digit (is_some o) (unwrap_or o 0) (get_or s i 0) (fields_of (drop (i + 1) s)) d,
+        )
 
     pub over : is_digit_of (get_or s i 0) ≡ true
-        → max_number < v * 10 + (get_or s i 0 - 48) → told_from s i any v xs ≡ none
+        → max_number < unwrap_or o 0 * 10 + (get_or s i 0 - 48) → told_from s i o xs ≡ none
     unfolding behind
-    over d o =
-        let n = v * 10 + (get_or s i 0 - 48) in
-        digit d ∙ rw (first-over n (fields_of (drop (i + 1) s)) o)
+    over d m =
+        let n = unwrap_or o 0 * 10 + (get_or s i 0 - 48) in
+        digit d ∙ rw (first-over n (fields_of (drop (i + 1) s)) m)
 
-module _ (s : List ℕ) (i v : ℕ) (any : Bool) (xs : List ℕ) (h : length s ≤ i) where
-  pub ends-bare : any ≡ false → told_from s i any v xs ≡ none
+module _ (s : List ℕ) (i : ℕ) (xs : List ℕ) (h : length s ≤ i) where
+  pub ends-bare : told_from s i None xs ≡ none
   unfolding fields_of first_from number_from number_before is_empty behind
-  ends-bare n = rw (drop_of_length-le s h, n)
+  ends-bare = rw (drop_of_length-le s h)
 
-  pub ends : any ≡ true → v ≤ max_number → told_from s i any v xs ≡ some (xs ++ (v ∷ []))
+  pub ends : (v : ℕ) → v ≤ max_number → told_from s i (Some v) xs ≡ some (xs ++ (v ∷ []))
   unfolding fields_of first_from number_before behind numbers_of
-  ends y m = rw (drop_of_length-le s h, y, number-ends v m)
+  ends v m = rw (drop_of_length-le s h, number-ends v m)

@@ -5,8 +5,7 @@
 -- Assumes nothing.
 use Rattle.std.specs.Prelude.{Bool, true, false, cond, not, ◌&&◌, List, [], ◌∷◌, ℕ, ◌+◌, ◌*◌, ◌-◌, eqb, leb, ltb, length, get_or, take, drop}
 use Rattle.std.proofs.Math.Option.{Option, none, some}
-use Rattle.text.specs.declared.Count.{Count}
-use Rattle.text.specs.declared.Count.TheVariants.{Of, Unread}
+use Rattle.std.specs.Prelude.{Option as Answer, None, Some}
 
 -- A byte in front of the first field.
 unfoldable pub in_first_of : ℕ → List (List ℕ) → List (List ℕ)
@@ -65,12 +64,12 @@ unfoldable pub numbers_of : List (List ℕ) → Option (List ℕ)
 numbers_of [] = some []
 numbers_of (f ∷ fs) = number_before (number_of f) (numbers_of fs)
 
--- What `text::numbers` tells: its answer, and the words that it left.
-unfoldable pub numbers_in : Count → List ℕ → Option (List ℕ)
-numbers_in (Of n) l = some (take n l)
-numbers_in Unread l = none
+-- What `text::numbers` tells: its answer, how many numbers there are, and the words that it left.
+unfoldable pub numbers_in : Answer ℕ → List ℕ → Option (List ℕ)
+numbers_in (Some n) l = some (take n l)
+numbers_in None l = none
 
 -- How many they are.
-unfoldable pub how_many : Count → ℕ
-how_many (Of n) = n
-how_many Unread = 0
+unfoldable pub how_many : Answer ℕ → ℕ
+how_many (Some n) = n
+how_many None = 0

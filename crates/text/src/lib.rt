@@ -1,18 +1,12 @@
 // Lines of text as bytes: words compared, numbers read, bytes and numbers put.
 #![tactic(auto)]
 
-ghost use Rattle.std.specs.Prelude.{◌≡◌, false, [], ◌∷◌, ◌++◌, ◌+◌, ◌-◌, ◌≤◌, ◌<◌, length, drop, take};
-ghost use Rattle.std.proofs.Math.Bool.{So};
+ghost use Rattle.std.specs.Prelude.{◌≡◌, ◌==◌, true, false, [], ◌∷◌, ◌++◌, ◌+◌, ◌-◌, ◌≤◌, ◌<◌, length, drop, take, MatchOption};
+ghost use Rattle.std.specs.List.{position_or_len};
+ghost use Rattle.std.proofs.Math.Seq.{paste};
 ghost use Rattle.text.specs.Bytes.{same_bytes};
 ghost use Rattle.text.specs.Decimal.{decimal_of};
 ghost use Rattle.text.specs.Fields.{fields_of, fields_after, first_of, is_digit_of, max_number, numbers_of, numbers_in, how_many};
-
-// How many numbers there are, or that a field is no number.
-#[derive(Clone, Copy)]
-pub enum Count {
-    Of(usize),
-    Unread,
-}
 
 // The largest number that a field spells.
 pub const MAX_NUMBER: u64 = 4294967295;
@@ -26,20 +20,14 @@ pub fn limits()
 pub fn is_word(s: &[u8], w: &[u8]) -> bool
     ensures { result ≡ same_bytes s.now w.now }
 {
-    let mut i = 0;
-    while i < s.len() {
-        if w.len() <= i {
-            return false;
-        }
-        if s[i] != w[i] {
-            return false;
-        }
-        i += 1;
-    }
-    if i < w.len() {
-        return false;
-    }
-    true
+    s == w
+}
+
+// How many bytes of a line stand before the first that is the given one; all, where none is.
+pub fn bytes_before(line: &[u8], byte: u8) -> usize
+    ensures { result ≡ position_or_len (λ b. b == byte) line.now }
+{
+    line.iter().position(|b| *b == byte).unwrap_or(line.len())
 }
 
 // How long a line's first field is.
@@ -47,111 +35,58 @@ pub fn first_field(line: &[u8]) -> usize
     ensures { (result ≤ length line.now) × (fields_of line.now
         ≡ take result line.now ∷ fields_after result line.now) }
 {
-    let mut i = 0;
-    while i < line.len() {
-        if line[i] == 32 {
-            return i;
-        }
-        i += 1;
-    }
-    i
+    bytes_before(line, b' ')
 }
 
-// Whether word and line begin with different bytes, which tells most words apart at once.
-fn begins_apart(word: &[u8], line: &[u8]) -> bool
-    ensures { So result
-        → same_bytes word.now (first_of line.now) ≡ false }
+// What one of `0` to `9` is worth.
+fn digit(b: u8) -> Option<u64>
+    ensures { MatchOption result (is_digit_of b ≡ false)
+        (λ d. (is_digit_of b ≡ true) × (d ≡ b - 48) × (d ≤ 9)) }
 {
-    if word.len() == 0 {
-        return false;
+    match b {
+        b'0'..=b'9' => Some(u64::from(b - b'0')),
+        _ => None,
     }
-    if line.len() == 0 {
-        return false;
-    }
-    word[0] != line[0]
 }
 
-// Whether a word is a line's first field. In a table, spaces fill what a word leaves of its row.
-pub fn is_first(word: &[u8], line: &[u8]) -> bool
-    ensures { result ≡ same_bytes word.now (first_of line.now) }
-{
-    if begins_apart(word, line) {
-        return false;
-    }
-    let n = first_field(line);
-    is_word(word, &line[0..n])
-}
-
-// `0` to `9`.
-fn is_digit(b: u8) -> bool
-    ensures { result ≡ is_digit_of b }
-{
-    (48 <= b) & (b <= 57)
-}
-
-// What a digit is worth.
-fn digit_value(b: u8) -> u64
-    requires { (48 ≤ b) × (b ≤ 57) }
-    ensures { (result ≡ b - 48) × (result ≤ 9) }
-{
-    (b - 48) as u64
-}
-
-// The numbers of a line's fields from index at on, to the front of out. Of the field under way, v
-// is what its digits so far are worth, and any tells whether there are some.
-pub fn numbers(line: &[u8], at: usize, out: &mut [u32]) -> Count
+// The numbers of a line's fields from index at on, to the front of out, and how many they are. Of
+// the field under way, number is what its digits so far are worth.
+pub fn numbers(line: &[u8], at: usize, out: &mut [u32]) -> Option<usize>
     requires { (at ≤ length line.now) × (length line.now < length out.old) }
     ensures out_after { numbers_in result out.new
         ≡ numbers_of (fields_of (drop at line.now)) }
     ensures result_in_bounds { how_many result ≤ length out.new }
 {
-    let mut i = at;
     let mut k = 0;
-    let mut v: u64 = 0;
-    let mut any = false;
-    while i < line.len() {
-        let b = line[i];
-        if b == 32 {
-            if !any {
-                return Count::Unread;
-            }
-            out[k] = v as u32;
+    let mut number: Option<u64> = None;
+    for b in &line[at..] {
+        if *b == b' ' {
+            out[k] = number? as u32;
             k += 1;
-            v = 0;
-            any = false;
-            i += 1;
+            number = None;
         } else {
-            if !is_digit(b) {
-                return Count::Unread;
-            }
-            let next = v * 10 + digit_value(b);
+            let next = number.unwrap_or(0) * 10 + digit(*b)?;
             if MAX_NUMBER < next {
-                return Count::Unread;
+                return None;
             }
-            v = next;
-            any = true;
-            i += 1;
+            number = Some(next);
         }
     }
-    if !any {
-        return Count::Unread;
-    }
-    out[k] = v as u32;
-    Count::Of(k + 1)
+    out[k] = number? as u32;
+    Some(k + 1)
 }
 
-// Puts bytes after the first at bytes of out, and answers how many there are then.
+// Puts bytes after the first at bytes of out, and answers how many there are then. Those behind
+// them stay.
 pub fn put_bytes(out: &mut [u8], at: usize, bytes: &[u8]) -> usize
     requires { at + length bytes.now ≤ length out.old }
     ensures { (result ≡ at + length bytes.now)
-        × (take result out.new ≡ take at out.old ++ bytes.now) }
+        × (take result out.new ≡ take at out.old ++ bytes.now)
+        × (out.new ≡ paste out.old at bytes.now (length bytes.now)) }
 {
-    let mut i = 0;
-    while i < bytes.len() {
-        out[at + i] = bytes[i];
-        i += 1;
-    }
-    at + i
+    let end = at + bytes.len();
+    out[at..end].copy_from_slice(bytes);
+    end
 }
 
 // Puts a line's first field after the first at bytes of out.
@@ -182,9 +117,9 @@ pub fn put_number(out: &mut [u8], at: usize, n: u32) -> usize
         × (take result out.new ≡ take at out.old ++ decimal_of n) }
 {
     if n < 10 {
-        put_byte(out, at, 48 + n as u8)
+        put_byte(out, at, b'0' + n as u8)
     } else {
         let end = put_number(out, at, n / 10);
-        put_byte(out, end, 48 + (n % 10) as u8)
+        put_byte(out, end, b'0' + (n % 10) as u8)
     }
 }

@@ -11,8 +11,7 @@ use Rattle.model.specs.Store.{Store}
 use Rattle.model.specs.Step.{step_cause}
 use Rattle.trial.specs.declared.Visit.{Visit}
 use Rattle.trial.specs.declared.Trial.{Trial}
-use Rattle.trial.specs.declared.Tried.{Tried}
-use Rattle.trial.specs.Trials.{visit_of, trial_of, tried_of}
+use Rattle.trial.specs.Trials.{Tried, visit_of, trial_of, tried_of}
 
 is_found_lem : Tried → Bool
 is_found_lem (Tried.Refused n) = false

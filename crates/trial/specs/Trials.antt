@@ -1,8 +1,11 @@
 -- What a step would do, by the model's sets.
--- visit_of: what it looks at. trial_of: T and C. tried_of: refused for its cause, or these.
+-- Tried, tried: what a trial tells. visit_of: what it looks at. trial_of: T and C. tried_of:
+-- refused for its cause, or these.
 -- Finds: what was found.
 -- Assumes nothing.
-use Rattle.std.specs.Prelude.{◌≡◌, cond, List, ℕ, eqb}
+use Rattle.std.specs.Prelude.{◌≡◌, cond, List, ℕ, eqb, Result, Ok, Err}
+use Rattle.answers.specs.declared.refusal.Refusal.{Refusal}
+use Rattle.answers.specs.Refusals.{refusal_number}
 use Rattle.masks.specs.Mask.{mask_below}
 use Rattle.sizes.specs.declared.Counts.{Counts}
 use Rattle.sizes.specs.Bounds.{master_at, site_at, snapshot_at}
@@ -13,7 +16,16 @@ use Rattle.layout.specs.Reading.{store_of}
 use Rattle.form.specs.Parts.{reads_of, FormWith}
 use Rattle.trial.specs.declared.Visit.{Visit}
 use Rattle.trial.specs.declared.Trial.{Trial}
-use Rattle.trial.specs.declared.Tried.{Tried}
+
+-- What a trial tells: the number of the cause for which a step is refused, or what the step looks
+-- at and would do.
+pub data Tried : Type 0 where
+  Refused : ℕ → Tried
+  Found : Visit → Trial → Tried
+
+abbrev pub tried : Result (Visit × Trial) Refusal → Tried
+tried (Ok p) = Tried.Found p.0 p.1
+tried (Err r) = Tried.Refused (refusal_number r)
 
 module _ (s : Store) (r j n : ℕ) where
   -- Site, master, cache and reads (R) of job j of run r, the plan's keys, the snapshot at an

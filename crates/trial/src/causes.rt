@@ -1,17 +1,18 @@
 // The causes of step that its run decides alone: the job's range, the state, the branch, the jobs
 // done.
 ghost use Rattle.std.specs.Prelude.{◌≡◌, ◌^◌, ◌<◌};
+ghost use Rattle.answers.specs.Refusals.{cause_number};
 ghost use Rattle.sizes.specs.Runs.{max_jobs};
 ghost use Rattle.model.specs.Step.{job_limit, off_branch, not_ready, job_cause};
 ghost use Rattle.layout.specs.Reading.{store_of};
 ghost use Rattle.form.specs.Parts.{FormWith};
 
 use crate::jobs::job_of;
+use answers::refusal::Refusal;
 use masks::{has, without};
 use sizes::run::RunOffset;
 use sizes::{Counts, Sizes};
-use states::{FORKED_MARK, FREE_STATE, STEP_ROW, is_allowed};
-use words::wide;
+use states::{FORKED_MARK, FREE_STATE, Row, is_allowed};
 
 // What the number of a job must be below, in a run of this state and number of jobs.
 pub fn job_limit(state: u32, jobs: u32) -> usize
@@ -20,7 +21,7 @@ pub fn job_limit(state: u32, jobs: u32) -> usize
     if state == FREE_STATE {
         Sizes::MAX_JOBS
     } else {
-        wide(jobs)
+        jobs as usize
     }
 }
 
@@ -39,30 +40,30 @@ pub fn is_unready(done: u32, upstream: u32, j: u32) -> bool
     has(done, j) | (without(upstream, done) != 0)
 }
 
-// The first of these causes for which job j of run r is refused on branch n, or 0.
-pub fn job_cause(words: &[u32], z: Counts, r: usize, j: usize, n: usize) -> u32
+// Why job j of run r is refused on branch n, of these causes.
+pub fn job_cause(words: &[u32], z: Counts, r: usize, j: usize, n: usize) -> Result<(), Refusal>
     requires form_with { FormWith words.now z }
     requires r_lt_runs { r < z.runs }
-    ensures { result ≡ job_cause ((store_of words.now).run r) j n 0 }
+    ensures { cause_number result ≡ job_cause ((store_of words.now).run r) j n 0 }
 {
     let at = z.run_at(r);
     let state = words[at];
     let jobs = words[at + RunOffset::JOBS];
     let done = words[at + RunOffset::DONE];
     if job_limit(state, jobs) <= j {
-        return 3;
+        return Err(Refusal::OutOfRange);
     }
-    if !is_allowed(STEP_ROW, state) {
-        return 4;
+    if !is_allowed(Row::Step, state) {
+        return Err(Refusal::WrongState);
     }
     let off = is_off_branch(words[z.mark_at(r)], n);
     let job = job_of(words, z, r, j);
     let unready = is_unready(done, job.upstream, j as u32);
     if off {
-        return 14;
+        return Err(Refusal::WrongLine);
     }
     if unready {
-        return 6;
+        return Err(Refusal::WrongTurn);
     }
-    0
+    Ok(())
 }

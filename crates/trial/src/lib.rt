@@ -10,15 +10,15 @@ ghost use Rattle.sizes.specs.Bounds.{snapshot_at};
 ghost use Rattle.layout.specs.Reading.{store_of};
 ghost use Rattle.form.specs.Parts.{FormWith};
 ghost use Rattle.trial.specs.Jobs.{UsedRun};
-ghost use Rattle.trial.specs.Trials.{visit_of, tried_of};
+ghost use Rattle.trial.specs.Trials.{visit_of, tried, tried_of};
 
+use answers::refusal::Refusal;
 use causes::job_cause;
 use fetching::{find_taken, taking_cause};
 use jobs::{job_of, plan_keys};
 use sets::missing::lacking;
 use sets::{View, draw_set};
 use sizes::Counts;
-use words::wide;
 
 // What a step looks at: the job's site, where three places begin, the plan's keys, the job's reads
 // (R), and what the branch has read.
@@ -40,21 +40,19 @@ pub struct Trial {
     pub pulled: u32,
 }
 
-// The number of the cause for which a step is refused, or what it looks at and would do.
-#[derive(Clone, Copy)]
-pub enum Tried {
-    Refused(u32),
-    Found(Visit, Trial),
-}
-
 // What a step of job j of run r would do on branch n: with that branch's snapshot and read mask.
-pub fn try_job(words: &[u32], z: Counts, r: usize, j: usize, n: usize) -> Tried
+pub fn try_job(
+    words: &[u32],
+    z: Counts,
+    r: usize,
+    j: usize,
+    n: usize,
+) -> Result<(Visit, Trial), Refusal>
     requires { FormWith words.now z }
-    ensures { result ≡ tried_of (store_of words.now) r j n (snapshot_at z r n) }
+    ensures { tried result ≡ tried_of (store_of words.now) r j n (snapshot_at z r n) }
 {
-    let runs = z.runs;
-    if runs <= r {
-        return Tried::Refused(3);
+    if z.runs <= r {
+        return Err(Refusal::OutOfRange);
     }
     try_at(words, z, r, j, n, z.snapshot_on(r, n))
 }
@@ -62,30 +60,31 @@ pub fn try_job(words: &[u32], z: Counts, r: usize, j: usize, n: usize) -> Tried
 // The same, of one of the runs, with where the branch's snapshot stands. T is found once; the site
 // must have the right to it and to what the job reads, even from the snapshot; C is found against
 // the cache seen through T, as the fetch would leave it.
-fn try_at(words: &[u32], z: Counts, r: usize, j: usize, n: usize, snapshot: usize) -> Tried
+fn try_at(
+    words: &[u32],
+    z: Counts,
+    r: usize,
+    j: usize,
+    n: usize,
+    snapshot: usize,
+) -> Result<(Visit, Trial), Refusal>
     requires form_with { FormWith words.now z × (r < z.runs) }
     requires snapshot_value { snapshot ≡ snapshot_at z r n }
-    ensures { result ≡ tried_of (store_of words.now) r j n snapshot }
+    ensures { tried result ≡ tried_of (store_of words.now) r j n snapshot }
 {
-    let early = job_cause(words, z, r, j, n);
-    if early != 0 {
-        return Tried::Refused(early);
-    }
+    job_cause(words, z, r, j, n)?;
     let visit = visit_of(words, z, r, j, n, snapshot);
     let wanted = lacking(words, z, snapshot, visit.reads);
     let start = lacking(words, z, visit.cache, wanted);
     let taken = find_taken(words, z, visit.site, start);
-    let late = taking_cause(words, z, visit.site, visit.reads | taken, taken);
-    if late != 0 {
-        return Tried::Refused(late);
-    }
+    taking_cause(words, z, visit.site, visit.reads | taken, taken)?;
     let source = View {
         mask: taken,
         first: visit.master,
         second: visit.cache,
     };
     let pulled = draw_set(words, z, visit.plan, snapshot, source, wanted);
-    Tried::Found(visit, Trial { taken, pulled })
+    Ok((visit, Trial { taken, pulled }))
 }
 
 // What a step of job j of run r on branch n looks at.
@@ -96,7 +95,7 @@ fn visit_of(words: &[u32], z: Counts, r: usize, j: usize, n: usize, snapshot: us
     let job = job_of(words, z, r, j);
     let plan = plan_keys(words, z, r);
     let areas = z.areas();
-    let site = wide(job.site);
+    let site = job.site as usize;
     let cache = z.site_at(site);
     let read = z.read_on(r, n);
     Visit {

@@ -5,18 +5,19 @@ pub mod mark;
 pub mod merge;
 pub mod moved;
 
-ghost use Rattle.std.specs.Prelude.{◌≡◌, ◌||◌, ◌+◌, ◌≤◌, ◌<◌, length};
+ghost use Rattle.std.specs.Prelude.{◌≡◌, ◌||◌, cond, ℕ, List, ◌+◌, ◌≤◌, ◌<◌, length};
+ghost use denote.Ref.{MutBor};
 ghost use Rattle.words.specs.Words.{Apart};
-ghost use Rattle.words.specs.Numbers.{count_below};
+ghost use Rattle.words.specs.Numbers.{count_below, fold_below};
 ghost use Rattle.masks.specs.Mask.{test_bit, mask_below};
 ghost use Rattle.sizes.specs.Bounds.{place_limit, Ranged, past_size, version_size, key_at, row_at};
 ghost use Rattle.model.specs.Version.{unheld, held, dependency, supersedes, join_pasts};
 ghost use Rattle.layout.specs.Reading.{read_past_of, read_version, read_place};
-ghost use Rattle.version.specs.Places.{put_key, choice, Area, Areas};
+ghost use Rattle.version.specs.Places.{choice, Area, Areas};
 ghost use Rattle.layout.specs.Stored.{put_past, put_version, put_place};
 
 use clock::{compare, covering, merge_into, present};
-use masks::{count_items, has, with_if};
+use masks::{count_items, has, mask_of};
 use numbers::version_issue;
 use sizes::Counts;
 use sizes::past::VersionOffset;
@@ -87,14 +88,7 @@ pub fn held_mask(words: &[u32], z: Counts, at: usize) -> u32
     ensures { result
         ≡ mask_below z.keys (λ k. held (read_place z words.now at k)) }
 {
-    let n = z.keys;
-    let mut mask: u32 = 0;
-    let mut k = 0;
-    while k < n {
-        mask = with_if(held(words, z, at, k), mask, k as u32);
-        k += 1;
-    }
-    mask
+    mask_of(z.keys, |k| held(words, z, at, k as usize))
 }
 
 // How many keys the place holds, with those of a mask.
@@ -140,18 +134,31 @@ pub fn merge_past(words: &mut [u32], z: Counts, to: usize, from: usize)
     merge_into(words, to, from, n);
 }
 
-// Copies key k of the place at src to the place at dst, if it is in the mask.
-fn copy_if(words: &mut [u32], z: Counts, dst: usize, src: usize, mask: u32, k: usize)
+// Takes a step for each key below a number that is in the mask, in turn.
+pub(crate) fn at_keys<F: Fn(&mut [u32], usize)>(words: &mut [u32], keys: usize, mask: u32, step: F)
+    requires keys_le { keys ≤ 32 }
+    requires callable { (l : MutBor (List ℕ)) (k : ℕ) → k < keys
+        → length l.now ≡ length words.old → F.pre step l k }
+    ensures { (f : ℕ → List ℕ → List ℕ) → ((l m : MutBor (List ℕ)) (k : ℕ) → k < keys
+        → length l.now ≡ length words.old → F.post step l k tt m → m.now ≡ f k l.now)
+        → words.new ≡ fold_below keys (λ k l. cond (test_bit mask k) (f k l) l) words.old }
+{
+    for k in 0..keys {
+        if has(mask, k as u32) {
+            step(words, k);
+        }
+    }
+}
+
+// Copies key k of the place at src to the place at dst.
+fn copy_key(words: &mut [u32], z: Counts, dst: usize, src: usize, k: usize)
     requires areas { Areas (length words.old) z dst src }
     requires k_lt_keys { k < z.keys }
-    ensures { words.new ≡ put_key z words.old dst (test_bit mask) k
-        (read_place z words.old src k) }
+    ensures { words.new ≡ put_version z words.old (key_at z dst k) (read_place z words.old src k) }
 {
-    if has(mask, k as u32) {
-        let d = z.key_at(dst, k);
-        let s = z.key_at(src, k);
-        copy_version(words, z, d, s);
-    }
+    let d = z.key_at(dst, k);
+    let s = z.key_at(src, k);
+    copy_version(words, z, d, s);
 }
 
 // Copies the keys of the mask from the place at src to the place at dst.
@@ -161,25 +168,22 @@ pub fn copy_keys(words: &mut [u32], z: Counts, dst: usize, src: usize, mask: u32
         (choice (test_bit mask) (read_place z words.old src)
         (read_place z words.old dst)) }
 {
-    let n = z.keys;
-    let mut k = 0;
-    while k < n {
-        copy_if(words, z, dst, src, mask, k);
-        k += 1;
-    }
+    at_keys(
+        words,
+        z.keys,
+        mask,
+        |words, k| copy_key(words, z, dst, src, k),
+    );
 }
 
-// Clears key k of the place at an index, if it is in the mask.
-fn clear_if(words: &mut [u32], z: Counts, at: usize, mask: u32, k: usize)
+// Clears key k of the place at an index.
+fn clear_key(words: &mut [u32], z: Counts, at: usize, k: usize)
     requires area { Area (length words.old) z at }
     requires k_lt_keys { k < z.keys }
-    ensures { words.new
-        ≡ put_key z words.old at (test_bit mask) k unheld }
+    ensures { words.new ≡ put_version z words.old (key_at z at k) unheld }
 {
-    if has(mask, k as u32) {
-        let v = z.key_at(at, k);
-        clear_version(words, z, v);
-    }
+    let version = z.key_at(at, k);
+    clear_version(words, z, version);
 }
 
 // Clears the keys of the mask.
@@ -188,10 +192,5 @@ pub fn clear_keys(words: &mut [u32], z: Counts, at: usize, mask: u32)
     ensures { words.new ≡ put_place z words.old at
         (choice (test_bit mask) (λ k. unheld) (read_place z words.old at)) }
 {
-    let n = z.keys;
-    let mut k = 0;
-    while k < n {
-        clear_if(words, z, at, mask, k);
-        k += 1;
-    }
+    at_keys(words, z.keys, mask, |words, k| clear_key(words, z, at, k));
 }

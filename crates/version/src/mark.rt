@@ -6,7 +6,7 @@ ghost use Rattle.version.specs.Places.{put_mark, Area, SiteArea};
 
 use crate::{held, row_of};
 use clock::{compare, differing};
-use masks::with_if;
+use masks::mask_of;
 use sizes::Counts;
 
 // Whether key k of the cache is held, and its own row isn't equal to the master's.
@@ -30,15 +30,7 @@ pub fn stale_mask(words: &[u32], z: Counts, master: usize, cache: usize) -> u32
     ensures { result ≡ stale_mask z (read_place z words.now master)
         (read_place z words.now cache) }
 {
-    let n = z.keys;
-    let mut mask: u32 = 0;
-    let mut k = 0;
-    while k < n {
-        let stale = is_stale(words, z, master, cache, k);
-        mask = with_if(stale, mask, k as u32);
-        k += 1;
-    }
-    mask
+    mask_of(z.keys, |k| is_stale(words, z, master, cache, k as usize))
 }
 
 // Stores the mark of the site at an index, behind its cache.

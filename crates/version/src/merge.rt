@@ -3,16 +3,16 @@ ghost use Rattle.std.specs.Prelude.{◌≡◌, ◌+◌, ◌≤◌, ◌<◌, leb,
 ghost use Rattle.std.proofs.Math.Bool.{So};
 ghost use Rattle.masks.specs.Mask.{test_bit, mask_below};
 ghost use Rattle.clock.specs.Clock.{clock_at, join};
-ghost use Rattle.sizes.specs.Bounds.{max_writers, version_size, place_size};
+ghost use Rattle.sizes.specs.Bounds.{max_writers, version_size, place_size, key_at};
 ghost use Rattle.model.specs.Version.{leads_on, merged_leaders, larger, merge};
 ghost use Rattle.model.specs.Form.{version_formed, place_formed};
 ghost use Rattle.layout.specs.Reading.{read_past_of, read_version, read_place};
 ghost use Rattle.layout.specs.Stored.{put_version, put_place};
-ghost use Rattle.version.specs.Places.{version_of, put_key, choice, Areas, Merges, Outside, Own};
+ghost use Rattle.version.specs.Places.{version_of, choice, Areas, Merges, Outside, Own};
 
-use crate::{leaders_of, merge_past, row_of};
+use crate::{at_keys, leaders_of, merge_past, row_of};
 use clock::count::{WriterCount, count_at};
-use masks::{has, with_if};
+use masks::{has, mask_of};
 use numbers::{IssueNumber, set_version_issue, version_issue};
 use sizes::Counts;
 use sizes::past::VersionOffset;
@@ -25,9 +25,9 @@ fn leads_on(m: u32, x: WriterCount, n: u32, y: WriterCount, u: u32) -> bool
 {
     let mine = has(m, u);
     let theirs = has(n, u);
-    let same = x.equals(y);
-    let over = x.exceeds(y);
-    let under = y.exceeds(x);
+    let same = x == y;
+    let over = x > y;
+    let under = x < y;
     (mine & (theirs & same)) | ((mine & over) | (theirs & under))
 }
 
@@ -37,16 +37,11 @@ fn named(words: &[u32], w: usize, m: u32, p: usize, n: u32, q: usize) -> u32
     ensures { result ≡ mask_below w
         (leads_on m (clock_at words.now p) n (clock_at words.now q)) }
 {
-    let mut mask: u32 = 0;
-    let mut u = 0;
-    while u < w {
-        let x = count_at(words, p + u);
-        let y = count_at(words, q + u);
-        let leads = leads_on(m, x, n, y, u as u32);
-        mask = with_if(leads, mask, u as u32);
-        u += 1;
-    }
-    mask
+    mask_of(w, |u| {
+        let x = count_at(words, p + u as usize);
+        let y = count_at(words, q + u as usize);
+        leads_on(m, x, n, y, u)
+    })
 }
 
 // The writers with a count in one of the rows at p and q.
@@ -55,15 +50,11 @@ fn present_writers(words: &[u32], w: usize, p: usize, q: usize) -> u32
     ensures { result ≡ mask_below w (λ u. leb 1
         (join (clock_at words.now p) (clock_at words.now q) u)) }
 {
-    let mut mask: u32 = 0;
-    let mut u = 0;
-    while u < w {
-        let x = count_at(words, p + u);
-        let y = count_at(words, q + u);
-        mask = with_if(x.is_present() | y.is_present(), mask, u as u32);
-        u += 1;
-    }
-    mask
+    mask_of(w, |u| {
+        let x = count_at(words, p + u as usize);
+        let y = count_at(words, q + u as usize);
+        x.is_present() | y.is_present()
+    })
 }
 
 // The leading writers of a merge: of masks m and n, and own rows at p and q.
@@ -119,7 +110,7 @@ fn merge_held(
     let mine = words[dst + VersionOffset::LEADERS];
     let leading = merged_leaders(words, z.writers, mine, own, leaders, other);
     let old = version_issue(words, dst);
-    let new = old.later(number);
+    let new = old.max(number);
     set_version_issue(words, dst, new);
     words[dst + VersionOffset::LEADERS] = leading;
     let first = z.row_at(dst, 0);
@@ -157,22 +148,20 @@ pub fn merge_version(
     }
 }
 
-// Merges key k of the place at src into the place at dst, if it is in the mask.
-fn merge_if(words: &mut [u32], z: Counts, dst: usize, src: usize, mask: u32, k: usize)
+// Merges key k of the place at src into the place at dst.
+fn merge_key(words: &mut [u32], z: Counts, dst: usize, src: usize, k: usize)
     requires areas { Areas (length words.old) z dst src }
     requires k_lt_keys { k < z.keys }
-    ensures { words.new ≡ put_key z words.old dst (test_bit mask) k
+    ensures { words.new ≡ put_version z words.old (key_at z dst k)
         (merge z.writers k (read_place z words.old dst k)
         (read_place z words.old src k)) }
 {
-    if has(mask, k as u32) {
-        let d = z.key_at(dst, k);
-        let s = z.key_at(src, k);
-        let number = version_issue(words, s);
-        let leaders = leaders_of(words, z, src, k);
-        let past = row_of(z, src, k, 0);
-        merge_version(words, z, k, d, number, leaders, past);
-    }
+    let d = z.key_at(dst, k);
+    let s = z.key_at(src, k);
+    let number = version_issue(words, s);
+    let leaders = leaders_of(words, z, src, k);
+    let past = row_of(z, src, k, 0);
+    merge_version(words, z, k, d, number, leaders, past);
 }
 
 // Merges the keys of the mask from the place at src into the place at dst. No other word changes,
@@ -186,10 +175,10 @@ pub fn merge_keys(words: &mut [u32], z: Counts, dst: usize, src: usize, mask: u3
     ensures same { dst ≡ src → So (place_formed z (read_place z words.old dst))
         → words.new ≡ words.old }
 {
-    let n = z.keys;
-    let mut k = 0;
-    while k < n {
-        merge_if(words, z, dst, src, mask, k);
-        k += 1;
-    }
+    at_keys(
+        words,
+        z.keys,
+        mask,
+        |words, k| merge_key(words, z, dst, src, k),
+    );
 }

@@ -11,7 +11,7 @@ ghost use Rattle.version.specs.Branches.{branch_at, ReadHeld};
 use crate::merge::merged_leaders;
 use crate::{leaders_of, row_of};
 use clock::{Standing, compare, covered, covering};
-use masks::{has, with_if};
+use masks::{has, mask_of};
 use numbers::{IssueNumber, version_issue};
 use sizes::Counts;
 
@@ -69,8 +69,8 @@ fn is_kept(number: IssueNumber, other: IssueNumber, leads: bool, covers: bool) -
     ensures { result ≡ not (leb 1 other.0) || (leb other.0 number.0
         && (leads && covers)) }
 {
-    let over = other.exceeds(number);
     let unheld = !other.is_held();
+    let over = other > number;
     unheld | (!over & (leads & covers))
 }
 
@@ -120,13 +120,5 @@ pub fn moved_keys(words: &[u32], z: Counts, a: usize, b: usize, m: u32, n: u32) 
     ensures { result ≡ moved_set z (branch_at z words.now m a)
         (branch_at z words.now n b) }
 {
-    let keys = z.keys;
-    let mut mask: u32 = 0;
-    let mut k = 0;
-    while k < keys {
-        let moved = has_moved(words, z, a, b, m, n, k);
-        mask = with_if(moved, mask, k as u32);
-        k += 1;
-    }
-    mask
+    mask_of(z.keys, |k| has_moved(words, z, a, b, m, n, k as usize))
 }

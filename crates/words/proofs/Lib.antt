@@ -7,3 +7,5 @@ pub mod Lists
 pub mod Stores
 pub mod Firsts
 pub mod Turns
+pub mod Ranges
+pub mod Orders

@@ -1,16 +1,19 @@
 -- Laws of `put`: what a store of words leaves, and what it leaves alone.
 -- Assumes nothing.
-use mathlib.Core.Path.{◌≡◌, refl, ◌∙◌}
+use mathlib.Core.Path.{◌≡◌, refl, sym, ◌∙◌}
 use mathlib.Core.List.{List}
-use mathlib.Core.Logic.{◌⊎◌, ⊎_elim}
-use Prim.Native.Nat.{ℕ, zero, suc, ◌+◌, ◌≤◌, ◌<◌}
+use mathlib.Core.Logic.{inl, inr, ⊎_elim}
+use Prim.Native.Nat.{ℕ, zero, suc, ◌+◌, ◌-◌, ◌≤◌, ◌<◌}
 use native.Mathlib.Omega.{arith}
 use native.Mathlib.Nat.{not-suc-le-zero}
 use native.Mathlib.Numerals.{add-one}
 use lib.ListN.{length, get_or, set, length-set}
-use lib.Seq.{get_or-set_same, get_or-set_other}
+use lib.Seq.{ext_get_or, get_or-set_same, get_or-set_other}
 use Rattle.words.specs.Words.{put, Apart}
-use Rattle.words.proofs.Tests.{below-cases}
+use borrow.Rule.Slice.PartMut.{put_mid}
+use Rattle.std.proofs.Common.{rules}
+use Rattle.std.proofs.lemmas.List.{places}
+use Rattle.words.proofs.Tests.{below-cases, below_or_not}
 
 -- ---- one store after the other
 
@@ -69,3 +72,37 @@ pub put-read : (l : List ℕ) (dst src n i : ℕ) (f : ℕ → ℕ) → Apart (l
 put-read l dst src n i f A h =
     ⊎_elim (λ k. put-high l dst i f (src + i) (omega arith))
     (λ k. put_low l dst i f (src + i) (omega arith)) A.apart
+
+-- ---- by std's methods on a part of the words
+
+-- A list as long as l, with f 0, f 1, .. from index at on, and as l before and behind.
+pub put-is : (l : List ℕ) (at n : ℕ) (f : ℕ → ℕ) (m : List ℕ) → at + n ≤ length l
+    → length m ≡ length l
+    → ((i : ℕ) → i < n → get_or m (at + i) 0 ≡ f i)
+    → ((j : ℕ) → j < at → get_or m j 0 ≡ get_or l j 0)
+    → ((j : ℕ) → at + n ≤ j → get_or m j 0 ≡ get_or l j 0) → m ≡ put l at n f
+put-is l at n f m h e stored below behind =
+    ext_get_or 0 m (put l at n f) (e ∙ sym (length-put l at n f)) (λ j _. each j)
+  where
+    each : (j : ℕ) → get_or m j 0 ≡ get_or (put l at n f) j 0
+    each j =
+        elim (below_or_not j at) [
+          | inl k ↦ below j k ∙ sym (put_low l at n f j k)
+          | inr k ↦
+              elim (below_or_not j (at + n)) [
+                | inl q ↦
+                    let z : j ≡ at + (j - at) = omega arith in
+                    rw z (stored (j - at) (omega arith)
+                    ∙ sym (put_in l at n f (j - at) (omega arith) h))
+                | inr q ↦ behind j q ∙ sym (put-high l at n f j q)
+              ]
+        ]
+
+-- A store to a part of the words.
+pub put-part : (l : List ℕ) (at n : ℕ) (f : ℕ → ℕ) (ys : List ℕ) → at + n ≤ length l
+    → length ys ≡ n → ((i : ℕ) → i < n → get_or ys i 0 ≡ f i)
+    → put_mid at (at + n - at) l ys ≡ put l at n f
+put-part l at n f ys h e stored =
+    put-is l at n f (put_mid at (at + n - at) l ys) h (search (rules, places))
+    (λ i k. (search (rules, places)) ∙ stored i k)
+    (λ j k. search (rules, places)) (λ j k. search (rules, places))

@@ -2,7 +2,6 @@
 -- Assumes nothing.
 use mathlib.Core.Path.{sym, ◌∙◌}
 use Rattle.form.proofs.Known.{form-long}
-use Rattle.answers.specs.Answers.{answered_words}
 use Rattle.admit.proofs.Answers.{admit-no, admit-yes}
 use Rattle.admit.proofs.admit.Goals as goal
 
@@ -14,15 +13,8 @@ is_admissible-requires c =
     record { form = c.requires; counts = c.counts-z.ensures }
 
 pub returns-then-not-is_admissible : goal.returns-then-not-is_admissible
-unfolding answered_words
 returns-then-not-is_admissible c =
-    let a = c in
-    admit-no _ a.requires
-    (sym a.is_admissible.ensures ∙ c.if-not-is_admissible.true)
+    admit-no _ c.requires (sym c.is_admissible.ensures ∙ c.if-not-is_admissible.true)
 
 pub returns : goal.returns
-unfolding answered_words
-returns c =
-    let a = c in
-    admit-yes _ a.requires
-    (sym a.is_admissible.ensures ∙ c.if-not-is_admissible.false)
+returns c = admit-yes _ c.requires (sym c.is_admissible.ensures ∙ c.if-not-is_admissible.false)

@@ -38,24 +38,17 @@ pasts_covered-requires c =
 
 pub own_counts-requires : goal.own_counts-requires
 own_counts-requires c =
-    let p = c in
-    let H = p.requires in (form-area _ _ H, master _ _ H)
+    let H = c.requires in (form-area _ _ H, master _ _ H)
 
 pub returns : goal.returns
 unfolding master_at
 returns c =
-    let p = c in
-    let n = p in
-    let k = n in
-    let t = k in
-    let i = t in
-    let s = i in
     rw (
       c.own_counts.ensures,
-      p.pasts_covered.ensures,
-      n.snapshots_taken.ensures,
-      k.caches_taken.ensures,
-      t.place_taken.ensures,
-      i.last_issue-last.ensures,
+      c.pasts_covered.ensures,
+      c.snapshots_taken.ensures,
+      c.caches_taken.ensures,
+      c.place_taken.ensures,
+      c.last_issue-last.ensures,
     )
-    (small-words s.args.words.now s.args.z s.requires)
+    (small-words c.args.words.now c.args.z c.requires)

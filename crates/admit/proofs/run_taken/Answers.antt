@@ -23,65 +23,54 @@ here : (c : After-run_at-at)
     → c.run_at-at.result + snapshot_offset ≤ length c.args.words.now
 unfolding run_size
 here c =
-    let s = c in
     rw c.run_at-at.ensures
     (omega (
       arith,
-      (run-area _ _ (form-area _ _ s.requires.form_with.0) _
-          s.requires.r_lt_runs).fits,
+      (run-area _ _ (form-area _ _ c.requires.form_with.0) _
+          c.requires.r_lt_runs).fits,
     ))
 
 pub reads_of-plan-requires : goal.reads_of-plan-requires
 unfolding read_run
 reads_of-plan-requires c =
-    let n = c.before in
-    let s = n in
-    let most = run-most _ _ s.requires.form_with.0 _ s.requires.r_lt_runs in (
+    let most = run-most _ _ c.requires.form_with.0 _ c.requires.r_lt_runs in (
       omega (arith, here (goal.at.reads_of-plan-requires c).After-run_at-at),
-      rw
-          n.run_at-at.ensures most,
+      rw c.run_at-at.ensures most,
     )
 
 pub place_taken-requires : goal.place_taken-requires
 place_taken-requires c =
-    let s = c in
-    let A = form-area _ _ s.requires.form_with.0 in (
-      s.requires.form_with.1,
+    let A = form-area _ _ c.requires.form_with.0 in (
+      c.requires.form_with.1,
       rw c.snapshot_on-first.ensures
-          (snapshot-area _ _ A.ranged A.fits s.args.r 0 s.requires.r_lt_runs),
+          (snapshot-area _ _ A.ranged A.fits c.args.r 0 c.requires.r_lt_runs),
     )
 
 pub place_taken-requires-2 : goal.place_taken-requires-2
 place_taken-requires-2 c =
-    let s = c in
-    let A = form-area _ _ s.requires.form_with.0 in (
-      s.requires.form_with.1,
+    let A = form-area _ _ c.requires.form_with.0 in (
+      c.requires.form_with.1,
       rw c.snapshot_on-second.ensures
-          (snapshot-area _ _ A.ranged A.fits s.args.r 1 s.requires.r_lt_runs),
+          (snapshot-area _ _ A.ranged A.fits c.args.r 1 c.requires.r_lt_runs),
     )
 
 pub returns : goal.returns
 returns c =
-    let p = c in
-    let j = p in
-    let k = j in
-    let n = k in
-    let s = n in
-    let a = s.args in
+    let a = c.args in
     let l = a.words.now in
     let taken : ℕ → ℕ → Bool = λ plan i.
     place_taken a.z (read_place a.z l a.master) a.last.0 (test_bit plan)
     (read_place a.z l i) in
-    let plan : k.reads_of-plan.result
+    let plan : c.reads_of-plan.result
     ≡ reads_of (get_or l (run_at_of a.z a.r + 1) 0) (read_jobs l (run_at_of a.z a.r + 4)) 255 =
-    k.reads_of-plan.ensures
+    c.reads_of-plan.ensures
     ∙ ap (λ (at : ℕ). reads_of (get_or l (at + 1) 0) (read_jobs l (at + 4)) 255)
-    n.run_at-at.ensures in
+    c.run_at-at.ensures in
     ap₂ ◌&&◌
-    (p.place_taken.ensures ∙ ap₂ taken plan j.snapshot_on-first.ensures)
-    (c.place_taken-2.ensures ∙ ap₂ taken plan j.snapshot_on-second.ensures)
+    (c.place_taken.ensures ∙ ap₂ taken plan c.snapshot_on-first.ensures)
+    (c.place_taken-2.ensures ∙ ap₂ taken plan c.snapshot_on-second.ensures)
     ∙ run-plan a.z l a.r (read_place a.z l a.master) a.last.0
-    (run-most l a.z s.requires.form_with.0 a.r s.requires.r_lt_runs)
+    (run-most l a.z c.requires.form_with.0 a.r c.requires.r_lt_runs)
 
 pub overflow_add-jobs : goal.overflow_add-jobs
 overflow_add-jobs c = omega (arith, here (goal.at.overflow_add-jobs c).After-run_at-at)

@@ -7,8 +7,6 @@ use Rattle.calls.proofs.perform.Goals as goal
 pub returns : goal.returns
 unfolding MadeOf
 returns c =
-    let m = c in
-    let s = m in
-    let e = m.make.ensures in
-    rw (c.wide-count.ensures, c.is_new.ensures s.args.numbers.now)
-    (e, rw (← s.requires.ready_value) at (made-form _ _ _ _ _ _ e))
+    let made = c.make-count.ensures in
+    rw (c.is_new.ensures c.args.numbers.now)
+    (made, rw (← c.requires.ready_value) at (made-form _ _ _ _ _ _ made))

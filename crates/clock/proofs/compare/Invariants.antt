@@ -2,7 +2,7 @@
 -- is larger, whether some is smaller, and whether some is one of these.
 -- Assumes nothing.
 use mathlib.Core.Path.{◌≡◌}
-use Prim.Native.Nat.{◌≤◌, ◌-◌}
+use Prim.Native.Nat.{◌≤◌}
 use Rattle.clock.specs.Clock.{exceeds, standing_of, differing, clock_at}
 use Rattle.clock.proofs.compare.Given as goal
 
@@ -12,7 +12,3 @@ invariant-loop-i l =
     let d = clock_at l.q l.b in
     (l.i ≤ l.w) × (l.over ≡ exceeds l.i c d) × (l.under ≡ exceeds l.i d c)
     × (l.unequal ≡ differing (standing_of l.over l.under))
-
-abbrev pub decreases-loop-i : goal.decreases-loop-i
-decreases-loop-i l =
-    l.w - l.i

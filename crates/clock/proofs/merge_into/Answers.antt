@@ -1,10 +1,11 @@
 -- `merge_into` stores the join of two clocks. The loop's invariant: the places passed hold it.
 -- Assumes nothing.
 use mathlib.Core.Path.{◌≡◌, refl, ap, ap₂, ◌∙◌}
-use Prim.Native.Nat.{◌+◌, ◌-◌, max}
+use Prim.Native.Nat.{◌+◌, max}
 use native.Mathlib.Omega.{arith}
 use lib.ListN.{length, length-set}
 use Rattle.words.specs.Words.{put}
+use Rattle.words.proofs.Orders.{max-by}
 use Rattle.clock.proofs.Merge.{merge_step}
 use Rattle.clock.proofs.merge_into.Goals as goal
 
@@ -14,22 +15,20 @@ loop-i-init c = (omega arith, refl, refl)
 
 pub loop-i-preserved : goal.loop-i-preserved
 loop-i-preserved c =
-    let s = c in
-    let g = s in
-    let y = g in
-    let x = y in
-    let l = x in
-    let a = l.args in
-    let i = l.loop-i.i in
-    let m = l.loop-i.words in
-    let n = g.larger.result.0 in
-    let e = s.set_count.ensures in (
+    let a = c.args in
+    let i = c.loop-i.i in
+    let m = c.loop-i.words in
+    let x = c.count_at-x in
+    let y = c.count_at-y in
+    let n = c.max.result.0 in
+    let e = c.set_count.ensures in
+    let larger = ap (λ k. k.0) c.max.ensures ∙ max-by (λ k. k.0) x.result y.result in (
       omega arith,
-      ap length e ∙ length-set m (a.dst + i) n ∙ l.loop-i.invariant.1,
+      ap length e ∙ length-set m (a.dst + i) n ∙ c.loop-i.invariant.1,
       e
-          ∙ merge_step a.words.now a.dst a.src a.n i l.requires
-          (omega arith) m l.loop-i.invariant.2 n
-          (g.larger.ensures ∙ ap₂ max x.count_at-x.ensures y.count_at-y.ensures),
+          ∙ merge_step a.words.now a.dst a.src a.n i c.requires
+          (omega arith) m c.loop-i.invariant.2 n
+          (larger ∙ ap₂ max x.ensures y.ensures),
     )
 
 pub returns : goal.returns

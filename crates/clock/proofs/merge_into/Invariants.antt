@@ -1,7 +1,7 @@
 -- `merge_into` stores the join of two clocks. The loop's invariant: the places passed hold it.
 -- Assumes nothing.
 use mathlib.Core.Path.{◌≡◌}
-use Prim.Native.Nat.{◌≤◌, ◌-◌}
+use Prim.Native.Nat.{◌≤◌}
 use lib.ListN.{length}
 use Rattle.words.specs.Words.{put}
 use Rattle.clock.proofs.Merge.{joined}
@@ -11,7 +11,3 @@ abbrev pub invariant-loop-i : goal.invariant-loop-i
 invariant-loop-i l =
     (l.i ≤ l.n) × (length l.words ≡ length l.initial.words) × (l.words ≡ put l.initial.words l.dst
     l.i (joined l.initial.words l.dst l.src))
-
-abbrev pub decreases-loop-i : goal.decreases-loop-i
-decreases-loop-i l =
-    l.n - l.i

@@ -2,7 +2,7 @@
 -- for the counts passed.
 -- Assumes nothing.
 use mathlib.Core.Path.{◌≡◌}
-use Prim.Native.Nat.{◌≤◌, ◌-◌}
+use Prim.Native.Nat.{◌≤◌}
 use lib.Dec.{leb}
 use Rattle.clock.specs.Clock.{present, clock_at}
 use Rattle.clock.proofs.present.Given as goal
@@ -10,7 +10,3 @@ use Rattle.clock.proofs.present.Given as goal
 abbrev pub invariant-loop-i : goal.invariant-loop-i
 invariant-loop-i l =
     (l.i ≤ l.w) × (leb 1 l.all ≡ present l.i (clock_at l.words l.at))
-
-abbrev pub decreases-loop-i : goal.decreases-loop-i
-decreases-loop-i l =
-    l.w - l.i

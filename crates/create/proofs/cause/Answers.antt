@@ -28,13 +28,11 @@ sizes_of-at-requires c = ranged-out _ (in_range_lem
 
 pub returns-then-words-at : goal.returns-then-words-at
 returns-then-words-at c =
-    let e = c in
-    let t = total-is _ _ e.sizes_of-at.ensures in
+    let t = total-is _ _ c.sizes_of-at.ensures in
     sym (cause-room _ _ (in_range_lem (goal.at.returns-then-words-at c).Else-not-is_ranged) (omega
     arith))
 
 pub returns : goal.returns
 returns c =
-    let e = c in
-    let t = total-is _ _ e.sizes_of-at.ensures in
+    let t = total-is _ _ c.sizes_of-at.ensures in
     sym (cause-none _ _ (in_range_lem (goal.at.returns c).Else-not-is_ranged) (omega arith))

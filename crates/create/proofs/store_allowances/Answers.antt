@@ -5,7 +5,7 @@
 -- The allowance that is stored lies in the buffer.
 use mathlib.Core.Path.{◌≡◌, refl, ap, ◌∙◌}
 use mathlib.Core.List.{List}
-use Prim.Native.Nat.{ℕ, ◌≤◌, ◌<◌, ◌-◌}
+use Prim.Native.Nat.{ℕ, ◌≤◌, ◌<◌}
 use native.Mathlib.Omega.{arith}
 use lib.ListN.{length, set, length-set}
 use Rattle.words.specs.Numbers.{fold_below}
@@ -25,74 +25,60 @@ lies len z o R f h =
     let a = site-lies z o h in
     let b = allowance-lies z (site_at z o) in (omega arith, omega arith, omega arith)
 
-here : (c : After-allowance_at-at) → let l = c in
-    (c.allowance_at-at.result < length l.loop-o.words) × (c.allowance_at-at.result < version_limit)
+here : (c : After-allowance_at-at) → let at = c.allowance_at-at.result in
+    (at < length c.loop-o.words) × (at < version_limit)
 here c =
-    let t = c in
-    let l = t in
-    let s = l in
-    let a = s.args in
-    let d = lies (length a.words.now) a.z l.loop-o.o s.requires.0 s.requires.1
-    (omega arith) in
-    rw (c.allowance_at-at.ensures, t.site_at-site.ensures, l.loop-o.invariant.1) (d.1, d.2)
+    let a = c.args in
+    let d = lies (length a.words.now) a.z c.loop-o.o c.requires.0 c.requires.1 (omega arith) in
+    rw (c.allowance_at-at.ensures, c.site_at-site.ensures, c.loop-o.invariant.0) (d.1, d.2)
 
 pub loop-o-init : goal.loop-o-init
 unfolding fold_below
-loop-o-init c = (omega arith, refl, refl)
+loop-o-init c = (refl, refl)
 
 pub site_at-site-requires : goal.site_at-site-requires
-site_at-site-requires c = let s = c in record {
-  ranged = s.requires.0;
+site_at-site-requires c = record {
+  ranged = c.requires.0;
   o_lt_sites = omega arith;
 }
 
 pub allowance_at-at-requires : goal.allowance_at-at-requires
-allowance_at-at-requires c =
-    let l = c in
-    let s = l in record {
-      ranged = s.requires.0;
-      at_lt_place_limit = rw c.site_at-site.ensures
-          (lies _ s.args.z l.loop-o.o s.requires.0 s.requires.1 (omega arith)).0;
-    }
+allowance_at-at-requires c = record {
+  ranged = c.requires.0;
+  at_lt_place_limit = rw c.site_at-site.ensures
+      (lies _ c.args.z c.loop-o.o c.requires.0 c.requires.1 (omega arith)).0;
+}
 
 pub loop-o-preserved : goal.loop-o-preserved
 loop-o-preserved c =
-    let t = c in
-    let l = t in
-    let a = l.args in
-    let z = a.z in (
-      omega arith,
-      length-set l.loop-o.words c.allowance_at-at.result l.narrow-keys.result
-          ∙ l.loop-o.invariant.1,
+    let z = c.args.z in (
+      length-set c.loop-o.words c.allowance_at-at.result c.narrow-keys.result
+          ∙ c.loop-o.invariant.0,
       rw (
         fold_more (λ (o : ℕ) (m : List ℕ). set m (allowance_at z (site_at z o)) z.keys)
-            l.loop-o.o a.words.now,
-        ← l.loop-o.invariant.2,
+            c.loop-o.o c.args.words.now,
+        ← c.loop-o.invariant.1,
         c.allowance_at-at.ensures,
-        t.site_at-site.ensures,
-        l.narrow-keys.ensures,
+        c.site_at-site.ensures,
+        c.narrow-keys.ensures,
       ),
     )
 
 pub returns : goal.returns
 returns c =
-    let l = c in
-    let a = l.args in
-    let e : l.loop-o.o ≡ a.z.sites = omega arith in
-    l.loop-o.invariant.2 ∙ ap (λ (n : ℕ). allowances_put a.z n a.words.now) e
+    let a = c.args in
+    let e : c.loop-o.o ≡ a.z.sites = omega arith in
+    c.loop-o.invariant.1 ∙ ap (λ (n : ℕ). allowances_put a.z n a.words.now) e
 
 pub narrow-keys-requires : goal.narrow-keys-requires
-narrow-keys-requires c = let s = c in omega (arith, s.requires.0.keys-high)
+narrow-keys-requires c = omega (arith, c.requires.0.keys-high)
 
 pub offset_bounds-words-at : goal.offset_bounds-words-at
-offset_bounds-words-at c = omega (
-  arith,
-  here (goal.at.offset_bounds-words-at
-      c).After-allowance_at-at,
-)
+offset_bounds-words-at c =
+    omega (arith, here (goal.at.offset_bounds-words-at c).After-allowance_at-at)
 
 pub bounds-words-at : goal.bounds-words-at
 bounds-words-at c = omega (arith, here (goal.at.bounds-words-at c).After-allowance_at-at)
 
 pub shape_of-words : goal.shape_of-words
-shape_of-words c = c.loop-o.invariant.1
+shape_of-words c = c.loop-o.invariant.0

@@ -4,16 +4,11 @@
 -- Where site o and its allowance lie in a buffer of len words.
 -- The allowance that is stored lies in the buffer.
 use mathlib.Core.Path.{◌≡◌}
-use Prim.Native.Nat.{◌≤◌, ◌-◌}
 use lib.ListN.{length}
 use Rattle.create.specs.Room.{allowances_put}
 use Rattle.create.proofs.store_allowances.Given as goal
 
 abbrev pub invariant-loop-o : goal.invariant-loop-o
 invariant-loop-o l =
-    (l.o ≤ l.n) × (length l.words ≡ length l.initial.words) × (l.words ≡ allowances_put l.z l.o
+    (length l.words ≡ length l.initial.words) × (l.words ≡ allowances_put l.z l.o
     l.initial.words)
-
-abbrev pub decreases-loop-o : goal.decreases-loop-o
-decreases-loop-o l =
-    l.n - l.o

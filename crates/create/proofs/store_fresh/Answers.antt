@@ -11,8 +11,7 @@ use Rattle.create.proofs.store_fresh.Goals as goal
 use Rattle.create.proofs.store_fresh.Goals.{After-sizes_of-at}
 
 has_room : (c : After-sizes_of-at)
-    → let b = c in
-    Room (length b.args.words.now) b.args.z c.sizes_of-at.result
+    → Room (length c.args.words.now) c.args.z c.sizes_of-at.result
 has_room c = rw c.sizes_of-at.ensures (room _ _ c.requires)
 
 pub sizes_of-at-requires : goal.sizes_of-at-requires
@@ -30,31 +29,23 @@ store_header-requires c =
 
 pub store_allowances-requires : goal.store_allowances-requires
 store_allowances-requires c =
-    let h = c in
     let R = has_room (goal.at.store_allowances-requires c).After-sizes_of-at in
     (R.counts, omega (arith, R.fits, total-is _ _ R.sizes))
 
 pub store_tail-requires : goal.store_tail-requires
 store_tail-requires c =
-    let a = c in
-    let h = a in
     let R = has_room (goal.at.store_tail-requires c).After-sizes_of-at in
     same-room _ _ _ _ R (omega arith)
 
 pub narrow-requires : goal.narrow-requires
 narrow-requires c =
-    let a = c in
-    let h = a in
     let R = has_room (goal.at.narrow-requires c).After-sizes_of-at in
     omega (arith, R)
 
 pub returns : goal.returns
 returns c =
-    let r = c in
-    let a = r in
-    let h = a in
     let R = has_room (goal.at.returns c).After-sizes_of-at in record {
       answers = c.narrow.ensures ∙ total-is _ _ R.sizes;
-      leaves = fresh-stored _ _ _ _ _ _ _ R h.zero.ensures
-          h.store_header.ensures a.store_allowances.ensures r.store_tail.ensures;
+      leaves = fresh-stored _ _ _ _ _ _ _ R c.zero.ensures
+          c.store_header.ensures c.store_allowances.ensures c.store_tail.ensures;
     }

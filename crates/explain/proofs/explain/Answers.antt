@@ -1,28 +1,23 @@
 -- `explain` is refused for the trial's cause, or judges by what it found.
 -- Assumes nothing.
 -- What the trial found.
-use mathlib.Core.Path.{sym, ◌∙◌}
+use mathlib.Core.Path.{◌∙◌}
 use Rattle.form.proofs.Known.{form-long}
 use Rattle.trial.specs.Trials.{Finds}
 use Rattle.trial.proofs.Cases.{refused_as, found_as}
-use Rattle.explain.specs.Answers.{found_words, explained_words, Fits}
+use Rattle.explain.specs.Answers.{explained_words, Listed}
 use Rattle.explain.proofs.Found.{draws-found, words-found, words-refused}
+use Rattle.std.proofs.lemmas.Result.{err_from_is_err_and}
 use Rattle.explain.proofs.explain.Goals as goal
-use Rattle.explain.proofs.explain.Goals.{In-Found}
+use Rattle.explain.proofs.explain.Goals.{In_ok-visit}
 
-found : (c : In-Found) → let n = c in
-    let a = n.args in
-    Finds a.words.now n.counts-z.result a.run a.job a.line c.in-Found.visit
-    c.in-Found.trial
+found : (c : In_ok-visit) → let a = c.args in
+    Finds a.words.now c.counts-z.result a.run a.job a.line c.in_ok-visit.visit c.in_ok-visit.trial
 found c =
-    let t = c in
-    let n = t in
-    let s = n in
-    let a = s.args in
-    let f = found_as _ a.run a.job a.line _ _ _
-    (sym c.in-Found.is ∙ t.try_job-tried.ensures) in
+    let a = c.args in
+    let f = found_as _ a.run a.job a.line _ _ _ c.in_ok-visit.ensures in
     record {
-      form = record { form = s.requires; counts = n.counts-z.ensures };
+      form = record { form = c.requires; counts = c.counts-z.ensures };
       free = f.0;
       visit = f.1;
       trial = f.2;
@@ -32,29 +27,23 @@ pub counts-z-requires : goal.counts-z-requires
 counts-z-requires c = form-long _ c.requires
 
 pub judge-requires : goal.judge-requires
-judge-requires c =
-    let f = found (goal.at.judge-requires c).In-Found in
-    draws-found _ _ _ _ _ _ _ f
+judge-requires c = draws-found _ _ _ _ _ _ _ (found (goal.at.judge-requires c).In_ok-visit)
 
-pub returns-in-Refused : goal.returns-in-Refused
-unfolding explained_words found_words Fits
-returns-in-Refused c =
-    let k = c in
-    let t = k in
-    let n = t in
-    let s = n in
-    let a = s.args in
-    let f = refused_as _ a.run a.job a.line _ _
-    (sym k.in-Refused.is ∙ t.try_job-tried.ensures) in
-    rw c.alone.ensures
+pub returns-in_err-visit : goal.returns-in_err-visit
+unfolding explained_words Listed
+returns-in_err-visit c =
+    let a = c.args in
+    let p = err_from_is_err_and c.from_residual.result c.from_residual.ensures.1 in
+    let f = refused_as _ a.run a.job a.line _ _ c.in_err-visit.ensures in
+    rw (p.1, p.2)
     record {
-      answers = words-refused a.words.now a.run a.job a.line _ s.requires f.0 f.1;
+      answers = words-refused a.words.now a.run a.job a.line _ c.requires f.0 f.1;
       listed = tt;
     }
 
-pub returns-in-Found : goal.returns-in-Found
-returns-in-Found c =
-    let f = found (goal.at.returns-in-Found c).In-Found in
+pub returns : goal.returns
+returns c =
+    let f = found (goal.at.returns c).In_ok-visit in
     record {
       answers = c.judge.ensures.answers ∙ words-found _ _ _ _ _ _ _ f;
       listed = c.judge.ensures.listed;

@@ -2,8 +2,9 @@
 -- Assumes nothing.
 -- The step's answer, and what it leaves.
 use mathlib.Core.Path.{sym, ap, ◌∙◌}
+use Rattle.std.specs.Prelude.{Ok}
 use Rattle.model.specs.Calls.Forecast.{undone_at}
-use Rattle.forecast.specs.Answers.{stopped_at}
+use Rattle.forecast.specs.Answers.{stopped_at, ended_of}
 use Rattle.forecast.proofs.Turns.{Walks, turn-passed, turn-stepped}
 use Rattle.forecast.proofs.turn.Goals as goal
 use Rattle.forecast.proofs.turn.Goals.{After-step-answer}
@@ -18,9 +19,9 @@ stepped c =
     c.step-answer.ensures.answers c.step-answer.ensures.leaves
 
 pub returns-then-has : goal.returns-then-has
+unfolding ended_of
 returns-then-has c =
-    let s = c in
-    let r = turn-passed _ _ _ _ s.requires.so (sym c.has.ensures ∙ c.if-has.true) in
+    let r = turn-passed _ _ _ _ c.requires.so (sym c.has.ensures ∙ c.if-has.true) in
     record { answers = r.0; leaves = r.1 }
 
 pub returns-in_default : goal.returns-in_default
@@ -31,12 +32,12 @@ returns-in_default c =
     }
 
 pub returns : goal.returns
-unfolding stopped_at
+unfolding stopped_at ended_of
 returns c =
-    let k = c.before.before.before.before in
-    let w = stepped (goal.at.returns c).After-step-answer in
-    let a = k.args in
-    record {
-      answers = sym (ap (stopped_at a.j) c.in-Done.is) ∙ w.0;
+    let a = c.args in
+    let k = c.in-Ok-Done in
+    let e = rw k.is at k.field-0-is in
+    let w = stepped (goal.at.returns c).After-step-answer in record {
+      answers = sym (ap (stopped_at a.j) k.is ∙ ap (λ x. stopped_at a.j (Ok x)) e) ∙ w.0;
       leaves = w.1;
     }

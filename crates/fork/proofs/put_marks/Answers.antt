@@ -9,29 +9,22 @@ use Rattle.fork.proofs.Indices.{read-index, mark-index}
 use Rattle.fork.proofs.put_marks.Goals as goal
 use Rattle.fork.proofs.put_marks.Goals.{After-mark_at-at}
 
-theirs : (c : After-mark_at-at) → let n = c in
-    (n.read_on-theirs.result < max_total)
-    × (n.read_on-theirs.result < length n.args.words.now)
+theirs : (c : After-mark_at-at) → (c.read_on-theirs.result < max_total)
+    × (c.read_on-theirs.result < length c.args.words.now)
 theirs c =
-    let s = c in
-    rw c.read_on-theirs.ensures (read-index _ _ s.requires.store_area _ s.requires.r_lt_runs 1)
+    rw c.read_on-theirs.ensures (read-index _ _ c.requires.store_area _ c.requires.r_lt_runs 1)
 
-here : (c : After-mark_at-at) → let n = c in
-    (c.mark_at-at.result < max_total)
-    × (c.mark_at-at.result < length n.args.words.now)
+here : (c : After-mark_at-at) → (c.mark_at-at.result < max_total)
+    × (c.mark_at-at.result < length c.args.words.now)
 here c =
-    let s = c in
-    rw c.mark_at-at.ensures (mark-index _ _ s.requires.store_area _ s.requires.r_lt_runs)
+    rw c.mark_at-at.ensures (mark-index _ _ c.requires.store_area _ c.requires.r_lt_runs)
 
 pub returns : goal.returns
 returns c = rw (c.read_on-theirs.ensures, c.mark_at-at.ensures)
 
 pub offset_bounds-words-theirs : goal.offset_bounds-words-theirs
-offset_bounds-words-theirs c = omega (
-  arith,
-  theirs
-      (goal.at.offset_bounds-words-theirs c).After-mark_at-at,
-)
+offset_bounds-words-theirs c =
+    omega (arith, theirs (goal.at.offset_bounds-words-theirs c).After-mark_at-at)
 
 pub bounds-words-theirs : goal.bounds-words-theirs
 bounds-words-theirs c = (theirs (goal.at.bounds-words-theirs c).After-mark_at-at).1

@@ -39,21 +39,16 @@ place_formed-requires c =
 pub returns : goal.returns
 unfolding in_form sizes_of master_at
 returns c =
-    let r = c in
-    let s = r in
-    let p = s in
-    let a = p in
-    let n = a in
     rw (
       yes (goal.at.returns c).Else-not-shaped,
-      p.place_formed.ensures,
-      s.sites_formed.ensures,
-      r.runs_formed.ensures,
+      c.place_formed.ensures,
+      c.sites_formed.ensures,
+      c.runs_formed.ensures,
       c.tail_formed.ensures,
-      a.areas-areas.ensures,
-      n.counts-z.ensures,
+      c.areas-areas.ensures,
+      c.counts-z.ensures,
     )
-    (store-test n.args.words.now)
+    (store-test c.args.words.now)
 
 pub sites_formed-requires : goal.sites_formed-requires
 sites_formed-requires c = area (goal.at.sites_formed-requires c).After-counts-z

@@ -17,14 +17,13 @@ inside s = save_in _ _ (form-area _ _ s.requires.form_with.0) s.args.w s.require
 
 pub returns : goal.returns
 returns c =
-    let s = c in
-    cc (barred-word _ _ s.requires.form_with.0 s.args.w s.args.mask s.requires.form_with.1
-    s.requires.mask_bound)
+    cc (barred-word _ _ c.requires.form_with.0 c.args.w c.args.mask c.requires.form_with.1
+    c.requires.mask_bound)
 
 pub may_save_at-at-requires : goal.may_save_at-at-requires
-may_save_at-at-requires c = let s = c in record {
-  ranged = (form-area _ _ s.requires.form_with.0).ranged;
-  w_lt_writers = s.requires.form_with.1;
+may_save_at-at-requires c = record {
+  ranged = (form-area _ _ c.requires.form_with.0).ranged;
+  w_lt_writers = c.requires.form_with.1;
 }
 
 pub offset_bounds-words-at : goal.offset_bounds-words-at

@@ -16,23 +16,20 @@ use Rattle.issue.proofs.is_forked.Goals.{After-mark_at-at}
 here : (c : After-mark_at-at) → let a = c.args in
     (c.mark_at-at.result < max_total) × (c.mark_at-at.result < length a.words.now)
 here c =
-    let s = c in
-    rw c.mark_at-at.ensures (mark-index _ _ s.requires.form_with _ s.requires.r_lt_runs)
+    rw c.mark_at-at.ensures (mark-index _ _ c.requires.form_with _ c.requires.r_lt_runs)
 
 pub mark_at-at-requires : goal.mark_at-at-requires
 mark_at-at-requires c =
-    let s = c in record {
-      ranged = (form-area _ _ s.requires.form_with).ranged;
-      r_lt_runs = s.requires.r_lt_runs;
+    record {
+      ranged = (form-area _ _ c.requires.form_with).ranged;
+      r_lt_runs = c.requires.r_lt_runs;
     }
 
 pub returns : goal.returns
 returns c =
-    let n = c in
-    let s = n in
-    let a = s.args in
-    ap (λ (x : ℕ). eqb x forked_mark) (ap (read_word_of a.words.now) n.mark_at-at.ensures
-    ∙ sym (mark-word a.words.now a.z s.requires.form_with a.r s.requires.r_lt_runs))
+    let a = c.args in
+    ap (λ (x : ℕ). eqb x forked_mark) (ap (read_word_of a.words.now) c.mark_at-at.ensures
+    ∙ sym (mark-word a.words.now a.z c.requires.form_with a.r c.requires.r_lt_runs))
 
 pub offset_bounds-words-at : goal.offset_bounds-words-at
 offset_bounds-words-at c = omega (arith, here (goal.at.offset_bounds-words-at c).After-mark_at-at)

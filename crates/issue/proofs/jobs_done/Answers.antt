@@ -11,38 +11,32 @@ use Rattle.issue.proofs.jobs_done.Goals.{After-run_at-at}
 here : (c : After-run_at-at)
     → c.run_at-at.result + 28 ≤ length c.args.words.now
 here c =
-    let s = c in
-    let a = s.args in
-    rw c.run_at-at.ensures (run-words a.words.now a.z s.requires.form_with a.r
-    s.requires.r_lt_runs)
+    let a = c.args in
+    rw c.run_at-at.ensures (run-words a.words.now a.z c.requires.form_with a.r
+    c.requires.r_lt_runs)
 
 pub run_at-at-requires : goal.run_at-at-requires
 run_at-at-requires c =
-    let s = c in
     record {
-      ranged = (form-area s.args.words.now s.args.z s.requires.form_with).ranged;
-      r_lt_runs = s.requires.r_lt_runs;
+      ranged = (form-area c.args.words.now c.args.z c.requires.form_with).ranged;
+      r_lt_runs = c.requires.r_lt_runs;
     }
 
 pub has_all-requires : goal.has_all-requires
 has_all-requires c =
-    let n = c in
-    let s = n in
-    let a = s.args in
+    let a = c.args in
     let l = a.words.now in
-    rw (n.run_at-at.ensures, ← jobs-word l a.z s.requires.form_with a.r s.requires.r_lt_runs)
-    (jobs-high l a.z s.requires.form_with a.r s.requires.r_lt_runs)
+    rw (c.run_at-at.ensures, ← jobs-word l a.z c.requires.form_with a.r c.requires.r_lt_runs)
+    (jobs-high l a.z c.requires.form_with a.r c.requires.r_lt_runs)
 
 pub returns : goal.returns
 returns c =
-    let n = c in
-    let s = n in
-    let a = s.args in
+    let a = c.args in
     let l = a.words.now in
     rw (
-      jobs-word l a.z s.requires.form_with a.r s.requires.r_lt_runs,
-      done-word l a.z s.requires.form_with a.r s.requires.r_lt_runs,
-      ← n.run_at-at.ensures,
+      jobs-word l a.z c.requires.form_with a.r c.requires.r_lt_runs,
+      done-word l a.z c.requires.form_with a.r c.requires.r_lt_runs,
+      ← c.run_at-at.ensures,
     )
     c.has_all.ensures
 

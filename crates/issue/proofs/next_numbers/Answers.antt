@@ -10,9 +10,8 @@ use Rattle.issue.proofs.next_numbers.Goals as goal
 
 pub raised-requires : goal.raised-requires
 raised-requires c =
-    let s = c in
-    let a = s.args in
-    let free = raise-free (store_of a.words.now) a.w s.requires.w_lt_writers.1 in
+    let a = c.args in
+    let free = raise-free (store_of a.words.now) a.w c.requires.w_lt_writers.1 in
     let issue = c.numbers_of-old.ensures.issue in
     let count = c.numbers_of-old.ensures.count in
     let x = free.0 in
@@ -24,9 +23,9 @@ raised-requires c =
 
 pub returns : goal.returns
 returns c =
-    let n = c in record {
+    record {
       issue = ap (λ (t : Tally). t.issue.0) c.raised.ensures
-          ∙ ap (λ (i : ℕ). i + 1) n.numbers_of-old.ensures.issue;
+          ∙ ap (λ (i : ℕ). i + 1) c.numbers_of-old.ensures.issue;
       count = ap (λ (t : Tally). t.count.0) c.raised.ensures
-          ∙ ap (λ (i : ℕ). i + 1) n.numbers_of-old.ensures.count;
+          ∙ ap (λ (i : ℕ). i + 1) c.numbers_of-old.ensures.count;
     }

@@ -13,20 +13,17 @@ told : (c : After-is_full)
     raise_cause (store_of a.words.now) a.w ≡ refuse c.is_full.result 10 0
 unfolding raise_cause refuse
 told c =
-    let e = c in
-    let n = e in
     rw (
-      ← n.numbers_of-old.ensures.issue,
-      ← n.numbers_of-old.ensures.count,
-      sym e.is_last.ensures ∙ e.if-is_last.false,
+      ← c.numbers_of-old.ensures.issue,
+      ← c.numbers_of-old.ensures.count,
+      sym c.is_last.ensures ∙ c.if-is_last.false,
       ← c.is_full.ensures,
     )
 
 pub returns-then-is_last : goal.returns-then-is_last
 unfolding raise_cause refuse
 returns-then-is_last c =
-    let n = c in
-    rw (← n.numbers_of-old.ensures.issue, sym c.is_last.ensures ∙ c.if-is_last.true)
+    rw (← c.numbers_of-old.ensures.issue, sym c.is_last.ensures ∙ c.if-is_last.true)
 
 pub returns-then-is_full : goal.returns-then-is_full
 unfolding refuse

@@ -11,17 +11,15 @@ use Rattle.issue.proofs.read_mask.Goals.{After-run_at-at}
 here : (c : After-run_at-at)
     → c.run_at-at.result + 28 ≤ length c.args.words.now
 here c =
-    let s = c in
-    let a = s.args in
-    rw c.run_at-at.ensures (run-words a.words.now a.z s.requires.form_with a.r
-    s.requires.r_lt_runs)
+    let a = c.args in
+    rw c.run_at-at.ensures (run-words a.words.now a.z c.requires.form_with a.r
+    c.requires.r_lt_runs)
 
 pub run_at-at-requires : goal.run_at-at-requires
 run_at-at-requires c =
-    let s = c in
     record {
-      ranged = (form-area s.args.words.now s.args.z s.requires.form_with).ranged;
-      r_lt_runs = s.requires.r_lt_runs;
+      ranged = (form-area c.args.words.now c.args.z c.requires.form_with).ranged;
+      r_lt_runs = c.requires.r_lt_runs;
     }
 
 pub overflow_add-result : goal.overflow_add-result
@@ -35,10 +33,8 @@ bounds-words-at c = omega (arith, here (goal.at.bounds-words-at c).After-run_at-
 
 pub returns : goal.returns
 returns c =
-    let n = c in
-    let s = n in
-    let a = s.args in
+    let a = c.args in
     rw (
-      read_word a.words.now a.z s.requires.form_with a.r s.requires.r_lt_runs,
-      ← n.run_at-at.ensures,
+      read_word a.words.now a.z c.requires.form_with a.r c.requires.r_lt_runs,
+      ← c.run_at-at.ensures,
     )

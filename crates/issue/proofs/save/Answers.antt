@@ -10,10 +10,9 @@ use Rattle.issue.proofs.save.Goals as goal
 
 pub save_keys-requires : goal.save_keys-requires
 save_keys-requires c =
-    let t = c in
-    let s = t in record {
-      form_with = s.requires.form_with;
-      savable = (s.requires.savable, t.if-mask-gt0.true);
+    record {
+      form_with = c.requires.form_with;
+      savable = (c.requires.savable, c.if-mask-gt0.true);
     }
 
 pub shape_of-words-then-mask-gt0 : goal.shape_of-words-then-mask-gt0
@@ -25,12 +24,10 @@ none-requires c = search rules
 pub returns : goal.returns
 unfolding issued_store issued_number
 returns c =
-    let e = c in
-    let s = e in
-    rw (eq-eqb s.args.mask 0 (omega (arith, e.if-mask-gt0.false)))
+    rw (eq-eqb c.args.mask 0 (omega (arith, c.if-mask-gt0.false)))
     record {
       answers = c.none.ensures;
-      leaves = sym (form-again s.args.words.now s.args.z s.requires.form_with);
+      leaves = sym (form-again c.args.words.now c.args.z c.requires.form_with);
     }
 
 pub returns-then-mask-gt0 : goal.returns-then-mask-gt0

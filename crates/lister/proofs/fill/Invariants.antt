@@ -3,17 +3,13 @@ use mathlib.Core.Path.{◌≡◌}
 use Prim.Native.Nat.{◌*◌, ◌-◌, ◌≤◌}
 use lib.ListN.{length, take}
 use Rattle.listing.specs.Lines.{lines_from}
-use Rattle.lister.specs.Numbered.{line_count, history_room}
+use Rattle.lister.specs.Numbered.{history_room}
 use Rattle.lister.proofs.fill.Given as goal
 
 abbrev pub invariant-loop-next : goal.invariant-loop-next
 invariant-loop-next l =
-    (l.line ≤ l.next) × (l.next ≤ line_count) × (length l.out ≡ length l.initial.out)
-    × (length l.store ≡ length l.initial.store) × (length l.digits ≡ length l.initial.digits)
-    × (length l.words ≡ length l.initial.words) × (length l.answer ≡ length l.initial.answer)
+    (length l.out ≡ length l.initial.out) × (length l.store ≡ length l.initial.store)
+    × (length l.digits ≡ length l.initial.digits) × (length l.words ≡ length l.initial.words)
+    × (length l.answer ≡ length l.initial.answer)
     × (l.end ≤ length l.initial.out) × (l.end ≤ history_room * (l.next - l.line))
     × (take l.end l.out ≡ lines_from l.line (l.next - l.line))
-
-abbrev pub decreases-loop-next : goal.decreases-loop-next
-decreases-loop-next l =
-    line_count - l.next

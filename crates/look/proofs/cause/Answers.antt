@@ -35,12 +35,9 @@ key c = omega arith
 area : (c : Else-z-k) → let a = c.args in
     Area (length a.words.now) a.z (place_at a.z a.place a.i)
 area c =
-    let n = c in
-    let s = n in
-    let a = s.args in
-    area_in a.words.now a.z s.requires.counts a.place a.i s.requires.form
-    ((let it : let a = n.args in
-    a.i < look_limit a.z a.place = rw (← n.limit.ensures) (omega arith) in it))
+    let a = c.args in
+    area_in a.words.now a.z c.requires.counts a.place a.i c.requires.form
+    (rw (← c.limit.ensures) (omega arith))
 
 last : (c : After-held)
     → let a = c.args in
@@ -48,19 +45,16 @@ last : (c : After-held)
     ≡ refuse (not c.held.result) 8 0
 unfolding refuse
 last c =
-    let e = c in
-    let n = e in
-    let s = n in
-    let a = s.args in
+    let a = c.args in
+    let few : a.place < 3 = omega arith in
+    let inside : a.i < look_limit a.z a.place = rw (← c.limit.ensures) (omega arith) in
+    let low : a.k < a.z.keys = omega arith in
     rw (
-      cause-in a.words.now a.z s.requires.counts a.place a.i a.k,
-      lt-leb _ _ ((let it : n.args.place < 3 = omega arith in it)),
-      lt-leb _ _ ((let it : let a = n.args in
-          a.i < look_limit a.z a.place = rw (← n.limit.ensures) (omega arith) in it)),
-      lt-leb _ _ ((let it : let a = e.args in
-          a.k < a.z.keys = omega arith in it)),
-      held_in a.words.now a.z s.requires.counts a.place a.i a.k ((let it : let a = n.args in
-          a.i < look_limit a.z a.place = rw (← n.limit.ensures) (omega arith) in it)),
+      cause-in a.words.now a.z c.requires.counts a.place a.i a.k,
+      lt-leb _ _ few,
+      lt-leb _ _ inside,
+      lt-leb _ _ low,
+      held_in a.words.now a.z c.requires.counts a.place a.i a.k inside,
       ← c.place_at-at.ensures,
       ← c.held.ensures,
     )
@@ -68,34 +62,29 @@ last c =
 pub returns-then-place-ge-COUNT : goal.returns-then-place-ge-COUNT
 unfolding refuse
 returns-then-place-ge-COUNT c =
-    let s = c in
-    let a = s.args in
+    let a = c.args in
     rw (
-      cause-in a.words.now a.z s.requires.counts a.place a.i a.k,
+      cause-in a.words.now a.z c.requires.counts a.place a.i a.k,
       le-leb 3 a.place (omega arith),
     )
 
 pub returns-then-limit-i : goal.returns-then-limit-i
 unfolding refuse
 returns-then-limit-i c =
-    let b = c in
-    let s = b in
-    let a = s.args in
+    let a = c.args in
     rw (
-      cause-in a.words.now a.z s.requires.counts a.place a.i a.k,
+      cause-in a.words.now a.z c.requires.counts a.place a.i a.k,
       lt-leb _ _ (kind (goal.at.returns-then-limit-i c).Else-place-ge-COUNT),
-      ← b.limit.ensures,
-      le-leb b.limit.result a.i (omega arith),
+      ← c.limit.ensures,
+      le-leb c.limit.result a.i (omega arith),
     )
 
 pub returns-then-z-k : goal.returns-then-z-k
 unfolding refuse
 returns-then-z-k c =
-    let n = c.before.before in
-    let s = n in
-    let a = s.args in
+    let a = c.args in
     rw (
-      cause-in a.words.now a.z s.requires.counts a.place a.i a.k,
+      cause-in a.words.now a.z c.requires.counts a.place a.i a.k,
       lt-leb _ _ (kind (goal.at.returns-then-z-k c).Else-place-ge-COUNT),
       lt-leb _ _ (number (goal.at.returns-then-z-k c).Else-limit-i),
       le-leb a.z.keys a.k (omega arith),

@@ -17,32 +17,28 @@ returns-then-place-eq0 c = rw (eq-eqb _ _ c.if-place-eq0.true, c.areas.ensures)
 
 pub site_at-requires : goal.site_at-requires
 site_at-requires c =
-    let s = c in
-    let a = s.args in
+    let a = c.args in
     let h = ne_eqb _ _ c.if-place-eq0.false in
     record {
-      ranged = s.requires.ranged;
+      ranged = c.requires.ranged;
       o_lt_sites = omega (arith, limit_sites a.z a.place h (eq-eqb _ _ c.if-place-eq1.true));
     }
 
 pub returns-then-place-eq1 : goal.returns-then-place-eq1
 unfolding place_at
 returns-then-place-eq1 c =
-    let b = c in
-    rw (ne_eqb _ _ b.if-place-eq0.false, eq-eqb _ _ b.if-place-eq1.true) c.site_at.ensures
+    rw (ne_eqb _ _ c.if-place-eq0.false, eq-eqb _ _ c.if-place-eq1.true) c.site_at.ensures
 
 pub snapshot_on-requires : goal.snapshot_on-requires
 snapshot_on-requires c =
-    let s = c in
-    let a = s.args in
+    let a = c.args in
     let h = ne_eqb _ _ c.if-place-eq0.false in
     record {
-      ranged = s.requires.ranged;
+      ranged = c.requires.ranged;
       r_lt_runs = omega (arith, limit_runs a.z a.place h (ne_eqb _ _ c.if-place-eq1.false));
     }
 
 pub returns : goal.returns
 unfolding place_at
 returns c =
-    let b = c in
-    rw (ne_eqb _ _ b.if-place-eq0.false, ne_eqb _ _ b.if-place-eq1.false) c.snapshot_on.ensures
+    rw (ne_eqb _ _ c.if-place-eq0.false, ne_eqb _ _ c.if-place-eq1.false) c.snapshot_on.ensures

@@ -4,7 +4,7 @@
 -- What is left of the path as the loop turns, and the item that is found.
 use mathlib.Core.Path.{◌≡◌, refl, sym, ap, ◌∙◌}
 use mathlib.Core.List.{List}
-use Prim.Native.Nat.{ℕ, ◌-◌}
+use Prim.Native.Nat.{ℕ, ◌+◌, ◌-◌}
 use native.Mathlib.Omega.{arith}
 use native.Mathlib.Nat.{zero-add}
 use lib.ListN.{length, get_or, length-set}
@@ -91,4 +91,5 @@ returns c =
     let k = length-path_by a.n (leads_by a.rows.now) aim a.m (test_bit a.start) in
     let e : l.loop-i.i ≡ length p = omega (arith, k) in
     let f = l.loop-i.invariant.2 ∙ ap (λ (i : ℕ). put no_items_of 0 i (λ j. get_or p j 0)) e in
-    λ x. record { count = e x; items = f x }
+    let d : a.m + 1 ≡ length p = omega (arith, k) in
+    λ x. record { count = d x; items = f x }

@@ -23,7 +23,3 @@ invariant-loop-i l =
     × (l.items ≡ put no_items_of 0 l.i (λ j. get_or (pathOf l.rows l.n l.masks l.start l.m) j 0))
     × (l.i ≤ l.m → Going l.rows l.n (get_or l.masks 0 0) (pathOf l.rows l.n l.masks l.start l.m)
     l.i (l.m - l.i) l.from)
-
-abbrev pub decreases-loop-i : goal.decreases-loop-i
-decreases-loop-i l =
-    l.m + 1 - l.i

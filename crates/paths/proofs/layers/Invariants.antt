@@ -1,7 +1,7 @@
 -- `layers` has each layer, from the goal on. The loop's invariant: those passed are stored.
 -- Assumes nothing.
 use mathlib.Core.Path.{◌≡◌}
-use Prim.Native.Nat.{◌≤◌, ◌-◌}
+use Prim.Native.Nat.{◌≤◌}
 use lib.ListN.{length}
 use Rattle.words.specs.Words.{put}
 use Rattle.paths.specs.Rows.{layer, no_items_of}
@@ -12,7 +12,3 @@ invariant-loop-m l =
     (l.m ≤ l.n) × (length l.masks ≡ 32) × (l.masks ≡ put no_items_of 0 l.m
     (layer l.rows l.n l.goal))
     × (l.mask ≡ layer l.rows l.n l.goal l.m)
-
-abbrev pub decreases-loop-m : goal.decreases-loop-m
-decreases-loop-m l =
-    l.n - l.m

@@ -11,15 +11,12 @@ use Rattle.pick.proofs.last_picked.Goals.{After-round_at-at}
 
 here : (c : After-round_at-at) → let a = c.args in
     (c.round_at-at.result < length a.words.now) × (c.round_at-at.result < 1000000)
-here c = let s = c in round-here _ _ s.requires _ c.round_at-at.ensures
+here c = round-here _ _ c.requires _ c.round_at-at.ensures
 
 pub returns : goal.returns
 returns c =
-    let n = c in
-    let s = n in
-    c.wide.ensures
-    ∙ ap (λ (i : ℕ). get_or s.args.words.now i 0) n.round_at-at.ensures
-    ∙ round_in _ _ s.requires
+    ap (λ (i : ℕ). get_or c.args.words.now i 0) c.round_at-at.ensures
+    ∙ round_in _ _ c.requires
 
 pub round_at-at-requires : goal.round_at-at-requires
 round_at-at-requires c = (form-area _ _ c.requires).ranged

@@ -1,224 +1,115 @@
 -- `pick` answers the run at the first turn at which one waits, or nothing.
+-- few, met, used, small: of a buffer in form, and of the run that is met.
 -- Assumes nothing.
--- A buffer in form, and the counts read from it.
--- The run that is met is one of the runs, and waits.
--- Run and job are small numbers.
 use native.Mathlib.Omega.{arith}
+use mathlib.Core.Path.{◌≡◌, refl, sym, ◌∙◌}
 use mathlib.Core.Bool.{So}
-use Prim.Native.Nat.{◌≤◌, ◌<◌}
+use mathlib.Core.List.{List}
+use Prim.Native.Nat.{ℕ, ◌≤◌, ◌<◌}
+use Rattle.std.specs.Prelude.{Some}
+use Rattle.words.specs.Turns.{turn}
+use Rattle.words.proofs.Bools.{lt-ltb}
+use Rattle.sizes.specs.declared.Counts.{Counts}
 use Rattle.sizes.specs.Bounds.{max_runs_of}
 use Rattle.sizes.specs.Runs.{max_jobs}
-use Rattle.model.specs.Calls.Pick.{waiting}
+use Rattle.model.specs.Calls.Pick.{waiting, ready_job, pick_turn}
 use Rattle.layout.specs.Reading.{store_of}
 use Rattle.form.specs.Parts.{FormWith}
 use Rattle.form.proofs.Known.{form-long, form-area}
 use Rattle.trial.specs.Jobs.{UsedRun}
 use Rattle.trial.proofs.Known.{jobs-known}
-use Rattle.pick.specs.Answers.{picked_words}
+use Rattle.pick.specs.Answers.{picked_words, if_below}
 use Rattle.pick.proofs.Known.{round-low, used_open}
-use Rattle.pick.proofs.Waiting.{waiting_open, ready-few}
+use Rattle.pick.proofs.Searches.{below-found, below-missed, is-below}
+use Rattle.pick.proofs.Waiting.{waiting_open, ready-low, ready-few}
 use Rattle.pick.proofs.Picks.{exact-words, picked-waits, pick-nothing, pick-done}
 use Rattle.pick.proofs.pick.Goals as goal
-use Rattle.pick.proofs.pick.Goals.{After-counts-z, After-ready_job-j, After-turn_run-r}
+use Rattle.pick.proofs.pick.Goals.{After-counts-z, After-turn_run-r, After-unwrap-j}
 
-holds : (c : After-counts-z)
-    → FormWith c.args.words.now c.counts-z.result
+module _ (l : List ℕ) (z : Counts) (H : FormWith l z) where
+  few : z.runs ≤ max_runs_of
+  few = (form-area l z H).ranged.runs-high
+
+  -- i: the turn that was found. r: the run that is met then.
+  module _ (i last r : ℕ) (t : Some i ≡ if_below z.runs (pick_turn (store_of l)))
+      (e : last ≡ (store_of l).tail.round) (f : r ≡ turn z.runs last i) where
+    met : (r < z.runs) × So (waiting ((store_of l).run r))
+    met =
+        let p = below-found z.runs _ i t in
+        picked-waits l z H i p.0 (omega (arith, p.0, p.1)) last r e f
+
+    used : UsedRun l z r
+    used = used_open l z H r met.0 (waiting_open _ met.1)
+
+    small : (r < max_runs_of) × (ready_job ((store_of l).run r) < max_jobs)
+    small =
+        (omega (arith, met.0, few), ready-few _ met.1 (jobs-known l z r used).plan.jobs.high)
+
+holds : (c : After-counts-z) → FormWith c.args.words.now c.counts-z.result
 holds c = record { form = c.requires; counts = c.counts-z.ensures }
-
-few : (c : After-counts-z) → c.counts-z.result.runs ≤ max_runs_of
-few c = (form-area _ _ ((let it : FormWith c.args.words.now c.counts-z.result = record {
-  form =
-      c.requires;
-  counts = c.counts-z.ensures;
-} in it))).ranged.runs-high
-
-met : (c : After-turn_run-r) → let n = c in
-    let l = n.args.words.now in
-    let r = c.turn_run-r.result in
-    (r < n.counts-z.result.runs) × So (waiting ((store_of l).run r))
-met c =
-    let e = c in
-    let t = e in
-    let k = t in
-    picked-waits _ _ ((let it : FormWith k.args.words.now k.counts-z.result = record {
-      form =
-          k.requires;
-      counts = k.counts-z.ensures;
-    } in it)) _ t.pick_turn-i.ensures
-    (omega (arith, e.if-runs-i.false)) _ _ k.last_picked-last.ensures c.turn_run-r.ensures
-
-used : (c : After-turn_run-r)
-    → let n = c in
-    UsedRun n.args.words.now n.counts-z.result c.turn_run-r.result
-used c =
-    let n = c in
-    used_open _ _ ((let it : FormWith n.args.words.now n.counts-z.result = record {
-      form =
-          n.requires;
-      counts = n.counts-z.ensures;
-    } in it)) _ ((let it : let n = c in
-    let l = n.args.words.now in
-    let r = c.turn_run-r.result in
-    (r < n.counts-z.result.runs) × So (waiting ((store_of l).run r)) = let e = c in
-    let t = e in
-    let k = t in
-    picked-waits _ _ ((let it : FormWith k.args.words.now k.counts-z.result = record {
-      form =
-          k.requires;
-      counts = k.counts-z.ensures;
-    } in it)) _ t.pick_turn-i.ensures
-    (omega (arith, e.if-runs-i.false)) _ _ k.last_picked-last.ensures c.turn_run-r.ensures in
-    it)).0 (waiting_open _ ((let it : let n = c in
-    let l = n.args.words.now in
-    let r = c.turn_run-r.result in
-    (r < n.counts-z.result.runs) × So (waiting ((store_of l).run r)) = let e = c in
-    let t = e in
-    let k = t in
-    picked-waits _ _ ((let it : FormWith k.args.words.now k.counts-z.result = record {
-      form =
-          k.requires;
-      counts = k.counts-z.ensures;
-    } in it)) _ t.pick_turn-i.ensures
-    (omega (arith, e.if-runs-i.false)) _ _ k.last_picked-last.ensures c.turn_run-r.ensures in
-    it)).1)
-
-small : (c : After-ready_job-j)
-    → (c.turn_run-r.result < max_runs_of) × (c.ready_job-j.result < max_jobs)
-small c =
-    let u = c in
-    let n = u in (
-      omega (
-        arith,
-        ((let it : let n = u in
-            let l = n.args.words.now in
-            let r = u.turn_run-r.result in
-            (r < n.counts-z.result.runs) × So (waiting ((store_of l).run r)) = let e = u in
-            let t = e in
-            let k = t in
-            picked-waits _ _ ((let it : FormWith k.args.words.now k.counts-z.result = record {
-              form = k.requires;
-              counts = k.counts-z.ensures;
-            } in it)) _ t.pick_turn-i.ensures
-            (omega (arith, e.if-runs-i.false)) _ _ k.last_picked-last.ensures u.turn_run-r.ensures
-            in it)).0,
-        (let it : n.counts-z.result.runs ≤ max_runs_of = (form-area _ _
-            ((let it : FormWith n.args.words.now n.counts-z.result = record {
-              form = n.requires;
-              counts = n.counts-z.ensures;
-            } in it))).ranged.runs-high in it),
-      ),
-      rw c.ready_job-j.ensures
-          (ready-few _ ((let it : let n = u in
-          let l = n.args.words.now in
-          let r = u.turn_run-r.result in
-          (r < n.counts-z.result.runs) × So (waiting ((store_of l).run r)) = let e = u in
-          let t = e in
-          let k = t in
-          picked-waits _ _ ((let it : FormWith k.args.words.now k.counts-z.result = record {
-            form
-                = k.requires;
-            counts = k.counts-z.ensures;
-          } in it)) _ t.pick_turn-i.ensures
-          (omega (arith, e.if-runs-i.false)) _ _ k.last_picked-last.ensures u.turn_run-r.ensures
-          in it)).1 (jobs-known _ _ _ ((let it : let n = u in
-          UsedRun n.args.words.now n.counts-z.result u.turn_run-r.result = let n = u in
-          used_open _ _ ((let it : FormWith n.args.words.now n.counts-z.result = record {
-            form =
-                n.requires;
-            counts = n.counts-z.ensures;
-          } in it)) _ ((let it : let n = u in
-          let l = n.args.words.now in
-          let r = u.turn_run-r.result in
-          (r < n.counts-z.result.runs) × So (waiting ((store_of l).run r)) = let e = u in
-          let t = e in
-          let k = t in
-          picked-waits _ _ ((let it : FormWith k.args.words.now k.counts-z.result = record {
-            form
-                = k.requires;
-            counts = k.counts-z.ensures;
-          } in it)) _ t.pick_turn-i.ensures
-          (omega (arith, e.if-runs-i.false)) _ _ k.last_picked-last.ensures u.turn_run-r.ensures
-          in it)).0 (waiting_open _ ((let it : let n = u in
-          let l = n.args.words.now in
-          let r = u.turn_run-r.result in
-          (r < n.counts-z.result.runs) × So (waiting ((store_of l).run r)) = let e = u in
-          let t = e in
-          let k = t in
-          picked-waits _ _ ((let it : FormWith k.args.words.now k.counts-z.result = record {
-            form
-                = k.requires;
-            counts = k.counts-z.ensures;
-          } in it)) _ t.pick_turn-i.ensures
-          (omega (arith, e.if-runs-i.false)) _ _ k.last_picked-last.ensures u.turn_run-r.ensures
-          in it)).1) in it))).plan.jobs.high),
-    )
 
 pub counts-z-requires : goal.counts-z-requires
 counts-z-requires c = form-long _ c.requires
 
-pub returns-then-runs-i : goal.returns-then-runs-i
+pub returns-in_err-i : goal.returns-in_err-i
 unfolding picked_words
-returns-then-runs-i c =
-    let t = c in
-    let n = t.before.before.before.before in
-    let s = n in
-    let e = pick-nothing _ _ (holds (goal.at.returns-then-runs-i c).After-counts-z) _
-    t.pick_turn-i.ensures c.if-runs-i.true in
-    record {
-      answers = e.0;
-      leaves = e.1;
-      exact = exact-words _ s.requires _ e.0;
-    }
+returns-in_err-i c =
+    let z = c.counts-z.result in
+    let h = below-missed z.runs _ c.in_err-i.ensures in
+    let e = pick-nothing _ z (holds (goal.at.returns-in_err-i c).After-counts-z) _ refl h in
+    rw c.from_residual.ensures
+    record { answers = e.0; leaves = e.1; exact = exact-words _ c.requires _ e.0 }
 
 pub turn_run-r-requires : goal.turn_run-r-requires
 turn_run-r-requires c =
-    let t = c in
-    let k = t in
-    let n = k.before.before in (
-      omega (
-        arith,
-        k.last_picked-last.ensures,
-        round-low _ _ (holds
-            (goal.at.turn_run-r-requires c).After-counts-z),
-        few (goal.at.turn_run-r-requires
-            c).After-counts-z,
-      ),
-      omega (arith, c.if-runs-i.false, few (goal.at.turn_run-r-requires c).After-counts-z),
+    let H = holds (goal.at.turn_run-r-requires c).After-counts-z in
+    let l = c.args.words.now in
+    let p = below-found c.counts-z.result.runs _ _ c.in_ok-i.ensures in (
+      omega (arith, c.last_picked-last.ensures, round-low l _ H, few l _ H),
+      omega (arith, p.0, p.1, few l _ H),
     )
+
+pub ready_job-requires : goal.ready_job-requires
+ready_job-requires c =
+    used _ _ (holds (goal.at.ready_job-requires c).After-counts-z) _ _ _ c.in_ok-i.ensures
+    c.last_picked-last.ensures c.turn_run-r.ensures
+
+-- The run that is met waits: it has a job that is ready.
+waits : (c : After-turn_run-r) →
+    So (waiting ((store_of c.args.words.now).run c.turn_run-r.result))
+waits c =
+    (met _ _ (record { form = c.requires; counts = c.counts-z.ensures }) _ _ _ c.in_ok-i.ensures
+    c.last_picked-last.ensures c.turn_run-r.ensures).1
+
+pub unwrap-j-requires : goal.unwrap-j-requires
+unwrap-j-requires c =
+    rw c.ready_job.ensures
+    (is-below _ _
+    ∙ lt-ltb _ _ (ready-low _ (waits (goal.at.unwrap-j-requires c).After-turn_run-r)))
+
+-- It is the lowest one.
+job : (c : After-unwrap-j)
+    → c.unwrap-j.result ≡ ready_job ((store_of c.args.words.now).run c.turn_run-r.result)
+job c = (below-found _ _ _ (sym c.unwrap-j.ensures ∙ c.ready_job.ensures)).0
+
+low : (c : After-unwrap-j) → (c.turn_run-r.result < max_runs_of) × (c.unwrap-j.result < max_jobs)
+low c =
+    let s =
+    small _ _ (record { form = c.requires; counts = c.counts-z.ensures }) _ _ _ c.in_ok-i.ensures
+    c.last_picked-last.ensures c.turn_run-r.ensures in
+    (s.0, rw (below-found _ _ _ (sym c.unwrap-j.ensures ∙ c.ready_job.ensures)).0 s.1)
+
+pub overflow_cast-run : goal.overflow_cast-run
+overflow_cast-run c = omega (arith, low (goal.at.overflow_cast-run c).After-unwrap-j)
+
+pub overflow_cast-result : goal.overflow_cast-result
+overflow_cast-result c = omega (arith, low (goal.at.overflow_cast-result c).After-unwrap-j)
 
 pub returns : goal.returns
 unfolding picked_words
 returns c =
-    let w = c in
-    let j = w in
-    let u = j in
-    let e = u in
-    let t = e in
-    let k = t in
-    let n = k.before.before in
-    let s = n in
-    let x = pick-done _ _ (holds (goal.at.returns c).After-counts-z) _ t.pick_turn-i.ensures
-    (omega (arith, e.if-runs-i.false)) _ _ _ _
-    k.last_picked-last.ensures u.turn_run-r.ensures j.ready_job-j.ensures
-    w.store_round.ensures in
-    record {
-      answers = x.0;
-      leaves = x.1;
-      exact = exact-words _ s.requires _ x.0;
-    }
-
-pub ready_job-j-requires : goal.ready_job-j-requires
-ready_job-j-requires c = used (goal.at.ready_job-j-requires c).After-turn_run-r
-
-pub overflow_cast-r : goal.overflow_cast-r
-overflow_cast-r c = omega (arith, small (goal.at.overflow_cast-r c).After-ready_job-j)
-
-pub overflow_cast-result : goal.overflow_cast-result
-overflow_cast-result c = omega (arith, small (goal.at.overflow_cast-result c).After-ready_job-j)
-
-pub overflow_cast-result-2 : goal.overflow_cast-result-2
-overflow_cast-result-2 c = omega (
-  arith,
-  small (goal.at.overflow_cast-result-2
-      c).After-ready_job-j,
-)
+    let p = below-found c.counts-z.result.runs _ _ c.in_ok-i.ensures in
+    let x = pick-done _ _ (holds (goal.at.returns c).After-counts-z) _ p.0
+    (omega (arith, p.0, p.1)) _ _ _ _ c.last_picked-last.ensures c.turn_run-r.ensures
+    (job (goal.at.returns c).After-unwrap-j) c.store_round.ensures in
+    record { answers = x.0; leaves = x.1; exact = exact-words _ c.requires _ x.0 }

@@ -3,14 +3,10 @@
 use Rattle.pick.specs.Answers.{picked_words}
 use Rattle.pick.proofs.put_picked.Goals as goal
 
-pub returns-in-Job : goal.returns-in-Job
+pub returns-in-Some : goal.returns-in-Some
 unfolding picked_words
-returns-in-Job c =
-    rw c.in-Job.is
-    c.put_three.ensures
+returns-in-Some c = rw c.in-Some.is c.put_three.ensures
 
-pub returns-in-Nothing : goal.returns-in-Nothing
+pub returns-in-None : goal.returns-in-None
 unfolding picked_words
-returns-in-Nothing c =
-    rw c.in-Nothing.is
-    c.put_one.ensures
+returns-in-None c = rw c.in-None.is c.put_one.ensures

@@ -10,7 +10,7 @@ use Rattle.pick.proofs.store_round.Goals.{After-round_at-at}
 
 here : (c : After-round_at-at) → let a = c.args in
     (c.round_at-at.result < length a.words.now) × (c.round_at-at.result < 1000000)
-here c = let s = c in round-here _ _ s.requires _ c.round_at-at.ensures
+here c = round-here _ _ c.requires _ c.round_at-at.ensures
 
 pub returns : goal.returns
 returns c = rw c.round_at-at.ensures

@@ -3,7 +3,6 @@
 use mathlib.Core.Path.{◌≡◌, sym, ap, ap₂, ◌∙◌}
 use mathlib.Core.Bool.{Bool, not}
 use Prim.Native.Nat.{ℕ, ◌+◌, ◌≤◌, ◌<◌}
-use borrow.Author.Rules.{rules}
 use native.Mathlib.Omega.{arith}
 use lib.Dec.{eqb}
 use lib.ListN.{length, get_or}
@@ -16,14 +15,17 @@ use Rattle.trial.specs.Jobs.{UsedRun}
 use Rattle.trial.proofs.Known.{jobs-known, run_index, done-word, mark-found}
 use Rattle.prepare.specs.Turns.{early_cause}
 use Rattle.prepare.proofs.Causes.{cause-run, cause-words, used-run}
+use Rattle.std.proofs.lemmas.Result.{err_from_is_err_and}
+use Rattle.answers.specs.Refusals.{refusal_number}
+use Rattle.answers.proofs.Refusals.{refusal_some}
 use Rattle.prepare.proofs.early_cause.Goals as goal
-use Rattle.prepare.proofs.early_cause.Goals.{After-mark_at-mark, After-run_at-at, Else-cause-ne0}
+use Rattle.prepare.proofs.early_cause.Goals.{After-mark_at-mark, After-run_at-at, In_ok-run_cause}
 
 -- The run passes: it isn't free.
-passed : (c : Else-cause-ne0) → run_cause (store_of c.args.words.now) prepare_row c.args.r 0 ≡ 0
-passed c = sym c.run_cause-cause.ensures ∙ c.if-cause-ne0.false
+passed : (c : In_ok-run_cause) → run_cause (store_of c.args.words.now) prepare_row c.args.r 0 ≡ 0
+passed c = sym c.in_ok-run_cause.ensures
 
-used : (c : Else-cause-ne0) → UsedRun c.args.words.now c.args.z c.args.r
+used : (c : In_ok-run_cause) → UsedRun c.args.words.now c.args.z c.args.r
 used c = used-run c.args.words.now c.args.z c.args.r c.requires (passed c)
 
 -- Where the two words stand.
@@ -33,13 +35,13 @@ marked : (c : After-mark_at-mark)
     ≡ get_or c.args.words.now c.mark_at-mark.result 0)
 marked c =
     let U = used-run c.args.words.now c.args.z c.args.r c.requires
-    (sym c.run_cause-cause.ensures ∙ c.if-cause-ne0.false) in
+    (sym c.in_ok-run_cause.ensures) in
     rw c.mark_at-mark.ensures (mark-found _ _ _ U.form U.run)
 
 used-at : (c : After-run_at-at) → UsedRun c.args.words.now c.args.z c.args.r
 used-at c =
     used-run c.args.words.now c.args.z c.args.r c.requires
-    (sym c.run_cause-cause.ensures ∙ c.if-cause-ne0.false)
+    (sym c.in_ok-run_cause.ensures)
 
 here : (c : After-run_at-at) → c.run_at-at.result + snapshot_offset ≤ length c.args.words.now
 here c = run_index _ _ _ (used-at c) _ c.run_at-at.ensures
@@ -63,25 +65,29 @@ tested c =
     × (((store_of c.args.words.now).run c.args.r).mark
     ≡ get_or c.args.words.now c.mark_at-mark.result 0) =
     rw c.mark_at-mark.ensures (mark-found _ _ _ U.form U.run) in
-    cause-words _ _ _ _ (sym c.run_cause-cause.ensures ∙ c.if-cause-ne0.false)
+    cause-words _ _ _ _ (sym c.in_ok-run_cause.ensures)
     (ap (λ (x : ℕ). eqb x forked_mark) (sym m.1))
     (ap (λ (x : ℕ). not (eqb x 0)) (read c))
 
-pub returns-then-cause-ne0 : goal.returns-then-cause-ne0
-returns-then-cause-ne0 c =
+pub returns-in_err-run_cause : goal.returns-in_err-run_cause
+returns-in_err-run_cause c =
     let a = c.args in
-    cause-run (store_of a.words.now) a.r _ c.run_cause-cause.ensures c.if-cause-ne0.true
+    let p = err_from_is_err_and c.from_residual.result c.from_residual.ensures.1 in
+    let e = c.in_err-run_cause.field-0.0 in
+    rw (p.1, p.2)
+    (cause-run (store_of a.words.now) a.r (refusal_number e) c.in_err-run_cause.ensures
+    (refusal_some e))
 
 pub mark_at-mark-requires : goal.mark_at-mark-requires
 mark_at-mark-requires c =
-    let U = used (goal.at.mark_at-mark-requires c).Else-cause-ne0 in record {
+    let U = used (goal.at.mark_at-mark-requires c).In_ok-run_cause in record {
       ranged = (jobs-known _ _ _ U).area.ranged;
       r_lt_runs = U.run;
     }
 
 pub run_at-at-requires : goal.run_at-at-requires
 run_at-at-requires c =
-    let U = used (goal.at.run_at-at-requires c).Else-cause-ne0 in record {
+    let U = used (goal.at.run_at-at-requires c).In_ok-run_cause in record {
       ranged = (jobs-known _ _ _ U).area.ranged;
       r_lt_runs = U.run;
     }

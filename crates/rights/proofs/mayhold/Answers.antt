@@ -1,8 +1,7 @@
 -- `mayhold` is refused out of range, or E leaves and the mask is stored.
+-- holds: a buffer in form, and the counts read from it. free, below: in range. here: the mask lies
+-- in the buffer.
 -- Assumes nothing.
--- A buffer in form, and the counts read from it.
--- In range.
--- The mask lies in the buffer.
 use mathlib.Core.Path.{◌≡◌, sym, ◌∙◌}
 use mathlib.Core.Bool.{false, ◌||◌}
 use Prim.Native.Nat.{◌^◌, ◌<◌}
@@ -13,95 +12,68 @@ use Rattle.sizes.specs.Bounds.{version_limit}
 use Rattle.form.specs.Parts.{FormWith}
 use Rattle.form.proofs.Known.{form-long, form-area}
 use Rattle.form.proofs.Stores.{hold_in}
-use Rattle.answers.specs.Answers.{answered_words}
 use Rattle.rights.proofs.Rights.{right-inside, mayhold-out, mayhold-done}
 use Rattle.rights.proofs.mayhold.Goals as goal
 use Rattle.rights.proofs.mayhold.Goals.{After-counts-z, After-may_hold_at-right, Else-out_of_range}
 
-holds : (c : After-counts-z) →
-    FormWith c.args.words.now c.counts-z.result
+holds : (c : After-counts-z) → FormWith c.args.words.now c.counts-z.result
 holds c = record { form = c.requires; counts = c.counts-z.ensures }
 
-in_range_lem : (c : Else-out_of_range) → let n = c in
-    let a = n.args in
-    let z = n.counts-z.result in
+free : (c : Else-out_of_range) → let a = c.args in
+    let z = c.counts-z.result in
     leb z.sites a.site || leb (2 ^ z.keys) a.mask ≡ false
-in_range_lem c = sym c.out_of_range.ensures ∙ c.if-out_of_range.false
+free c = sym c.out_of_range.ensures ∙ c.if-out_of_range.false
 
-below : (c : Else-out_of_range) → let n = c in
-    n.args.site < n.counts-z.result.sites
+below : (c : Else-out_of_range) → c.args.site < c.counts-z.result.sites
 below c =
-    let n = c in
-    right-inside n.counts-z.result.sites _ (2 ^ n.counts-z.result.keys) _ ((let it : let n = c in
-    let a = n.args in
-    let z = n.counts-z.result in
-    leb z.sites a.site || leb (2 ^ z.keys) a.mask ≡ false = sym c.out_of_range.ensures ∙
-    c.if-out_of_range.false in it))
+    let z = c.counts-z.result in
+    right-inside z.sites _ (2 ^ z.keys) _ (sym c.out_of_range.ensures ∙ c.if-out_of_range.false)
 
-here : (c : After-may_hold_at-right) → let e = c in
-    let n = e in
-    (c.may_hold_at-right.result < version_limit)
-    × (c.may_hold_at-right.result < length n.args.words.now)
+here : (c : After-may_hold_at-right) → let at = c.may_hold_at-right.result in
+    (at < version_limit) × (at < length c.args.words.now)
 here c =
-    let e = c in
+    let z = c.counts-z.result in
+    let H : FormWith c.args.words.now z =
+    record { form = c.requires; counts = c.counts-z.ensures } in
+    let none = sym c.out_of_range.ensures ∙ c.if-out_of_range.false in
     rw c.may_hold_at-right.ensures
-    (hold_in _ _ (form-area _ _ ((let it : FormWith e.args.words.now e.counts-z.result = record {
-      form = e.requires;
-      counts = e.counts-z.ensures;
-    } in it))) _ ((let it : let n = e in
-    n.args.site < n.counts-z.result.sites = let n = e in
-    right-inside n.counts-z.result.sites _ (2 ^ n.counts-z.result.keys) _ ((let it : let n = e in
-    let a = n.args in
-    let z = n.counts-z.result in
-    leb z.sites a.site || leb (2 ^ z.keys) a.mask ≡ false = sym e.out_of_range.ensures ∙
-    e.if-out_of_range.false in it)) in it)))
+    (hold_in _ _ (form-area _ _ H) _ (right-inside z.sites _ (2 ^ z.keys) _ none))
 
 pub counts-z-requires : goal.counts-z-requires
 counts-z-requires c = form-long _ c.requires
 
 pub out_of_range-requires : goal.out_of_range-requires
-out_of_range-requires c = (form-area _ _ (holds (goal.at.out_of_range-requires
-    c).After-counts-z)).ranged
+out_of_range-requires c =
+    (form-area _ _ (holds (goal.at.out_of_range-requires c).After-counts-z)).ranged
 
 pub returns-then-out_of_range : goal.returns-then-out_of_range
-unfolding answered_words
 returns-then-out_of_range c =
-    let r = c in
-    let r = mayhold-out _ _ (holds (goal.at.returns-then-out_of_range c).After-counts-z) _ _ (sym
-    r.out_of_range.ensures ∙ c.if-out_of_range.true) in
+    let r = mayhold-out _ _ (holds (goal.at.returns-then-out_of_range c).After-counts-z) _ _
+    (sym c.out_of_range.ensures ∙ c.if-out_of_range.true) in
     record { answers = r.0; leaves = r.1 }
 
 pub take_away-requires : goal.take_away-requires
-take_away-requires c = let e = c.before in (
+take_away-requires c = (
   holds (goal.at.take_away-requires c).After-counts-z,
   below (goal.at.take_away-requires c).Else-out_of_range,
 )
 
 pub may_hold_at-right-requires : goal.may_hold_at-right-requires
-may_hold_at-right-requires c =
-    let e = c.before.before.before.before in
-    record {
-      ranged = (form-area _ _ (holds (goal.at.may_hold_at-right-requires
-          c).After-counts-z)).ranged;
-      o_lt_sites = below (goal.at.may_hold_at-right-requires c).Else-out_of_range;
-    }
+may_hold_at-right-requires c = record {
+  ranged = (form-area _ _ (holds (goal.at.may_hold_at-right-requires c).After-counts-z)).ranged;
+  o_lt_sites = below (goal.at.may_hold_at-right-requires c).Else-out_of_range;
+}
 
 pub returns : goal.returns
-unfolding answered_words
 returns c =
-    let t = c in
-    let e = t.before.before in
-    let r = mayhold-done _ _ (holds (goal.at.returns c).After-counts-z) _ _ (in_range_lem
-    (goal.at.returns c).Else-out_of_range) _ _ t.take_away.ensures c.may_hold_at-right.ensures
-    in
+    let r = mayhold-done _ _ (holds (goal.at.returns c).After-counts-z) _ _
+    (free (goal.at.returns c).Else-out_of_range) _ _ c.take_away.ensures
+    c.may_hold_at-right.ensures in
     record { answers = r.0; leaves = r.1 }
 
 pub offset_bounds-words-right : goal.offset_bounds-words-right
-offset_bounds-words-right c = omega (
-  arith,
-  here (goal.at.offset_bounds-words-right
-      c).After-may_hold_at-right,
-)
+offset_bounds-words-right c =
+    omega (arith, here (goal.at.offset_bounds-words-right c).After-may_hold_at-right)
 
 pub bounds-words-right : goal.bounds-words-right
 bounds-words-right c = omega (arith, here (goal.at.bounds-words-right c).After-may_hold_at-right)

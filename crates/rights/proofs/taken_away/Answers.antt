@@ -6,7 +6,6 @@ use Rattle.rights.proofs.taken_away.Goals as goal
 
 pub returns : goal.returns
 returns c =
-    let h = c in
-    let a = h.args in
+    let a = c.args in
     away-mask a.z (read_place a.z a.words.now a.at) a.mask _ _
-    h.held_mask-kept.ensures c.without.ensures
+    c.held_mask-kept.ensures c.without.ensures

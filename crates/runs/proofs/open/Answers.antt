@@ -1,55 +1,58 @@
 -- `open` refuses for its cause, or stores the jobs over the free run.
+-- holds: a buffer in form, and the counts read from it. ready, known: no cause.
 -- Assumes nothing.
-use mathlib.Core.Path.{◌≡◌, sym, ap, ◌∙◌}
+use mathlib.Core.Path.{sym, ap, ◌∙◌}
 use Prim.Native.Nat.{ℕ}
 use native.Mathlib.Omega.{arith}
+use Rattle.std.proofs.lemmas.Result.{err_from_is_err_and}
+use Rattle.answers.specs.Refusals.{refusal_number}
+use Rattle.answers.proofs.Refusals.{refusal_some}
 use Rattle.sizes.specs.Bounds.{run_size}
-use Rattle.model.specs.Runs.{open_cause}
-use Rattle.layout.specs.Reading.{store_of}
 use Rattle.form.specs.Parts.{FormWith}
 use Rattle.form.proofs.Known.{form-long}
 use Rattle.status.proofs.Known.{RunKnown, run-known}
-use Rattle.answers.specs.Answers.{answered_words}
 use Rattle.runs.specs.Runs.{put_jobs}
 use Rattle.runs.proofs.Opens.{OpenReady, open_ready, open_refused, open_done_lem}
 use Rattle.runs.proofs.open.Goals as goal
-use Rattle.runs.proofs.open.Goals.{Else-no-ne0}
+use Rattle.runs.proofs.open.Goals.{After-counts-z, In_ok-open_cause}
+
+holds : (c : After-counts-z) → FormWith c.args.words.now c.counts-z.result
+holds c = record { form = c.requires; counts = c.counts-z.ensures }
+
+ready : (c : In_ok-open_cause)
+    → OpenReady c.args.words.now c.counts-z.result c.args.run c.args.jobs.now
+ready c =
+    let H : FormWith c.args.words.now c.counts-z.result =
+    record { form = c.requires; counts = c.counts-z.ensures } in
+    open_ready _ _ _ _ H (sym c.in_ok-open_cause.ensures)
+
+known : (c : In_ok-open_cause) → RunKnown c.args.words.now c.counts-z.result c.args.run
+known c =
+    run-known _ _ _ (record { form = c.requires; counts = c.counts-z.ensures }) (ready c).run
 
 pub counts-z-requires : goal.counts-z-requires
 counts-z-requires c = form-long c.args.words.now c.requires
 
-pub returns-then-no-ne0 : goal.returns-then-no-ne0
-unfolding answered_words
-returns-then-no-ne0 c =
-    let r = open_refused c.args.words.now _ c.args.jobs.now _ c.requires c.open_cause-no.ensures
-    c.if-no-ne0.true in
-    rw (← c.wide-r.ensures)
-    (record { answers = r.0; leaves = r.1 })
+pub open_cause-requires : goal.open_cause-requires
+open_cause-requires c = holds (goal.at.open_cause-requires c).After-counts-z
 
--- Where no cause holds: what was given, the store's counts, the run.
-holds : (c : Else-no-ne0) → FormWith c.args.words.now c.counts-z.result
-holds c = record { form = c.requires; counts = c.counts-z.ensures }
-
-free : (c : Else-no-ne0)
-    → open_cause (store_of c.args.words.now) c.wide-r.result c.args.jobs.now ≡ 0
-free c = sym c.open_cause-no.ensures ∙ c.if-no-ne0.false
-
-ready : (c : Else-no-ne0)
-    → OpenReady c.args.words.now c.counts-z.result c.wide-r.result c.args.jobs.now
-ready c = open_ready _ _ _ _ (holds c) (free c)
-
-known : (c : Else-no-ne0) → RunKnown c.args.words.now c.counts-z.result c.wide-r.result
-known c = run-known _ _ _ (holds c) (ready c).run
+pub returns-in_err-open_cause : goal.returns-in_err-open_cause
+returns-in_err-open_cause c =
+    let p = err_from_is_err_and c.from_residual.result c.from_residual.ensures.1 in
+    let e = c.in_err-open_cause.field-0.0 in
+    let r = open_refused c.args.words.now c.args.run c.args.jobs.now (refusal_number e) c.requires
+    c.in_err-open_cause.ensures (refusal_some e) in
+    rw (p.1, p.2) (record { answers = r.0; leaves = r.1 })
 
 pub run_at-at-requires : goal.run_at-at-requires
 run_at-at-requires c =
-    let e = (goal.at.run_at-at-requires c).Else-no-ne0 in
+    let e = (goal.at.run_at-at-requires c).In_ok-open_cause in
     record { ranged = (known e).area.ranged; r_lt_runs = (ready e).run }
 
 pub put_jobs-n-requires : goal.put_jobs-n-requires
 unfolding run_size
 put_jobs-n-requires c =
-    let e = (goal.at.put_jobs-n-requires c).Else-no-ne0 in
+    let e = (goal.at.put_jobs-n-requires c).In_ok-open_cause in
     let K = known e in
     let L = (ready e).listed in (
       rw c.run_at-at.ensures (omega (arith, K.area.fits)),
@@ -57,14 +60,12 @@ put_jobs-n-requires c =
     )
 
 pub returns : goal.returns
-unfolding answered_words
 returns c =
-    let e = (goal.at.returns c).Else-no-ne0 in
     let l = c.args.words.now in
     let jobs = c.args.jobs.now in
-    let done = open_done_lem l c.counts-z.result _ jobs _ (holds e) (free e)
+    let done = open_done_lem l c.counts-z.result _ jobs _
+    (holds (goal.at.returns c).After-counts-z) (sym c.in_ok-open_cause.ensures)
     (c.put_jobs-n.ensures.stores
     ∙ ap (λ (k : ℕ). put_jobs l k jobs) c.run_at-at.ensures) in
     let r = rw (← c.put_jobs-n.ensures.number) at done in
-    rw (← c.wide-r.ensures)
-    (record { answers = r.0; leaves = r.1 })
+    record { answers = r.0; leaves = r.1 }

@@ -15,18 +15,16 @@ use Rattle.sets.proofs.draws.Goals.{After-place-from, After-place-other}
 from : (c : After-place-from) → Area (length c.args.words.now)
     c.args.z c.place-from.result
 from c =
-    let s = c in
-    let a = s.args in
+    let a = c.args in
     rw c.place-from.ensures
-    (view-area (length a.words.now) a.z a.target a.source s.requires.draw_area a.t)
+    (view-area (length a.words.now) a.z a.target a.source c.requires.draw_area a.t)
 
-other : (c : After-place-other) → let s = c in
-    Area (length s.args.words.now) s.args.z c.place-other.result
+other : (c : After-place-other) →
+    Area (length c.args.words.now) c.args.z c.place-other.result
 other c =
-    let s = c in
-    let a = s.args in
+    let a = c.args in
     rw c.place-other.ensures
-    (view-area (length a.words.now) a.z a.target a.source s.requires.draw_area a.d)
+    (view-area (length a.words.now) a.z a.target a.source c.requires.draw_area a.d)
 
 pub needs-requires : goal.needs-requires
 needs-requires c = record {
@@ -37,49 +35,38 @@ needs-requires c = record {
 pub returns-then-not-needs : goal.returns-then-not-needs
 unfolding draws
 returns-then-not-needs c =
-    let n = c in
-    let p = n in
-    let a = p.args in
+    let a = c.args in
     rw (
       view-key a.z a.words.now a.source a.t,
-      ← p.place-from.ensures,
-      ← n.needs.ensures,
+      ← c.place-from.ensures,
+      ← c.needs.ensures,
     )
-    (first-fails n.needs.result _ (ap not c.if-not-needs.true))
+    (first-fails c.needs.result _ (ap not c.if-not-needs.true))
 
 pub meets-requires : goal.meets-requires
-meets-requires c =
-    let p = c.before.before.before in
-    let s = p in
-    record {
-      area = (s.requires.draw_area.target_in, from (goal.at.meets-requires c).After-place-from);
-      d_lt_keys = (s.requires.t_lt_keys.1, s.requires.t_lt_keys.0);
-    }
+meets-requires c = record {
+  area = (c.requires.draw_area.target_in, from (goal.at.meets-requires c).After-place-from);
+  d_lt_keys = (c.requires.t_lt_keys.1, c.requires.t_lt_keys.0);
+}
 
 pub held-requires : goal.held-requires
 held-requires c =
-    let s = c in
     record {
       area = other (goal.at.held-requires c).After-place-other;
-      k_lt_keys = s.requires.t_lt_keys.1;
+      k_lt_keys = c.requires.t_lt_keys.1;
     }
 
 pub returns : goal.returns
 unfolding draws
 returns c =
-    let m = c in
-    let o = m in
-    let e = o in
-    let n = e in
-    let p = n in
-    let a = p.args in
+    let a = c.args in
     rw (
       view-key a.z a.words.now a.source a.t,
       view-key a.z a.words.now a.source a.d,
-      ← p.place-from.ensures,
-      ← o.place-other.ensures,
-      ← n.needs.ensures,
-      ← m.meets.ensures,
+      ← c.place-from.ensures,
+      ← c.place-other.ensures,
+      ← c.needs.ensures,
+      ← c.meets.ensures,
       ← c.held.ensures,
     )
-    (first_passes n.needs.result _ (ap not e.if-not-needs.false))
+    (first_passes c.needs.result _ (ap not c.if-not-needs.false))

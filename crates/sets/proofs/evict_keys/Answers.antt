@@ -4,7 +4,6 @@
 use mathlib.Core.Path.{ap, ◌∙◌}
 use mathlib.Core.List.{List}
 use Prim.Native.Nat.{ℕ}
-use borrow.Author.Rules.{rules}
 use lib.ListN.{length}
 use Rattle.masks.specs.Mask.{test_bit}
 use Rattle.model.specs.Version.{versions}
@@ -29,25 +28,17 @@ evict_set-gone-requires c = record {
 pub clear_keys-requires : goal.clear_keys-requires
 clear_keys-requires c = cache_in (goal.at.clear_keys-requires c).Start
 
-pub mark_site-requires : goal.mark_site-requires
-mark_site-requires c = search rules
-
-pub shape_of-words : goal.shape_of-words
-shape_of-words c = search rules
-
 pub returns : goal.returns
 unfolding evicted
 returns c =
-    let cleared = c in
-    let set = cleared in
-    let a = set.args in
+    let a = c.args in
     let l = a.words.now in
     let cache = read_place a.z l a.at in
     let E = evict_set (versions a.z.writers) a.z.keys cache (test_bit a.start) in record {
-      answers = set.evict_set-gone.ensures;
+      answers = c.evict_set-gone.ensures;
       leaves = c.mark_site.ensures
           ∙ ap (λ (m : List ℕ). put_mark a.z m a.master a.at)
-          (cleared.clear_keys.ensures
-          ∙ chosen a.z l a.at set.evict_set-gone.result E empty_place cache
-          set.evict_set-gone.ensures);
+          (c.clear_keys.ensures
+          ∙ chosen a.z l a.at c.evict_set-gone.result E empty_place cache
+          c.evict_set-gone.ensures);
     }

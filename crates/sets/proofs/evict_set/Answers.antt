@@ -1,27 +1,27 @@
--- `evict_set` grows by the rule Evict from its start, in the scope of the held keys.
+-- `evict_set` grows from its start by what the held keys need.
 -- Assumes nothing.
-use mathlib.Core.Path.{◌∙◌}
+use Rattle.std.proofs.Common.{rules, ◌∙◌}
 use Rattle.reach.proofs.Frontiers.{first_frontier}
-use Rattle.sets.specs.declared.growth.Rule.{Rule}
-use Rattle.sets.specs.Leads.{RuleArea, leads_to}
+use Rattle.sets.specs.Draws.{evicts_in}
+use Rattle.sets.specs.Leads.{led_within}
 use Rattle.sets.proofs.Leads.{evict-grown}
 use Rattle.sets.proofs.evict_set.Goals as goal
 
-pub grow-requires : goal.grow-requires
-unfolding RuleArea
-grow-requires c =
-    let s = c in
-    let a = s.args in
-    let edge = leads_to a.z a.words.now (Rule.Evict a.at) c.held_mask-scope.result in
-    record {
-      rule_area = s.requires.area;
-      frontier = first_frontier a.z.keys edge a.start s.requires.start_bound;
-    }
+pub grow-requires-clause-frontier : goal.grow-requires-clause-frontier
+grow-requires-clause-frontier c =
+    let a = c.args in
+    let edge = evicts_in a.z a.words.now a.at in (
+      edge,
+      λ t d b i j h. search rules,
+      first_frontier a.z.keys (led_within c.held_mask-scope.result edge) a.start
+          c.requires.start_bound,
+    )
 
 pub returns : goal.returns
 returns c =
-    let h = c in
-    let a = h.args in
-    c.grow.ensures
-    ∙ evict-grown a.z a.words.now a.at h.held_mask-scope.result a.start
-    h.held_mask-scope.ensures
+    let a = c.args in
+    let edge = evicts_in a.z a.words.now a.at in
+    c.grow.ensures edge (λ t d b i j h. search rules)
+    (first_frontier a.z.keys (led_within c.held_mask-scope.result edge) a.start
+    c.requires.start_bound)
+    ∙ evict-grown a.z a.words.now a.at c.held_mask-scope.result a.start c.held_mask-scope.ensures

@@ -8,12 +8,12 @@ use Rattle.script.specs.Tie.{Served}
 use Rattle.streams.specs.Streams.{goes_on_of}
 use Rattle.sheetdesk.proofs.turns.Given as goal
 
-abbrev pub invariant-loop-kept : goal.invariant-loop-kept
-invariant-loop-kept g l =
+abbrev pub invariant-loop-store : goal.invariant-loop-store
+invariant-loop-store g l =
     (l.kept.ready ≡ in_form l.store) × (l.kept.output.all ≤ line_room * l.kept.input.all)
     × (l.kept.input.all ≤ max_input + read_room)
-    × (l.kept.more ≡ goes_on_of l.kept.input l.kept.output)
     × Served l.fn.store l.store l.line l.kept.len l.kept.input.all l.kept.output.all
 
-abbrev pub decreases-loop-kept : goal.decreases-loop-kept
-decreases-loop-kept g l = cond l.kept.more (suc (max_input - l.kept.input.all)) 0
+abbrev pub decreases-loop-store : goal.decreases-loop-store
+decreases-loop-store g l =
+    cond (goes_on_of l.kept.input l.kept.output) (suc (max_input - l.kept.input.all)) 0

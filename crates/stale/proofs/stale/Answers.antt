@@ -1,8 +1,6 @@
 -- `stale` is refused for a site that there isn't, or reads its mark.
+-- holds: a buffer in form, and the counts read from it. site: it is one of the store.
 -- Assumes nothing.
--- A buffer in form, and the counts read from it.
--- The site is one of the store.
-use Prim.Native.Nat.{◌<◌}
 use native.Mathlib.Omega.{arith}
 use lib.ListN.{length}
 use Rattle.sizes.specs.Bounds.{site_at}
@@ -11,44 +9,30 @@ use Rattle.version.proofs.Stores.{site-whole}
 use Rattle.version.proofs.Areas.{mark_in}
 use Rattle.form.specs.Parts.{FormWith}
 use Rattle.form.proofs.Known.{form-long, form-area}
-use Rattle.answers.specs.Answers.{answered_words}
 use Rattle.stale.proofs.Answers.{stale-out, stale-done}
 use Rattle.stale.proofs.stale.Goals as goal
 use Rattle.stale.proofs.stale.Goals.{After-counts-z, Else-z-o}
 
-holds : (c : After-counts-z) → let s = c in
-    FormWith s.args.words.now c.counts-z.result
+holds : (c : After-counts-z) → FormWith c.args.words.now c.counts-z.result
 holds c = record { form = c.requires; counts = c.counts-z.ensures }
 
-below : (c : Else-z-o) → let n = c in
-    n.args.site < n.counts-z.result.sites
-below c = omega (arith, c.if-z-o.false)
-
-site : (c : Else-z-o) → let n = c in
-    let a = n.args in
-    SiteArea (length a.words.now) n.counts-z.result (site_at n.counts-z.result a.site)
+site : (c : Else-z-o) → let z = c.counts-z.result in
+    SiteArea (length c.args.words.now) z (site_at z c.args.site)
 site c =
-    let A = form-area _ _ ((let it : let s = c in
-    FormWith s.args.words.now c.counts-z.result = record {
-      form = c.requires;
-      counts =
-          c.counts-z.ensures;
-    } in it)) in
-    site-whole _ _ A.ranged A.fits _ ((let it : let n = c in
-    n.args.site < n.counts-z.result.sites = omega (arith, c.if-z-o.false) in it))
+    let A = form-area _ _ (record { form = c.requires; counts = c.counts-z.ensures }) in
+    site-whole _ _ A.ranged A.fits _ c.if-z-o.false
 
 pub counts-z-requires : goal.counts-z-requires
 counts-z-requires c = form-long _ c.requires
 
 pub returns-then-z-o : goal.returns-then-z-o
-unfolding answered_words
-returns-then-z-o c = stale-out _ _ (holds (goal.at.returns-then-z-o c).After-counts-z) _
-    c.if-z-o.true
+returns-then-z-o c =
+    stale-out _ _ (holds (goal.at.returns-then-z-o c).After-counts-z) _ c.if-z-o.true
 
 pub site_at-site-requires : goal.site_at-site-requires
 site_at-site-requires c = record {
   ranged = (site (goal.at.site_at-site-requires c).Else-z-o).ranged;
-  o_lt_sites = below (goal.at.site_at-site-requires c).Else-z-o;
+  o_lt_sites = c.if-z-o.false;
 }
 
 pub stale_at-at-requires : goal.stale_at-at-requires
@@ -60,20 +44,15 @@ stale_at-at-requires c =
 
 pub offset_bounds-words-at : goal.offset_bounds-words-at
 offset_bounds-words-at c =
-    let m = c in
-    rw (c.stale_at-at.ensures, m.site_at-site.ensures)
+    rw (c.stale_at-at.ensures, c.site_at-site.ensures)
     (omega (arith, (mark_in _ _ _ (site (goal.at.offset_bounds-words-at c).Else-z-o)).0))
 
 pub bounds-words-at : goal.bounds-words-at
 bounds-words-at c =
-    let m = c in
-    rw (c.stale_at-at.ensures, m.site_at-site.ensures) (mark_in _ _ _
-    (site (goal.at.bounds-words-at c).Else-z-o)).1
+    rw (c.stale_at-at.ensures, c.site_at-site.ensures)
+    (mark_in _ _ _ (site (goal.at.bounds-words-at c).Else-z-o)).1
 
 pub returns : goal.returns
-unfolding answered_words
 returns c =
-    let m = c in
-    rw (c.stale_at-at.ensures, m.site_at-site.ensures)
-    (stale-done _ _ (holds (goal.at.returns c).After-counts-z) _ (below
-    (goal.at.returns c).Else-z-o))
+    rw (c.stale_at-at.ensures, c.site_at-site.ensures)
+    (stale-done _ _ (holds (goal.at.returns c).After-counts-z) _ c.if-z-o.false)

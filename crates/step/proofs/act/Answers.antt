@@ -33,7 +33,6 @@ run_at-at-requires c =
     }
 
 pub returns-then-moved-ne0 : goal.returns-then-moved-ne0
-unfolding stepped_words
 returns-then-moved-ne0 c =
     let b = c in
     let i = b in
@@ -47,7 +46,6 @@ returns-then-moved-ne0 c =
     record { answers = r.0; leaves = r.1 }
 
 pub returns : goal.returns
-unfolding stepped_words
 returns c =
     let f = c in
     let i = f in

@@ -9,24 +9,24 @@ use Rattle.trial.specs.Trials.{tried_of}
 use Rattle.trial.proofs.Cases.{tried-no}
 use Rattle.trial.proofs.try_job.Goals as goal
 
-pub returns-then-runs-r : goal.returns-then-runs-r
-returns-then-runs-r c =
+pub returns-then-z-r : goal.returns-then-z-r
+returns-then-z-r c =
     let s = c in
     let a = s.args in
     let high = step-high (store_of a.words.now) a.r a.j a.n
-    (rw (form-counts a.words.now a.z s.requires) c.if-runs-r.true) in
+    (rw (form-counts a.words.now a.z s.requires) c.if-z-r.true) in
     tried-no _ a.r a.j a.n _ 3 high (λ e. absurd (omega arith))
 
 pub snapshot_on-requires : goal.snapshot_on-requires
 snapshot_on-requires c = record {
   ranged = (form-area _ _ c.requires).ranged;
-  r_lt_runs = c.if-runs-r.false;
+  r_lt_runs = c.if-z-r.false;
 }
 
 pub try_at-requires : goal.try_at-requires
 try_at-requires c =
     let e = c in record {
-      form_with = (e.requires, e.if-runs-r.false);
+      form_with = (e.requires, e.if-z-r.false);
       snapshot_value = c.snapshot_on.ensures;
     }
 

@@ -33,7 +33,7 @@ site_at-cache-requires c =
     let R = form-area a.words.now a.z s.requires.0.form in
     record {
       ranged = R.ranged;
-      o_lt_sites = rw (c.wide-site.ensures, j.job_of-job.ensures) J.site;
+      o_lt_sites = rw j.job_of-job.ensures J.site;
     }
 
 pub read_on-read-requires : goal.read_on-read-requires
@@ -55,9 +55,9 @@ returns c =
     let s = j in
     let a = s.args in
     visit-is a.words.now a.z a.r a.j a.n a.snapshot i.read_on-read.result
-    s.requires.0.form (here (goal.at.returns c).After-read_on-read).mask w.wide-site.result
+    s.requires.0.form (here (goal.at.returns c).After-read_on-read).mask j.job_of-job.result.site
     m.areas-areas.result.master
-    o.site_at-cache.result p.plan_keys-plan.result j.job_of-job.result w.wide-site.ensures
+    o.site_at-cache.result p.plan_keys-plan.result j.job_of-job.result refl
     (master-found a.z m.areas-areas.result m.areas-areas.ensures) o.site_at-cache.ensures
     p.plan_keys-plan.ensures j.job_of-job.ensures
 

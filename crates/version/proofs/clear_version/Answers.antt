@@ -5,7 +5,6 @@ use Rattle.version.proofs.clear_version.Goals as goal
 
 pub returns : goal.returns
 returns c =
-    let b = c in
-    let a = b.args in
-    rw (← clear-version a.z a.words.now a.at, ← b.version_size-n.ensures)
+    let a = c.args in
+    rw (← clear-version a.z a.words.now a.at, ← c.version_size-n.ensures)
     c.zero.ensures

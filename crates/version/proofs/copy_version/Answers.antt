@@ -4,12 +4,11 @@ use Rattle.version.proofs.Versions.{copy-version}
 use Rattle.version.proofs.copy_version.Goals as goal
 
 pub copy-requires : goal.copy-requires
-copy-requires c = let b = c in rw b.version_size-n.ensures b.requires.apart
+copy-requires c = rw c.version_size-n.ensures c.requires.apart
 
 pub returns : goal.returns
 returns c =
-    let b = c in
-    let a = b.args in
+    let a = c.args in
     let l = a.words.now in
-    rw (← copy-version a.z l l a.dst a.src, ← b.version_size-n.ensures)
+    rw (← copy-version a.z l l a.dst a.src, ← c.version_size-n.ensures)
     c.copy.ensures

@@ -16,35 +16,30 @@ use Rattle.version.proofs.meets.Goals as goal
 pub returns-then-not-held : goal.returns-then-not-held
 unfolding supersedes
 returns-then-not-held c =
-    let h = c in
-    let a = h.args in
+    let a = c.args in
     first-fails (held (read_place a.z a.words.now a.target a.d)) _
-    (sym (ap not h.held.ensures) ∙ (ap not c.if-not-held.true))
+    (sym (ap not c.held.ensures) ∙ (ap not c.if-not-held.true))
 
 pub compare-requires : goal.compare-requires
 compare-requires c =
-    let s = c in
-    let a = s.args in
+    let a = c.args in
     let n = length a.words.now in
-    let d = s.requires.d_lt_keys.0 in
-    let own = row_in n a.z a.target s.requires.area.0 a.d a.d d d in
-    let need = row_in n a.z a.source s.requires.area.1 a.t a.d s.requires.d_lt_keys.1 d in
+    let d = c.requires.d_lt_keys.0 in
+    let own = row_in n a.z a.target c.requires.area.0 a.d a.d d d in
+    let need = row_in n a.z a.source c.requires.area.1 a.t a.d c.requires.d_lt_keys.1 d in
     rw (c.row_of-need.ensures, c.row_of-own.ensures) (omega arith, omega arith)
 
 pub returns : goal.returns
 unfolding supersedes dominates
 returns c =
-    let m = c in
-    let b = m in
-    let s = b in
-    let a = s.args in
-    let d = s.requires.d_lt_keys.0 in
+    let a = c.args in
+    let d = c.requires.d_lt_keys.0 in
     let l = a.words.now in
     let at : ℕ → ℕ → Standing = λ x y. standing a.z.writers (clock_at l x) (clock_at l y) in
-    let rows = ap₂ at b.row_of-own.ensures m.row_of-need.ensures in
+    let rows = ap₂ at c.row_of-own.ensures c.row_of-need.ensures in
     let read = standing-word a.z l a.target a.d a.source a.t a.d d
-    s.requires.d_lt_keys.1 d in
+    c.requires.d_lt_keys.1 d in
     c.covering.ensures
-    ∙ ap covering (m.compare.ensures ∙ rows ∙ sym read)
+    ∙ ap covering (c.compare.ensures ∙ rows ∙ sym read)
     ∙ first_passes (held (read_place a.z l a.target a.d)) _
-    (sym (ap not b.held.ensures) ∙ (ap not b.if-not-held.false))
+    (sym (ap not c.held.ensures) ∙ (ap not c.if-not-held.false))

@@ -13,20 +13,18 @@ returns-then-d-k c = rw (eq-eqb _ _ c.if-d-k.true)
 
 pub present-requires : goal.present-requires
 present-requires c =
-    let s = c in
-    let a = s.args in
+    let a = c.args in
     rw c.row_of-row.ensures
-    (row_in (length a.words.now) a.z a.at s.requires.area a.k a.d s.requires.k_lt_keys.0
-    s.requires.k_lt_keys.1)
+    (row_in (length a.words.now) a.z a.at c.requires.area a.k a.d c.requires.k_lt_keys.0
+    c.requires.k_lt_keys.1)
 
 pub returns : goal.returns
 unfolding dependency
 returns c =
-    let s = c in
-    let a = s.args in
+    let a = c.args in
     rw (
       ne_eqb _ _ c.if-d-k.false,
-      present-word a.z a.words.now a.at a.k a.d s.requires.k_lt_keys.0 s.requires.k_lt_keys.1,
+      present-word a.z a.words.now a.at a.k a.d c.requires.k_lt_keys.0 c.requires.k_lt_keys.1,
       ← c.row_of-row.ensures,
     )
     c.present.ensures

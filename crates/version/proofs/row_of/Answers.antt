@@ -6,9 +6,8 @@ use Rattle.version.proofs.row_of.Goals as goal
 
 pub row_at-requires : goal.row_at-requires
 row_at-requires c =
-    let s = c in
-    let a = s.args in
-    let p = s.requires in
+    let a = c.args in
+    let p = c.requires in
     let k = key-lies a.z a.at a.k p.at_lt_place_limit.1 in
     record {
       ranged = p.ranged;

@@ -1,7 +1,7 @@
 -- `layout_fits` makes the layout's test, in two parts.
 -- Assumes nothing.
 -- The test of the counts is that of the record's.
-use mathlib.Core.Path.{◌≡◌, sym, ap₂, ◌∙◌}
+use mathlib.Core.Path.{◌≡◌, refl, sym, ◌∙◌}
 use native.Mathlib.Omega.{arith}
 use Rattle.records.specs.Format.{keys_in, writers_in}
 use Rattle.audit.specs.Parts.{counts_ok}
@@ -13,9 +13,7 @@ tested : (c : After-counts_fit) → let s = c in
     c.counts_fit.result ≡ counts_ok (keys_in s.args.words.now)
     (writers_in s.args.words.now)
 unfolding keys_in writers_in
-tested c =
-    c.counts_fit.ensures ∙ ap₂ counts_ok c.word.ensures.0
-    c.word-w.ensures.0
+tested c = c.counts_fit.ensures
 
 pub returns-then-words-lt7 : goal.returns-then-words-lt7
 returns-then-words-lt7 c = layout-short _ c.if-words-lt7.true
@@ -28,9 +26,7 @@ returns-then-not-counts_fit c =
 pub areas_fit-requires : goal.areas_fit-requires
 unfolding writers_in
 areas_fit-requires c =
-    let t = c in
-    let e = t.word-w.ensures.0 in
-    (omega arith, e, writers-few _ _ (sym t.counts_fit.ensures ∙ c.if-not-counts_fit.false))
+    (omega arith, refl, writers-few _ _ (sym c.counts_fit.ensures ∙ c.if-not-counts_fit.false))
 
 pub returns : goal.returns
 returns c =

@@ -2,7 +2,6 @@
 -- their reads are in order.
 -- Assumes nothing.
 use mathlib.Core.Bool.{So}
-use Prim.Native.Nat.{◌-◌, ◌≤◌}
 use Rattle.words.specs.Tests.{all_below}
 use Rattle.records.specs.Format.{all_reads, read_ok}
 use Rattle.audit.specs.Parts.{Ranked}
@@ -10,9 +9,5 @@ use Rattle.audit.proofs.reads.reads_fit.Given as goal
 
 abbrev pub invariant-loop-i : goal.invariant-loop-i
 invariant-loop-i l =
-    (l.i ≤ l.n) × Ranked l.words l.w l.i l.before
+    Ranked l.words l.w l.i l.before
     × So (all_below l.i (λ j. all_reads l.words j (read_ok l.words j)))
-
-abbrev pub decreases-loop-i : goal.decreases-loop-i
-decreases-loop-i l =
-    l.n - l.i

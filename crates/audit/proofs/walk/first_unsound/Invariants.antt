@@ -1,8 +1,7 @@
 -- `first_unsound` asks each issue. The loop's invariant: those passed are counted, and snapshots.
 -- Assumes nothing.
-use mathlib.Core.Path.{◌≡◌}
+use Rattle.std.proofs.Common.{◌≡◌}
 use mathlib.Core.Bool.{not}
-use Prim.Native.Nat.{◌-◌, ◌≤◌}
 use Rattle.records.specs.Snapshots.{is_snapshot}
 use Rattle.records.specs.Audit.{first_below_of}
 use Rattle.audit.specs.Parts.{Ranked}
@@ -10,9 +9,4 @@ use Rattle.audit.proofs.walk.first_unsound.Given as goal
 
 abbrev pub invariant-loop-i : goal.invariant-loop-i
 invariant-loop-i l =
-    (l.i ≤ l.n) × Ranked l.words l.w l.i l.before × (first_below_of l.i
-    (λ j. not (is_snapshot l.words j)) ≡ 0)
-
-abbrev pub decreases-loop-i : goal.decreases-loop-i
-decreases-loop-i l =
-    l.n - l.i
+    Ranked l.words l.w l.i l.before × (first_below_of l.i (λ j. not (is_snapshot l.words j)) ≡ 0)

@@ -1,31 +1,24 @@
--- `line_end` meets its contract: no byte so far is a line end. Assumes nothing.
+-- `line_end` is the place of the first line end. Assumes nothing.
 use native.Mathlib.Omega.{arith}
-use mathlib.Core.Path.{refl}
-use Prim.Native.Nat.{◌-◌}
-use Rattle.batch.proofs.Whole.{end-here, end_more, end_none}
+use mathlib.Core.Path.{◌≡◌, ap, ◌∙◌}
+use Prim.Native.Nat.{ℕ, ◌+◌}
+use lib.ListN.{drop, length-drop}
+use Rattle.std.proofs.lemmas.List.{take_rest}
+use Rattle.batch.proofs.Whole.{end-place}
 use Rattle.batch.proofs.line.line_end.Goals as goal
 
-pub loop-i-init : goal.loop-i-init
-loop-i-init c = (omega arith, refl)
-
-pub returns-then-text-i-eq10 : goal.returns-then-text-i-eq10
-returns-then-text-i-eq10 c =
-    let t = c in
-    let l = t.loop-i in
-    let s = t.args.text.now in
-    let e = end-here s l.i t.loop-i-test.true c.if-text-i-eq10.true in
-    (omega arith, omega (arith, l.invariant.1, e))
-
-pub loop-i-preserved : goal.loop-i-preserved
-loop-i-preserved c =
-    let t = c in
-    let l = t.loop-i in
-    let s = t.args.text.now in
-    let e = end_more s l.i t.loop-i-test.true c.if-text-i-eq10.false in
-    (omega arith, omega (arith, l.invariant.1, e))
+pub overflow_add-result : goal.overflow_add-result
+overflow_add-result c =
+    let a = c.args in
+    let s = a.text.now in
+    let p = end-place (drop a.at s) c.bytes_before.result
+    (rw (take_rest s a.at) at c.bytes_before.ensures) in
+    omega (arith, p.0, length-drop a.at s)
 
 pub returns : goal.returns
 returns c =
-    let l = c.loop-i in
-    let e = end_none c.args.text.now l.i (omega arith) in
-    (omega arith, omega (arith, l.invariant.1, e))
+    let a = c.args in
+    let s = a.text.now in
+    let p = end-place (drop a.at s) c.bytes_before.result
+    (rw (take_rest s a.at) at c.bytes_before.ensures) in
+    (omega (arith, p.0, length-drop a.at s), ap (λ (n : ℕ). a.at + n) p.1)

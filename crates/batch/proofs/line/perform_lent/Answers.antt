@@ -17,10 +17,7 @@ returns-in-Forecast c =
     let e = k.in-Forecast.is in
     let ok : answer_room ≤ length a.args.answer.now = a.requires.answer_room_in_bounds in record {
       performs = (
-        rw (
-          ← lent-some _ _ e a.args.numbers.now (length a.args.scratch.now),
-          c.wide.ensures,
-        )
+        rw (← lent-some _ _ e a.args.numbers.now (length a.args.scratch.now))
             (f.forecast-n.ensures.answers.does ok),
         a.requires.ready_value,
       );

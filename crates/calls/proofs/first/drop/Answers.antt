@@ -9,8 +9,8 @@ returns c = search exports
 pub returns-then-not-can_make : goal.returns-then-not-can_make
 returns-then-not-can_make c = search exports
 
-pub drop-r-requires : goal.drop-r-requires
-drop-r-requires c = search exports
+pub drop-requires : goal.drop-requires
+drop-requires c = search exports
 
 pub lay-requires : goal.lay-requires
 lay-requires c = search exports

@@ -9,8 +9,8 @@ returns c = search exports
 pub returns-then-not-can_make : goal.returns-then-not-can_make
 returns-then-not-can_make c = search exports
 
-pub evict-r-requires : goal.evict-r-requires
-evict-r-requires c = search exports
+pub evict-requires : goal.evict-requires
+evict-requires c = search exports
 
 pub lay-requires : goal.lay-requires
 lay-requires c = search exports

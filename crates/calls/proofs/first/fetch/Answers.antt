@@ -9,8 +9,8 @@ returns c = search exports
 pub returns-then-not-can_make : goal.returns-then-not-can_make
 returns-then-not-can_make c = search exports
 
-pub fetch-r-requires : goal.fetch-r-requires
-fetch-r-requires c = search exports
+pub fetch-requires : goal.fetch-requires
+fetch-requires c = search exports
 
 pub lay-requires : goal.lay-requires
 lay-requires c = search exports

@@ -9,8 +9,8 @@ returns c = search exports
 pub returns-then-not-can_make : goal.returns-then-not-can_make
 returns-then-not-can_make c = search exports
 
-pub issue-r-requires : goal.issue-r-requires
-issue-r-requires c = search exports
+pub issue-requires : goal.issue-requires
+issue-requires c = search exports
 
 pub lay-requires : goal.lay-requires
 lay-requires c = search exports

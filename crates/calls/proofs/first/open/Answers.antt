@@ -9,8 +9,8 @@ returns c = search exports
 pub returns-then-not-can_make : goal.returns-then-not-can_make
 returns-then-not-can_make c = search exports
 
-pub open-r-requires : goal.open-r-requires
-open-r-requires c = search exports
+pub open-requires : goal.open-requires
+open-requires c = search exports
 
 pub lay-requires : goal.lay-requires
 lay-requires c = search exports

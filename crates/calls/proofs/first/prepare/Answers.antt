@@ -9,8 +9,8 @@ returns c = search exports
 pub returns-then-not-can_make : goal.returns-then-not-can_make
 returns-then-not-can_make c = search exports
 
-pub prepare-r-requires : goal.prepare-r-requires
-prepare-r-requires c = search exports
+pub prepare-requires : goal.prepare-requires
+prepare-requires c = search exports
 
 pub lay-requires : goal.lay-requires
 lay-requires c = search exports

@@ -1,7 +1,6 @@
 -- `forecast` answers where it can be made, and is turned down elsewhere.
 -- Assumes nothing.
-use Rattle.forecast.proofs.Calls.{few-foretold}
-use Rattle.calls.proofs.Forms.{exports, count_same, scratch-not, scratch-made}
+use Rattle.calls.proofs.Forms.{exports, scratch-not, scratch-made}
 use Rattle.calls.proofs.forecasts.forecast.Goals as goal
 
 pub returns-then-not-can_make : goal.returns-then-not-can_make
@@ -12,15 +11,12 @@ returns-then-not-can_make c = record {
 
 pub returns : goal.returns
 returns c = record {
-  answers = search (exports, count_same, few-foretold);
+  answers = search exports;
   leaves = search (exports, scratch-made);
 }
 
-pub forecast-e-requires : goal.forecast-e-requires
-forecast-e-requires c = search exports
+pub forecast-requires : goal.forecast-requires
+forecast-requires c = search exports
 
-pub put_foretold-n-requires : goal.put_foretold-n-requires
-put_foretold-n-requires c = search exports
-
-pub narrow-requires : goal.narrow-requires
-narrow-requires c = search (exports, few-foretold)
+pub lay-requires : goal.lay-requires
+lay-requires c = search exports

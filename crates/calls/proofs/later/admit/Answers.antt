@@ -1,4 +1,4 @@
--- `admit` answers where it can be made, and is turned down elsewhere.
+-- `admit` makes the call where it can be made, and turns it down elsewhere.
 -- Assumes nothing.
 use Rattle.calls.proofs.Forms.{exports}
 use Rattle.calls.proofs.later.admit.Goals as goal
@@ -9,8 +9,8 @@ returns c = search exports
 pub returns-then-not-can_make : goal.returns-then-not-can_make
 returns-then-not-can_make c = search exports
 
-pub admit-r-requires : goal.admit-r-requires
-admit-r-requires c = search exports
+pub admit-requires : goal.admit-requires
+admit-requires c = search exports
 
 pub lay-requires : goal.lay-requires
 lay-requires c = search exports

@@ -9,8 +9,8 @@ returns c = search exports
 pub returns-then-not-can_make : goal.returns-then-not-can_make
 returns-then-not-can_make c = search exports
 
-pub allow-r-requires : goal.allow-r-requires
-allow-r-requires c = search exports
+pub allow-requires : goal.allow-requires
+allow-requires c = search exports
 
 pub lay-requires : goal.lay-requires
 lay-requires c = search exports

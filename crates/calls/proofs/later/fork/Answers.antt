@@ -9,8 +9,8 @@ returns c = search exports
 pub returns-then-not-can_make : goal.returns-then-not-can_make
 returns-then-not-can_make c = search exports
 
-pub fork-r-requires : goal.fork-r-requires
-fork-r-requires c = search exports
+pub fork-requires : goal.fork-requires
+fork-requires c = search exports
 
 pub lay-requires : goal.lay-requires
 lay-requires c = search exports

@@ -9,8 +9,8 @@ returns c = search exports
 pub returns-then-not-can_make : goal.returns-then-not-can_make
 returns-then-not-can_make c = search exports
 
-pub mayhold-r-requires : goal.mayhold-r-requires
-mayhold-r-requires c = search exports
+pub mayhold-requires : goal.mayhold-requires
+mayhold-requires c = search exports
 
 pub lay-requires : goal.lay-requires
 lay-requires c = search exports

@@ -9,8 +9,8 @@ returns c = search exports
 pub returns-then-not-can_make : goal.returns-then-not-can_make
 returns-then-not-can_make c = search exports
 
-pub maysave-r-requires : goal.maysave-r-requires
-maysave-r-requires c = search exports
+pub maysave-requires : goal.maysave-requires
+maysave-requires c = search exports
 
 pub lay-requires : goal.lay-requires
 lay-requires c = search exports

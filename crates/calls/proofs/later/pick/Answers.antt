@@ -1,17 +1,19 @@
 -- `pick` makes the call where it is admitted, and turns it down elsewhere.
 -- Assumes nothing.
 use Rattle.pick.proofs.Picks.{few-picked}
-use Rattle.calls.proofs.Forms.{exports, count_same}
+use borrow.Author.Tests.{not-false}
+use Rattle.calls.proofs.Forms.{exports, can-make-form, can-make-room, done_counted}
 use Rattle.calls.proofs.later.pick.Goals as goal
 
 pub returns : goal.returns
-returns c = search (exports, count_same, few-picked)
+returns c =
+    search (can-make-form, can-make-room, not-false, done_counted, few-picked)
 
 pub returns-then-not-can_make : goal.returns-then-not-can_make
 returns-then-not-can_make c = search exports
 
-pub pick-r-requires : goal.pick-r-requires
-pick-r-requires c = search exports
+pub pick-requires : goal.pick-requires
+pick-requires c = search exports
 
 pub put_picked-n-requires : goal.put_picked-n-requires
 put_picked-n-requires c = search exports

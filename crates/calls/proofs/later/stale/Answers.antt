@@ -1,4 +1,4 @@
--- `stale` answers where it can be made, and is turned down elsewhere.
+-- `stale` makes the call where it can be made, and turns it down elsewhere.
 -- Assumes nothing.
 use Rattle.calls.proofs.Forms.{exports}
 use Rattle.calls.proofs.later.stale.Goals as goal
@@ -9,8 +9,8 @@ returns c = search exports
 pub returns-then-not-can_make : goal.returns-then-not-can_make
 returns-then-not-can_make c = search exports
 
-pub stale-r-requires : goal.stale-r-requires
-stale-r-requires c = search exports
+pub stale-requires : goal.stale-requires
+stale-requires c = search exports
 
 pub lay-requires : goal.lay-requires
 lay-requires c = search exports

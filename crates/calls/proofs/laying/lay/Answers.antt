@@ -1,21 +1,19 @@
--- `lay` puts an answer with one number.
+-- `lay` puts an answer, or a refusal: either has few words.
 -- Assumes nothing.
-use borrow.Author.Rules.{rules}
-use native.Mathlib.Omega.{arith}
-use Rattle.calls.proofs.Forms.{few-answered}
+use Rattle.std.proofs.Common.{arith}
+use Rattle.answers.proofs.Results.{few_result}
+use Rattle.calls.proofs.Forms.{count_same}
 use Rattle.calls.proofs.laying.lay.Goals as goal
 
-pub put_answered-n-requires : goal.put_answered-n-requires
-put_answered-n-requires c = search rules
-
 pub narrow-requires : goal.narrow-requires
-narrow-requires c =
-    let r = c.put_answered-n.ensures in
-    let f = few-answered c.args.r in
-    omega (arith, r.count, f)
-
-pub shape_of-out : goal.shape_of-out
-shape_of-out c = search rules
+narrow-requires g c =
+    let f = few_result g.A.Answer.words g.met.A.Answer.few c.args.r in
+    omega (arith, c.put_result-n.ensures.count, f)
 
 pub returns : goal.returns
-returns c = search rules
+returns g c =
+    let f = few_result g.A.Answer.words g.met.A.Answer.few c.args.r in
+    record {
+      laid = count_same _ _ _ _ _ c.narrow.ensures c.put_result-n.ensures;
+      few = omega (arith, c.narrow.ensures, c.put_result-n.ensures.count, f);
+    }

@@ -12,6 +12,6 @@ returns-then-out-lt-ANSWER c = record {
 
 pub returns : goal.returns
 returns c = record {
-  laid = λ _. record { laid = c.put_two.ensures.laid; count = refl };
+  laid = λ _. c.lay.ensures.laid;
   short = λ h. absurd (omega (arith, h, c.if-out-lt-ANSWER.false));
 }

@@ -1,8 +1,12 @@
 -- `store_tail` stores the number of the last run, then the masks: the words of a fresh tail.
 -- Assumes nothing.
-use mathlib.Core.Path.{◌∙◌}
+use mathlib.Core.Path.{◌∙◌, ap}
 use native.Mathlib.Omega.{arith}
-use lib.ListN.{length-set}
+use Prim.Native.Nat.{◌+◌}
+use lib.ListN.{get_or, length-set, set}
+use Rattle.std.proofs.Common.{rules}
+use Rattle.std.proofs.lemmas.List.{places}
+use Rattle.words.proofs.Words.{put-part}
 use Rattle.sizes.specs.Bounds.{tail_size}
 use Rattle.create.proofs.Tails.{tail-filled}
 use Rattle.create.proofs.tail.store_tail.Goals as goal
@@ -12,24 +16,16 @@ unfolding tail_size
 bounds-words-round c =
     let R = c.requires in omega (arith, R)
 
-pub fill-requires : goal.fill-requires
+pub slice_bounds-fill-end : goal.slice_bounds-fill-end
 unfolding tail_size
-fill-requires c =
-    let s = c in
-    rw length-set (omega (arith, s.requires))
-
-pub shape_of-words : goal.shape_of-words
-shape_of-words c =
-    let n = c in
-    let a = n.args in
-    omega (arith, length-set a.words.now a.at.tail n.narrow.result)
+slice_bounds-fill-end c = rw length-set (omega (arith, c.requires))
 
 pub returns : goal.returns
+unfolding tail_size
 returns c =
-    let f = c in
-    let e = f in
-    let n = e in
-    let a = n.args in
-    f.fill.ensures
-    ∙ rw (e.every_key-every.ensures, n.narrow.ensures)
-    (tail-filled a.z a.words.now a.at.tail)
+    let a = c.args in
+    let m = set a.words.now a.at.tail c.narrow.result in
+    put-part m (a.at.tail + 1) (a.z.sites + a.z.writers) (λ _. c.every_key.result) c.fill.new.self
+    (rw length-set (omega (arith, c.requires))) (c.fill.ensures.len ∙ search (rules, places))
+    (λ i h. ap (λ l. get_or l i 0) (c.fill.ensures.after (λ _ e. e)) ∙ search (rules, places))
+    ∙ rw (c.every_key.ensures, c.narrow.ensures) (tail-filled a.z a.words.now a.at.tail)

@@ -3,7 +3,7 @@
 -- The row of a key.
 use mathlib.Core.Path.{◌≡◌}
 use mathlib.Core.List.{List}
-use Prim.Native.Nat.{ℕ, ◌≤◌, ◌-◌}
+use Prim.Native.Nat.{ℕ, ◌≤◌}
 use lib.ListN.{length}
 use Rattle.words.specs.Numbers.{when}
 use Rattle.words.specs.Words.{put}
@@ -22,7 +22,3 @@ abbrev pub invariant-loop-t : goal.invariant-loop-t
 invariant-loop-t l =
     (l.t ≤ l.z.keys) × (length l.rows ≡ 32) × (l.rows ≡ put no_items_of 0 l.t
     (row l.words l.z l.rule l.scope l.mask))
-
-abbrev pub decreases-loop-t : goal.decreases-loop-t
-decreases-loop-t l =
-    l.n - l.t

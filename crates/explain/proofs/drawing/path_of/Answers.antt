@@ -16,21 +16,16 @@ led_rows-rows-requires c =
 pub shortest_path-requires : goal.shortest_path-requires
 unfolding drawn_edge
 shortest_path-requires c =
-    let w = c in
-    let s = w in
-    let a = s.args in (
-      rows_of a.words.now a.z a.visit a.trial s.requires w.led_rows-rows.result
-          w.led_rows-rows.ensures,
-      s.requires.read,
+    let a = c.args in (
+      rows_of a.words.now a.z a.visit a.trial c.requires c.led_rows-rows.result
+          c.led_rows-rows.ensures,
+      c.requires.read,
     )
 
 pub returns : goal.returns
 unfolding drawn_edge drawn_start
 returns c =
-    let k = c in
-    let w = k in
-    let s = w in
-    let a = s.args in
+    let a = c.args in
     c.shortest_path.ensures
-    ∙ ap item_path (path-drawn a.words.now a.z a.visit a.trial s.requires
-    w.led_rows-rows.result w.led_rows-rows.ensures k.lacking-start.result k.lacking-start.ensures)
+    ∙ ap item_path (path-drawn a.words.now a.z a.visit a.trial c.requires
+    c.led_rows-rows.result c.led_rows-rows.ensures c.lacking-start.result c.lacking-start.ensures)

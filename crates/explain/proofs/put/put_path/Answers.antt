@@ -16,10 +16,8 @@ use Rattle.explain.proofs.put.put_path.Goals as goal
 
 pub returns : goal.returns
 returns c =
-    let p = c in
-    let s = p in
-    let a = s.args in
-    let t = p.put_one-one in
+    let a = c.args in
+    let t = c.put_one-one in
     let keys = window a.keys.now 0 a.n in
     let long = length-window a.keys.now 0 a.n in
     record {
@@ -29,6 +27,6 @@ returns c =
           ∙ put-window t.new.answer a.keys.now 1 0 a.n
           ∙ ap (λ (l : List ℕ). sets l 1 keys) t.ensures.laid
           ∙ over-more (path_word ∷ []) keys a.answer.now
-          (omega (arith, long, s.requires.n_in_bounds.1, s.requires.answer_room_in_bounds));
+          (omega (arith, long, c.requires.n_in_bounds.1, c.requires.answer_room_in_bounds));
       count = rw t.ensures.count (omega (arith, long));
     }

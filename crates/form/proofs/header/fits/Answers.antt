@@ -5,4 +5,4 @@ use Rattle.form.proofs.header.fits.Goals as goal
 
 pub returns : goal.returns
 unfolding sizes_of
-returns c = rw c.areas-s.ensures
+returns c = rw c.areas.ensures

@@ -7,15 +7,11 @@ use Rattle.form.proofs.header.header_right.Goals as goal
 pub returns : goal.returns
 unfolding header_right sizes_of
 returns c =
-    let w4 = c in
-    let w3 = w4 in
-    let w2 = w3 in
-    let w1 = w2 in
     rw (
-      w1.word_is.ensures,
-      w2.word_is-2.ensures,
-      w3.word_is-3.ensures,
-      w4.word_is-4.ensures,
+      c.word_is.ensures,
+      c.word_is-2.ensures,
+      c.word_is-3.ensures,
+      c.word_is-4.ensures,
       c.word_is-5.ensures,
-      w1.areas-s.ensures,
+      c.areas-s.ensures,
     )

@@ -25,9 +25,8 @@ returns-then-words-lt-SIZE c = rw (lt-leb _ _ c.if-words-lt-SIZE.true)
 pub returns-then-not-is_ranged : goal.returns-then-not-is_ranged
 unfolding shaped
 returns-then-not-is_ranged c =
-    let n = c in
     let no = sym c.is_ranged.ensures ∙ c.if-not-is_ranged.true in
-    rw (le-leb _ _ n.if-words-lt-SIZE.false, ← n.counts-z.ensures, no)
+    rw (le-leb _ _ c.if-words-lt-SIZE.false, ← c.counts-z.ensures, no)
 
 pub header_right-requires : goal.header_right-requires
 header_right-requires c = record {
@@ -42,10 +41,9 @@ pub returns : goal.returns
 unfolding shaped
 returns c =
     let e = c.before.before in
-    let n = e in
     rw (
-      le-leb _ _ n.if-words-lt-SIZE.false,
-      ← n.counts-z.ensures,
+      le-leb _ _ e.if-words-lt-SIZE.false,
+      ← e.counts-z.ensures,
       yes (goal.at.returns c).Else-not-is_ranged,
       c.header_right.ensures,
       c.fits.ensures,

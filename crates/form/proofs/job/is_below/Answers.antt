@@ -5,6 +5,4 @@ use Rattle.masks.proofs.Bits.{shifted_one}
 use Rattle.form.proofs.job.is_below.Goals as goal
 
 pub returns : goal.returns
-returns c =
-    let a = c.args in
-    rw (c.wide.ensures, shifted_one a.n 64 (omega arith))
+returns c = rw (shifted_one c.args.n 64 (omega arith))

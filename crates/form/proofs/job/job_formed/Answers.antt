@@ -15,33 +15,28 @@ use Rattle.form.proofs.job.job_formed.Goals.{After-job_at-job}
 inside : (c : After-job_at-job) → let a = c.args in
     c.job_at-job.result + job_size ≤ length a.words.now
 inside c =
-    let s = c in
-    let a = s.args in
+    let a = c.args in
     omega (
       arith,
-      (job-lies a.at a.i s.requires.plan_size_in_bounds.1).1,
+      (job-lies a.at a.i c.requires.plan_size_in_bounds.1).1,
       c.job_at-job.ensures,
-      s.requires.plan_size_in_bounds.0,
+      c.requires.plan_size_in_bounds.0,
     )
 
 pub returns-then-i-n : goal.returns-then-i-n
 unfolding job_formed
 returns-then-i-n c =
-    let e = c in
-    let j = e in
-    let a = j.args in
+    let a = c.args in
     let words = job-words a.words.now a.at a.i (omega arith) in
-    rw (lt-ltb _ _ e.if-i-n.true, words, ← j.job_at-job.ensures)
+    rw (lt-ltb _ _ c.if-i-n.true, words, ← c.job_at-job.ensures)
     c.valid_job.ensures
 
 pub returns-else-i-n : goal.returns-else-i-n
 unfolding job_formed
 returns-else-i-n c =
-    let e = c in
-    let j = e in
-    let a = j.args in
+    let a = c.args in
     let words = job-words a.words.now a.at a.i (omega arith) in
-    rw (le-ltb _ _ e.if-i-n.false, words, ← j.job_at-job.ensures)
+    rw (le-ltb _ _ c.if-i-n.false, words, ← c.job_at-job.ensures)
     c.zero_job.ensures
 
 pub offset_bounds-words-job : goal.offset_bounds-words-job

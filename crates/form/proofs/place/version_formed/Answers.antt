@@ -10,21 +10,16 @@ use Rattle.form.proofs.place.version_formed.Goals as goal
 pub returns-then-held : goal.returns-then-held
 unfolding version_formed
 returns-then-held c =
-    let f = c in
-    let e = f in
-    let h = e in
     rw (
-      sym h.held.ensures ∙ e.if-held.true,
-      ← h.leaders_of-leaders.ensures,
-      f.leaders_formed.ensures,
+      sym c.held.ensures ∙ c.if-held.true,
+      ← c.leaders_of-leaders.ensures,
+      c.leaders_formed.ensures,
       c.has_row.ensures,
     )
 
 pub returns-else-held : goal.returns-else-held
 unfolding version_formed zero_version
 returns-else-held c =
-    let e = c in
-    let h = e in
-    rw (sym h.held.ensures ∙ e.if-held.false)
-    (ap₂ (λ (m : ℕ) (b : Bool). eqb m 0 && b) h.leaders_of-leaders.ensures
+    rw (sym c.held.ensures ∙ c.if-held.false)
+    (ap₂ (λ (m : ℕ) (b : Bool). eqb m 0 && b) c.leaders_of-leaders.ensures
     c.zero_rows.ensures)

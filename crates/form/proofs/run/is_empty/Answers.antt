@@ -8,7 +8,6 @@ present-requires c = rw c.place_size-n.ensures c.requires.fits
 
 pub returns : goal.returns
 returns c =
-    let p = c in
-    let a = p.args in
-    rw (c.present.ensures, p.place_size-n.ensures)
+    let a = c.args in
+    rw (c.present.ensures, c.place_size-n.ensures)
     (flat-place a.z a.words.now a.at)

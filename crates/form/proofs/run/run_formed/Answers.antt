@@ -1,8 +1,6 @@
 -- `run_formed` tests a free run or any other.
 -- Assumes nothing.
-use borrow.Author.Rules.{rules}
 use borrow.Author.Tests.{eq-eqb, ne_eqb}
-use Rattle.sizes.specs.Bounds.{run_size}
 use Rattle.model.specs.Form.{run_formed}
 use Rattle.layout.specs.Reading.{read_run}
 use Rattle.form.proofs.run.run_formed.Goals as goal
@@ -18,19 +16,3 @@ returns-else-state-eq-FREE_STATE c = rw (
   ne_eqb _ _ c.if-state-eq-FREE_STATE.false,
   c.plan_formed.ensures,
 )
-
-pub offset_bounds-words-at : goal.offset_bounds-words-at
-unfolding run_size
-offset_bounds-words-at c = search rules
-
-pub bounds-words-at : goal.bounds-words-at
-unfolding run_size
-bounds-words-at c = search rules
-
-pub free_formed-requires : goal.free_formed-requires
-unfolding run_size
-free_formed-requires c = search rules
-
-pub plan_formed-requires : goal.plan_formed-requires
-unfolding run_size
-plan_formed-requires c = search rules

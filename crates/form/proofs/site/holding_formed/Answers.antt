@@ -27,12 +27,11 @@ use Rattle.form.proofs.site.holding_formed.Goals.{After-allowance_at-at}
 here : (c : After-allowance_at-at) → let a = c.args in
     (c.allowance_at-at.result < version_limit) × (c.allowance_at-at.result < length a.words.now)
 here c =
-    let s = c in
-    rw c.allowance_at-at.ensures (allowance_in _ s.args.z s.args.site s.requires)
+    rw c.allowance_at-at.ensures (allowance_in _ c.args.z c.args.site c.requires)
 
 pub held_mask-kept-requires : goal.held_mask-kept-requires
 held_mask-kept-requires c =
-    let s = c in site-cache _ s.args.z s.args.site s.requires
+    site-cache _ c.args.z c.args.site c.requires
 
 module _ (K : ℕ) (p : Place Version) (m : ℕ) (e : m ≡ mask_below K (λ k. held (p k))) where
   kept-count : count_below K (test_bit m) ≡ held_count K p
@@ -52,23 +51,17 @@ module _ (K : ℕ) (p : Place Version) (m : ℕ) (e : m ≡ mask_below K (λ k. 
 pub returns : goal.returns
 unfolding over read_site
 returns c =
-    let w = c in
-    let u = w in
-    let n = u in
-    let m = n in
-    let t = m in
-    let a = t.args in
+    let a = c.args in
     let l = a.words.now in
     let K = a.z.keys in
     let p = read_place a.z l a.site in
-    let kept = m.held_mask-kept.result in
+    let kept = c.held_mask-kept.result in
     let allowance = read_word_of l (allowance_at a.z a.site) in
     rw (
-      w.wide.ensures,
-      t.allowance_at-at.ensures,
-      n.count_items-count.ensures ∙ kept-count K p kept m.held_mask-kept.ensures,
-      u.without-barred.ensures,
-      kept-right K p kept m.held_mask-kept.ensures a.right,
+      c.allowance_at-at.ensures,
+      c.count_items-count.ensures ∙ kept-count K p kept c.held_mask-kept.ensures,
+      c.without-barred.ensures,
+      kept-right K p kept c.held_mask-kept.ensures a.right,
     )
     (ap (λ (b : Bool). leb allowance K && (b && not (barred K a.right (λ k. held (p k)))))
     (sym (not-ltb allowance (held_count K p))))

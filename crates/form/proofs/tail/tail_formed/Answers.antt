@@ -16,9 +16,8 @@ inside : (c : After-round_at-at) → let a = c.args in
     (end ≤ max_total) × (end ≤ length a.words.now)
 unfolding tail_size
 inside c =
-    let s = c in
-    let q = ordered s.args.z s.requires.ranged in
-    (omega (arith, c.round_at-at.ensures), omega (arith, c.round_at-at.ensures, s.requires.fits))
+    let q = ordered c.args.z c.requires.ranged in
+    (omega (arith, c.round_at-at.ensures), omega (arith, c.round_at-at.ensures, c.requires.fits))
 
 pub overflow_add-hold : goal.overflow_add-hold
 overflow_add-hold c = omega (arith, inside (goal.at.overflow_add-hold c).After-round_at-at)
@@ -59,10 +58,8 @@ rights_formed-requires-2 c =
 pub returns : goal.returns
 unfolding read_tail_of tail_formed
 returns c =
-    let w = c in
     rw (
-      w.wide.ensures,
       c.rights_formed.ensures,
       c.rights_formed-2.ensures,
-      w.round_at-at.ensures,
+      c.round_at-at.ensures,
     )

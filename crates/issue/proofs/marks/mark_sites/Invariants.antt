@@ -1,7 +1,7 @@
 -- `mark_sites` sets the mark of each site. The loop's invariant: those of the sites passed.
 -- Assumes nothing.
 use mathlib.Core.Path.{◌≡◌}
-use Prim.Native.Nat.{◌≤◌, ◌-◌}
+use Prim.Native.Nat.{◌≤◌}
 use lib.ListN.{length}
 use Rattle.words.specs.Numbers.{fold_below}
 use Rattle.issue.specs.Saves.{mark_at}
@@ -9,9 +9,5 @@ use Rattle.issue.proofs.marks.mark_sites.Given as goal
 
 abbrev pub invariant-loop-o : goal.invariant-loop-o
 invariant-loop-o l =
-    (l.o ≤ l.n) × (length l.words ≡ length l.initial.words) × (l.words ≡ fold_below l.o
+    (l.o ≤ l.o-end) × (length l.words ≡ length l.initial.words) × (l.words ≡ fold_below l.o
     (mark_at l.z l.master) l.initial.words)
-
-abbrev pub decreases-loop-o : goal.decreases-loop-o
-decreases-loop-o l =
-    l.n - l.o

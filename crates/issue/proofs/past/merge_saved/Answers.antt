@@ -2,7 +2,7 @@
 -- Assumes nothing.
 use mathlib.Core.Path.{◌≡◌, refl, ap₂, ◌∙◌}
 use mathlib.Core.List.{List}
-use Prim.Native.Nat.{ℕ, ◌-◌, ◌^◌}
+use Prim.Native.Nat.{ℕ, ◌^◌}
 use native.Mathlib.Omega.{arith}
 use Rattle.words.specs.Numbers.{fold_below}
 use Rattle.words.proofs.Numbers.{fold_more}
@@ -17,35 +17,29 @@ loop-k-init c = (omega arith, refl, refl)
 
 pub merge_if-requires : goal.merge_if-requires
 merge_if-requires c =
-    let l = c in
-    let s = l in
     record {
-      saves = rw l.loop-k.invariant.1 s.requires.saves;
+      saves = rw c.loop-k.invariant.1 c.requires.saves;
       k_lt_keys = omega arith;
     }
 
 pub loop-k-preserved : goal.loop-k-preserved
-loop-k-preserved c =
-    let b = c in
-    let l = b in (
-      omega arith,
-      b.merge_if.auto.words ∙ l.loop-k.invariant.1,
-      rw (fold_more, ← l.loop-k.invariant.2) b.merge_if.ensures,
-    )
+loop-k-preserved c = (
+  omega arith,
+  c.merge_if.auto.words ∙ c.loop-k.invariant.1,
+  rw (fold_more, ← c.loop-k.invariant.2) c.merge_if.ensures,
+)
 
 pub returns : goal.returns
 unfolding new_version
 returns c =
-    let l = c in
-    let s = l in
-    let a = s.args in
-    let e : l.loop-k.k ≡ a.z.keys = omega arith in
-    let one = shifted_one a.w 32 (omega (arith, s.requires.saves.ranged)) in
+    let a = c.args in
+    let e : c.loop-k.k ≡ a.z.keys = omega arith in
+    let one = shifted_one a.w 32 (omega (arith, c.requires.saves.ranged)) in
     let step : ℕ → ℕ → List ℕ → List ℕ =
     save_step a.z a.place a.at a.mask a.number.0 in
-    l.loop-k.invariant.2 ∙ ap₂ (λ (n m : ℕ). fold_below n (step m) a.words.now) e one
+    c.loop-k.invariant.2 ∙ ap₂ (λ (n m : ℕ). fold_below n (step m) a.words.now) e one
     ∙ save-keys a.z a.words.now a.place a.at a.mask a.number.0 (2 ^ a.w)
-    s.requires.saves
+    c.requires.saves
 
 pub overflow_cast-leaders : goal.overflow_cast-leaders
 overflow_cast-leaders c = omega (arith, c.requires.saves.ranged)

@@ -1,7 +1,7 @@
 -- `merge_saved` merges each key of the mask. The loop's invariant: the keys passed are merged.
 -- Assumes nothing.
 use mathlib.Core.Path.{◌≡◌}
-use Prim.Native.Nat.{◌≤◌, ◌-◌}
+use Prim.Native.Nat.{◌≤◌}
 use lib.ListN.{length}
 use Rattle.words.specs.Numbers.{fold_below}
 use Rattle.issue.proofs.Masters.{save_step}
@@ -9,10 +9,6 @@ use Rattle.issue.proofs.past.merge_saved.Given as goal
 
 abbrev pub invariant-loop-k : goal.invariant-loop-k
 invariant-loop-k l =
-    (l.k ≤ l.n) × (length l.words ≡ length l.initial.words)
+    (l.k ≤ l.k-end) × (length l.words ≡ length l.initial.words)
     × (l.words ≡ fold_below l.k (save_step l.z l.place l.at l.mask l.number.0 l.leaders)
     l.initial.words)
-
-abbrev pub decreases-loop-k : goal.decreases-loop-k
-decreases-loop-k l =
-    l.n - l.k

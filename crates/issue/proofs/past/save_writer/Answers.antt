@@ -12,33 +12,24 @@ take_in-requires c = search rules
 
 pub set_rows-requires : goal.set_rows-requires
 set_rows-requires c =
-    let take = c in
-    let s = take in
-    let a = s.args in
+    let a = c.args in
     record {
-      writer_area = rw take.take_in.auto.words (takes-writer _ a.z a.at a.place s.requires.takes);
-      w_lt_writers = s.requires.w_lt_writers;
+      writer_area = rw c.take_in.auto.words (takes-writer _ a.z a.at a.place c.requires.takes);
+      w_lt_writers = c.requires.w_lt_writers;
     }
 
 pub set_count-requires : goal.set_count-requires
 set_count-requires c =
-    let rows = c in
-    let take = rows in
-    let s = take in
-    let a = s.args in
-    rw (rows.set_rows.auto.words ∙ take.take_in.auto.words)
-    (writer-first _ a.z a.at (takes-writer _ a.z a.at a.place s.requires.takes))
+    let a = c.args in
+    rw (c.set_rows.auto.words ∙ c.take_in.auto.words)
+    (writer-first _ a.z a.at (takes-writer _ a.z a.at a.place c.requires.takes))
 
 pub shape_of-words : goal.shape_of-words
 shape_of-words c = search rules
 
 pub returns : goal.returns
 returns c =
-    let count = c in
-    let rows = count in
-    let take = rows in
-    let s = take in
-    let a = s.args in
+    let a = c.args in
     writer-saved a.z a.words.now _ _ _ a.at a.place a.read a.w a.mask
-    a.new.0 (omega (arith, s.requires.takes.apart, s.requires.takes.fits)) take.take_in.ensures
-    rows.set_rows.ensures count.set_count.ensures
+    a.new.0 (omega (arith, c.requires.takes.apart, c.requires.takes.fits)) c.take_in.ensures
+    c.set_rows.ensures c.set_count.ensures

@@ -12,25 +12,21 @@ use Rattle.issue.proofs.past.set_if.Goals.{After-writer_row_at-row}
 here : (c : After-writer_row_at-row) → let a = c.args in
     c.writer_row_at-row.result + a.w < length a.words.now
 here c =
-    let s = c in
-    let a = s.args in
+    let a = c.args in
     rw c.writer_row_at-row.ensures
-    (row_room _ a.z a.at a.k a.w s.requires.writer_area.fits s.requires.w_lt_writers.1
-    s.requires.w_lt_writers.0)
+    (row_room _ a.z a.at a.k a.w c.requires.writer_area.fits c.requires.w_lt_writers.1
+    c.requires.w_lt_writers.0)
 
 pub set_count-requires : goal.set_count-requires
 set_count-requires c = here (goal.at.set_count-requires c).After-writer_row_at-row
 
 pub returns-then-has : goal.returns-then-has
 returns-then-has c =
-    let r = c in
-    let t = r in
-    let s = t in
-    let a = s.args in
+    let a = c.args in
     c.set_count.ensures
-    ∙ rw r.writer_row_at-row.ensures
-    (row-yes a.z a.words.now a.at a.w a.mask a.new.0 a.k s.requires.writer_area.fits
-    s.requires.w_lt_writers.0 s.requires.w_lt_writers.1 (sym t.has.ensures ∙ t.if-has.true))
+    ∙ rw c.writer_row_at-row.ensures
+    (row-yes a.z a.words.now a.at a.w a.mask a.new.0 a.k c.requires.writer_area.fits
+    c.requires.w_lt_writers.0 c.requires.w_lt_writers.1 (sym c.has.ensures ∙ c.if-has.true))
 
 pub returns-else-has : goal.returns-else-has
 returns-else-has c =

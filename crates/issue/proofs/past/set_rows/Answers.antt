@@ -2,7 +2,7 @@
 -- Assumes nothing.
 use mathlib.Core.Path.{◌≡◌, refl, ap, ◌∙◌}
 use mathlib.Core.List.{List}
-use Prim.Native.Nat.{ℕ, ◌-◌}
+use Prim.Native.Nat.{ℕ}
 use native.Mathlib.Omega.{arith}
 use Rattle.words.specs.Numbers.{fold_below}
 use Rattle.words.proofs.Numbers.{fold_more}
@@ -15,32 +15,26 @@ loop-k-init c = (omega arith, refl, refl)
 
 pub set_if-requires : goal.set_if-requires
 set_if-requires c =
-    let l = c in
-    let s = l in
     record {
-      writer_area = rw l.loop-k.invariant.1 s.requires.writer_area;
-      w_lt_writers = (s.requires.w_lt_writers, omega arith);
+      writer_area = rw c.loop-k.invariant.1 c.requires.writer_area;
+      w_lt_writers = (c.requires.w_lt_writers, omega arith);
     }
 
 pub loop-k-preserved : goal.loop-k-preserved
-loop-k-preserved c =
-    let b = c in
-    let l = b in (
-      omega arith,
-      b.set_if.auto.words ∙ l.loop-k.invariant.1,
-      rw (fold_more, ← l.loop-k.invariant.2) b.set_if.ensures,
-    )
+loop-k-preserved c = (
+  omega arith,
+  c.set_if.auto.words ∙ c.loop-k.invariant.1,
+  rw (fold_more, ← c.loop-k.invariant.2) c.set_if.ensures,
+)
 
 pub returns : goal.returns
 returns c =
-    let l = c in
-    let s = l in
-    let a = s.args in
-    let e : l.loop-k.k ≡ a.z.keys = omega arith in
+    let a = c.args in
+    let e : c.loop-k.k ≡ a.z.keys = omega arith in
     let step : ℕ → List ℕ → List ℕ = row_step a.z a.at a.w a.mask a.new.0 in
-    l.loop-k.invariant.2 ∙ ap (λ (n : ℕ). fold_below n step a.words.now) e
-    ∙ row-keys a.z a.words.now a.at s.requires.writer_area.fits a.w a.mask a.new.0
-    s.requires.w_lt_writers
+    c.loop-k.invariant.2 ∙ ap (λ (n : ℕ). fold_below n step a.words.now) e
+    ∙ row-keys a.z a.words.now a.at c.requires.writer_area.fits a.w a.mask a.new.0
+    c.requires.w_lt_writers
 
 pub shape_of-words : goal.shape_of-words
 shape_of-words c = c.loop-k.invariant.1

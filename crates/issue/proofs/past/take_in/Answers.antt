@@ -2,7 +2,7 @@
 -- Assumes nothing.
 use mathlib.Core.Path.{◌≡◌, refl, ap, ◌∙◌}
 use mathlib.Core.List.{List}
-use Prim.Native.Nat.{ℕ, ◌-◌}
+use Prim.Native.Nat.{ℕ}
 use native.Mathlib.Omega.{arith}
 use Rattle.words.specs.Numbers.{fold_below}
 use Rattle.words.proofs.Numbers.{fold_more}
@@ -15,32 +15,26 @@ loop-k-init c = (omega arith, refl, refl)
 
 pub take_if-requires : goal.take_if-requires
 take_if-requires c =
-    let l = c in
-    let s = l in
     record {
-      takes = rw l.loop-k.invariant.1 s.requires;
+      takes = rw c.loop-k.invariant.1 c.requires;
       k_lt_keys = omega arith;
     }
 
 pub loop-k-preserved : goal.loop-k-preserved
-loop-k-preserved c =
-    let b = c in
-    let l = b in (
-      omega arith,
-      b.take_if.auto.words ∙ l.loop-k.invariant.1,
-      rw (fold_more, ← l.loop-k.invariant.2) b.take_if.ensures,
-    )
+loop-k-preserved c = (
+  omega arith,
+  c.take_if.auto.words ∙ c.loop-k.invariant.1,
+  rw (fold_more, ← c.loop-k.invariant.2) c.take_if.ensures,
+)
 
 pub returns : goal.returns
 returns c =
-    let l = c in
-    let s = l in
-    let a = s.args in
-    let e : l.loop-k.k ≡ a.z.keys = omega arith in
+    let a = c.args in
+    let e : c.loop-k.k ≡ a.z.keys = omega arith in
     let step : ℕ → List ℕ → List ℕ = take_step a.z a.at a.place a.read in
-    l.loop-k.invariant.2 ∙ ap (λ (n : ℕ). fold_below n step a.words.now) e
-    ∙ take-keys a.z a.words.now a.at (omega (arith, s.requires.apart, s.requires.fits))
-    a.place a.read s.requires.apart
+    c.loop-k.invariant.2 ∙ ap (λ (n : ℕ). fold_below n step a.words.now) e
+    ∙ take-keys a.z a.words.now a.at (omega (arith, c.requires.apart, c.requires.fits))
+    a.place a.read c.requires.apart
 
 pub shape_of-words : goal.shape_of-words
 shape_of-words c = c.loop-k.invariant.1

@@ -3,11 +3,10 @@
 use mathlib.Core.Path.{refl}
 use Rattle.words.specs.Tests.{all_below}
 use Rattle.text.specs.Bytes.{same_bytes}
-use Rattle.text.specs.Fields.{in_first_of, fields_of, first_of}
 use Rattle.lines.specs.Grammar.{form_at}
 use Rattle.lines.specs.Rows.{is_row, agree}
 use Rattle.lines.proofs.table.rows.Goals as goal
 
 pub returns : goal.returns
-unfolding agree all_below is_row form_at same_bytes first_of fields_of in_first_of
+unfolding agree all_below is_row form_at same_bytes
 returns c = refl

@@ -2,21 +2,16 @@
 -- each turn. Assumes nothing.
 use mathlib.Core.Path.{◌≡◌}
 use mathlib.Core.List.{◌++◌}
-use Prim.Native.Nat.{◌+◌, ◌*◌, ◌-◌, ◌<◌, ◌≤◌}
+use Prim.Native.Nat.{◌+◌, ◌*◌, ◌≤◌}
 use lib.ListN.{length, take, drop}
 use Rattle.listing.specs.Lines.{joined_on}
 use Rattle.lister.specs.Numbered.{next_room}
 use Rattle.lister.proofs.Puts.{call_texts}
 use Rattle.lister.proofs.small.put_calls.Given as goal
 
-abbrev pub invariant-loop-j : goal.invariant-loop-j
-invariant-loop-j l =
-    (0 < l.j) × (l.j ≤ length l.digits) × (length l.out ≡ length l.initial.out) × (length l.words
-    ≡ length l.initial.words)
-    × (l.end ≤ l.at + next_room * l.j)
-    × (take l.end l.out ++ joined_on (call_texts (drop l.j l.digits))
+abbrev pub invariant-loop-digit : goal.invariant-loop-digit
+invariant-loop-digit l =
+    (length l.out ≡ length l.initial.out) × (length l.words ≡ length l.initial.words)
+    × (l.end ≤ l.at + next_room * (l.digit-index + 1))
+    × (take l.end l.out ++ joined_on (call_texts (drop l.digit-index l.digit-items))
     ≡ take l.initial.end l.initial.out ++ joined_on (call_texts (drop 1 l.digits)))
-
-abbrev pub decreases-loop-j : goal.decreases-loop-j
-decreases-loop-j l =
-    length l.digits - l.j

@@ -8,11 +8,10 @@ use Rattle.lister.proofs.small.put_words.Goals as goal
 
 pub returns : goal.returns
 returns c =
-    let m = c in
-    let w = m in
-    let a = w.args in (
+    let a = c.args in (
       omega arith,
       put_both (take a.at a.out.now) (kind_word (get_or a.words.now 0 0))
-          (numbers_text (drop 1 a.words.now)) w.put_kind-word_end.ensures.1
-          m.put_numbers.ensures.1,
+          (numbers_text (drop 1 a.words.now))
+          (rw c.word_of.ensures.word at c.put_bytes-word_end.ensures.1)
+          c.put_numbers.ensures.1,
     )

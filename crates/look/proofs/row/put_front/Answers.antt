@@ -4,4 +4,4 @@ use Rattle.look.proofs.row.put_front.Goals as goal
 
 pub returns : goal.returns
 returns c =
-    let p = c in rw (← p.word-number.ensures) p.put_three.ensures
+    rw (← c.from.ensures) c.put_three.ensures

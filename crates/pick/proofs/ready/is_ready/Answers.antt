@@ -18,41 +18,35 @@ use Rattle.pick.proofs.ready.is_ready.Goals.{After-job_of-job, After-run_at-at}
 here : (c : After-run_at-at)
     → c.run_at-at.result + snapshot_offset ≤ length c.args.words.now
 here c =
-    let s = c in
-    run_index s.args.words.now s.args.z s.args.r s.requires.used_run _ c.run_at-at.ensures
+    run_index c.args.words.now c.args.z c.args.r c.requires.used_run _ c.run_at-at.ensures
 
 low : (c : After-job_of-job) → let a = c.args in
     (a.j < max_jobs) × (c.job_of-job.result.upstream < 2 ^ max_jobs)
 low c =
-    let s = c in
-    let a = s.args in (
-      job-low a.words.now a.z a.r s.requires.used_run a.j s.requires.j_bound,
+    let a = c.args in (
+      job-low a.words.now a.z a.r c.requires.used_run a.j c.requires.j_bound,
       rw c.job_of-job.ensures
-          (upstream-low a.words.now a.z a.r s.requires.used_run a.j s.requires.j_bound),
+          (upstream-low a.words.now a.z a.r c.requires.used_run a.j c.requires.j_bound),
     )
 
 pub run_at-at-requires : goal.run_at-at-requires
 run_at-at-requires c =
-    let s = c in
-    let a = s.args in
+    let a = c.args in
     record {
-      ranged = (jobs-known a.words.now a.z a.r s.requires.used_run).area.ranged;
-      r_lt_runs = s.requires.used_run.run;
+      ranged = (jobs-known a.words.now a.z a.r c.requires.used_run).area.ranged;
+      r_lt_runs = c.requires.used_run.run;
     }
 
 pub returns : goal.returns
 unfolding ready
 returns c =
-    let j = c in
-    let n = j in
-    let s = n in
-    let a = s.args in
+    let a = c.args in
     let x = (store_of a.words.now).run a.r in
-    let done : get_or a.words.now (n.run_at-at.result + done_offset) 0 ≡ x.done =
-    ap (λ (i : ℕ). get_or a.words.now (i + done_offset) 0) n.run_at-at.ensures
-    ∙ done-word a.words.now a.z a.r s.requires.used_run in
-    let before : j.job_of-job.result.upstream ≡ (x.job a.j).upstream =
-    ap (λ (y : PlannedJob). y.upstream) j.job_of-job.ensures in
+    let done : get_or a.words.now (c.run_at-at.result + done_offset) 0 ≡ x.done =
+    ap (λ (i : ℕ). get_or a.words.now (i + done_offset) 0) c.run_at-at.ensures
+    ∙ done-word a.words.now a.z a.r c.requires.used_run in
+    let before : c.job_of-job.result.upstream ≡ (x.job a.j).upstream =
+    ap (λ (y : PlannedJob). y.upstream) c.job_of-job.ensures in
     let asked : c.is_unready.result ≡ not_ready x.done (x.job a.j).upstream a.j =
     c.is_unready.ensures ∙ ap₂ (λ (m u : ℕ). not_ready m u a.j) done before in
     ap not asked

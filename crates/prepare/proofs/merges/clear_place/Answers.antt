@@ -18,9 +18,8 @@ shape_of-words c = search rules
 
 pub returns : goal.returns
 returns c =
-    let n = c in
-    let a = n.args in
+    let a = c.args in
     let l = a.words.now in
     c.zero.ensures
-    ∙ ap (λ (k : ℕ). put l a.at k (λ _. 0)) n.place_size-n.ensures
+    ∙ ap (λ (k : ℕ). put l a.at k (λ _. 0)) c.place_size-n.ensures
     ∙ zeros-place a.z l a.at

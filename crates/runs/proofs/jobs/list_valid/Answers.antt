@@ -47,6 +47,5 @@ each_valid-requires c =
 pub returns : goal.returns
 unfolding list_valid listed_count
 returns c =
-    let e = c.before in
-    rw (eq-eqb _ _ e.if-jobs-n.false, enough (goal.at.returns c).Else-not-is_between)
+    rw (eq-eqb _ _ c.if-jobs-n.false, enough (goal.at.returns c).Else-not-is_between)
     c.each_valid.ensures

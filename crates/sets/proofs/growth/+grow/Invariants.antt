@@ -5,4 +5,4 @@ use Rattle.reach.specs.Closure.{outside}
 use Rattle.sets.proofs.growth.+grow.Given as goal
 
 abbrev pub decreases-grow : goal.decreases-grow
-decreases-grow l = outside l.z.keys (test_bit l.mask)
+decreases-grow g l = outside l.keys (test_bit l.mask)

@@ -7,8 +7,6 @@ use Rattle.sets.proofs.missing.lacking.Goals as goal
 
 pub returns : goal.returns
 returns c =
-    let h = c in
-    let s = h in
-    let a = s.args in
+    let a = c.args in
     lacking-mask (versions a.z.writers) a.z.keys (read_place a.z a.words.now a.at)
-    a.mask _ _ s.requires.mask_bound h.held_mask-carried.ensures c.without.ensures
+    a.mask _ _ c.requires.mask_bound c.held_mask-carried.ensures c.without.ensures

@@ -1,5 +1,5 @@
 -- The places passed hold the join.
-use Rattle.std.proofs.Common.{◌≡◌, ◌-◌, ◌≤◌}
+use Rattle.std.proofs.Common.{◌≡◌, ◌≤◌}
 use Rattle.words.specs.Words.{put}
 use Rattle.clock.specs.Clock.{join, clock_at}
 use Rattle.sheetdesk_c.proofs.clocks.raise.Given as goal
@@ -8,6 +8,3 @@ abbrev pub invariant-loop-i : goal.invariant-loop-i
 invariant-loop-i l =
     (l.i ≤ l.w)
     × (l.target ≡ put l.fn.target 0 l.i (join (clock_at l.fn.target 0) (clock_at l.source 0)))
-
-abbrev pub decreases-loop-i : goal.decreases-loop-i
-decreases-loop-i l = l.w - l.i

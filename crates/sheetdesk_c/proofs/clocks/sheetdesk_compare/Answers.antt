@@ -15,4 +15,4 @@ compare-requires c =
 pub returns : goal.returns
 returns c =
     let y = sym c.are_alike.ensures ∙ c.if-not-are_alike.false in
-    c.standing_number.ensures ∙ compared-done _ _ _ y c.compare.ensures
+    c.from.ensures ∙ compared-done _ _ _ y c.compare.ensures

@@ -1,6 +1,5 @@
 -- It answers 2 for clocks that aren't alike, and otherwise the test.
 use Rattle.std.proofs.Common.{sym, ◌∙◌, arith}
-use Rattle.words.specs.Numbers.{when}
 use Rattle.sheetdesk_c.proofs.Lengths.{one-length, covers-no, covers-test}
 use Rattle.sheetdesk_c.proofs.clocks.sheetdesk_covers.Goals as goal
 
@@ -13,14 +12,7 @@ compare-requires c =
     let y = sym c.are_alike.ensures ∙ c.if-not-are_alike.false in
     let e = one-length _ _ y in (omega arith, omega (arith, e))
 
-pub returns-then-yes : goal.returns-then-yes
-unfolding when
-returns-then-yes c =
+pub returns : goal.returns
+returns c =
     let y = sym c.are_alike.ensures ∙ c.if-not-are_alike.false in
-    covers-test _ _ _ _ y (sym c.if-yes.true ∙ c.covering-yes.ensures) c.compare.ensures
-
-pub returns-else-yes : goal.returns-else-yes
-unfolding when
-returns-else-yes c =
-    let y = sym c.are_alike.ensures ∙ c.if-not-are_alike.false in
-    covers-test _ _ _ _ y (sym c.if-yes.false ∙ c.covering-yes.ensures) c.compare.ensures
+    c.from.ensures ∙ covers-test _ _ _ _ y c.covering.ensures c.compare.ensures

@@ -188,11 +188,7 @@ returns-then-job_limit-j c = rw (
 
 pub is_allowed-requires : goal.is_allowed-requires
 is_allowed-requires c =
-    let n = c.before.before.before.before.before in (
-      omega arith,
-      rw n.run_at-at.ensures (known (goal.at.is_allowed-requires
-          c).After-run_at-at).state,
-    )
+    rw c.run_at-at.ensures (known (goal.at.is_allowed-requires c).After-run_at-at).state
 
 pub returns-then-not-is_allowed : goal.returns-then-not-is_allowed
 unfolding job_cause refuse

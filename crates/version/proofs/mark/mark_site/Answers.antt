@@ -15,8 +15,7 @@ inside c = mark_in _ c.args.z c.args.site c.requires.1
 
 pub stale_mask-mask-requires : goal.stale_mask-mask-requires
 stale_mask-mask-requires c =
-    let s = c in
-    (s.requires.0, site-cache (length s.args.words.now) s.args.z s.args.site s.requires.1)
+    (c.requires.0, site-cache (length c.args.words.now) c.args.z c.args.site c.requires.1)
 
 pub offset_bounds-words-at : goal.offset_bounds-words-at
 offset_bounds-words-at c =

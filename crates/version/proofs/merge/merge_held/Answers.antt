@@ -5,6 +5,7 @@ use mathlib.Core.Logic.{inl, inr, ⊎_elim}
 use Prim.Native.Nat.{ℕ, ◌+◌, max}
 use native.Mathlib.Omega.{arith}
 use lib.ListN.{length, get_or, set, length-set}
+use Rattle.words.proofs.Orders.{max-by}
 use Rattle.clock.specs.Clock.{clock_at}
 use Rattle.sizes.specs.Bounds.{version_size, past_row_at, row_at}
 use Rattle.sizes.proofs.Offsets.{row_lies, past-row-lies}
@@ -19,49 +20,37 @@ bounds-words-dst c = omega (arith, c.requires.0.target)
 
 pub merged_leaders-leading-requires : goal.merged_leaders-leading-requires
 merged_leaders-leading-requires c =
-    let q = c in
-    let p = q in
-    let s = p in
-    let a = s.args in
-    let M = s.requires.0 in
-    let own = (row_lies a.z a.dst a.k s.requires.1).ends in
-    let other = (past-row-lies a.z a.past a.k s.requires.1).ends in
-    rw (p.row_at-own.ensures, q.past_row_at-other.ensures)
+    let a = c.args in
+    let M = c.requires.0 in
+    let own = (row_lies a.z a.dst a.k c.requires.1).ends in
+    let other = (past-row-lies a.z a.past a.k c.requires.1).ends in
+    rw (c.row_at-own.ensures, c.past_row_at-other.ensures)
     (omega (arith, M.ranged), omega (arith, M.target), omega (arith, M.source))
 
 pub version_issue-old-requires : goal.version_issue-old-requires
 unfolding version_size
 version_issue-old-requires c =
-    let s = c in
-    omega (arith, s.requires.0.target)
+    omega (arith, c.requires.0.target)
 
 pub set_version_issue-requires : goal.set_version_issue-requires
 unfolding version_size
 set_version_issue-requires c =
-    let s = c in
-    omega (arith, s.requires.0.target)
+    omega (arith, c.requires.0.target)
 
 pub bounds-words-dst-2 : goal.bounds-words-dst-2
 unfolding version_size
 bounds-words-dst-2 c =
-    let i = c in
-    let o = i in
-    let s = o in
-    omega (arith, s.requires.0.target, i.set_version_issue.auto.words)
+    omega (arith, c.requires.0.target, c.set_version_issue.auto.words)
 
 pub merge_past-requires : goal.merge_past-requires
 unfolding version_size
 merge_past-requires c =
-    let r = c in
-    let i = r in
-    let m = i in
-    let s = m in
-    let M = s.requires.0 in
-    let long : length (set i.set_version_issue.new.words (s.args.dst + 1)
-    m.merged_leaders-leading.result) ≡ length s.args.words.now =
-    simp length-set i.set_version_issue.auto.words in record {
+    let M = c.requires.0 in
+    let long : length (set c.set_version_issue.new.words (c.args.dst + 1)
+    c.merged_leaders-leading.result) ≡ length c.args.words.now =
+    simp length-set c.set_version_issue.auto.words in record {
       ranged = M.ranged;
-      apart = rw (long, r.row_at-first.ensures ∙ row_first _ _)
+      apart = rw (long, c.row_at-first.ensures ∙ row_first _ _)
           (record {
             dst_in = omega (arith, M.target);
             src_in = M.source;
@@ -71,33 +60,24 @@ merge_past-requires c =
 
 pub shape_of-words : goal.shape_of-words
 shape_of-words c =
-    let p = c in
-    let i = p in
-    p.merge_past.auto.words ∙ simp length-set i.set_version_issue.auto.words
+    c.merge_past.auto.words ∙ simp length-set c.set_version_issue.auto.words
 
 pub returns : goal.returns
 returns c =
-    let p = c in
-    let r = p in
-    let i = r in
-    let g = i in
-    let v = g in
-    let m = v in
-    let q = m in
-    let w = q in
-    let s = w in
-    let a = s.args in
+    let a = c.args in
     let l = a.words.now in
-    let lead : m.merged_leaders-leading.result ≡ merged_leaders a.z.writers (get_or l (a.dst + 1)
+    let lead : c.merged_leaders-leading.result ≡ merged_leaders a.z.writers (get_or l (a.dst + 1)
     0)
     (clock_at l (row_at a.z a.dst a.k)) a.leaders
     (clock_at l (past_row_at a.z a.past a.k)) =
-    rw (← w.row_at-own.ensures, ← q.past_row_at-other.ensures) m.merged_leaders-leading.ensures in
+    rw (← c.row_at-own.ensures, ← c.past_row_at-other.ensures) c.merged_leaders-leading.ensures in
     let number : ℕ → ℕ = λ n. max n a.number.0 in
-    let later = g.later-new.ensures ∙ ap number v.version_issue-old.ensures in
-    let stored : i.set_version_issue.new.words
+    let later = ap (λ k. k.0) c.max-new.ensures
+    ∙ max-by (λ k. k.0) c.version_issue-old.result a.number
+    ∙ ap number c.version_issue-old.ensures in
+    let stored : c.set_version_issue.new.words
     ≡ set l a.dst (max (get_or l a.dst 0) a.number.0) =
-    i.set_version_issue.ensures ∙ ap (set l a.dst) later in
-    (rw (r.row_at-first.ensures ∙ row_first _ _, stored, lead) at p.merge_past.ensures)
-    ∙ merge-version a.z a.k l a.dst a.number.0 a.leaders a.past s.requires.1
-    s.requires.0.apart
+    c.set_version_issue.ensures ∙ ap (set l a.dst) later in
+    (rw (c.row_at-first.ensures ∙ row_first _ _, stored, lead) at c.merge_past.ensures)
+    ∙ merge-version a.z a.k l a.dst a.number.0 a.leaders a.past c.requires.1
+    c.requires.0.apart

@@ -19,46 +19,32 @@ version_issue-old-requires c = omega (arith, c.requires.0.target)
 pub returns-then-not-is_held : goal.returns-then-not-is_held
 unfolding held read_version
 returns-then-not-is_held c =
-    let p = c in
-    let i = p in
-    let h = i in
-    let v = h in
-    let a = v.args in
+    let a = c.args in
     let blank : held (read_version a.z a.words.now a.dst) ≡ false =
-    rw (← v.version_issue-old.ensures) (sym h.is_held.ensures ∙ i.if-not-is_held.true) in
-    let r = version-merged a.z a.k a.words.now p.put_version.new.words a.dst a.number.0 a.leaders
-    a.past (rw (merge-unheld-left a.z.writers a.k _ _ blank) p.put_version.ensures) in
+    rw (← c.version_issue-old.ensures) (sym c.is_held.ensures ∙ c.if-not-is_held.true) in
+    let r = version-merged a.z a.k a.words.now c.put_version.new.words a.dst a.number.0 a.leaders
+    a.past (rw (merge-unheld-left a.z.writers a.k _ _ blank) c.put_version.ensures) in
     record { merges = r.0; frame = r.1.0; same = r.1.1 }
 
 pub returns-then-is_held : goal.returns-then-is_held
 unfolding held read_version
 returns-then-is_held c =
-    let m = c in
-    let j = m in
-    let g = j in
-    let i = g in
-    let h = i in
-    let v = h in
-    let a = v.args in
+    let a = c.args in
     let mine : So (held (read_version a.z a.words.now a.dst)) =
-    rw (← v.version_issue-old.ensures) (sym h.is_held.ensures ∙ i.if-not-is_held.false) in
-    let other = sym g.is_held-2.ensures ∙ j.if-is_held.true in
-    let r = version-merged a.z a.k a.words.now m.merge_held.new.words a.dst a.number.0 a.leaders
-    a.past (rw (merge-both a.z.writers a.k _ _ mine other) m.merge_held.ensures) in
+    rw (← c.version_issue-old.ensures) (sym c.is_held.ensures ∙ c.if-not-is_held.false) in
+    let other = sym c.is_held-2.ensures ∙ c.if-is_held.true in
+    let r = version-merged a.z a.k a.words.now c.merge_held.new.words a.dst a.number.0 a.leaders
+    a.past (rw (merge-both a.z.writers a.k _ _ mine other) c.merge_held.ensures) in
     record { merges = r.0; frame = r.1.0; same = r.1.1 }
 
 pub returns-else-is_held : goal.returns-else-is_held
 unfolding held read_version
 returns-else-is_held c =
-    let g = c in
-    let i = g in
-    let h = i in
-    let v = h in
-    let a = v.args in
+    let a = c.args in
     let l = a.words.now in
     let mine : So (held (read_version a.z l a.dst)) =
-    rw (← v.version_issue-old.ensures) (sym h.is_held.ensures ∙ i.if-not-is_held.false) in
-    let other = sym g.is_held-2.ensures ∙ c.if-is_held.false in
+    rw (← c.version_issue-old.ensures) (sym c.is_held.ensures ∙ c.if-not-is_held.false) in
+    let other = sym c.is_held-2.ensures ∙ c.if-is_held.false in
     let r = version-merged a.z a.k l l a.dst a.number.0 a.leaders a.past (rw
     (merge-unheld-right a.z.writers a.k _ _ mine other) (sym
     (part-again (version-laws a.z) l a.dst))) in

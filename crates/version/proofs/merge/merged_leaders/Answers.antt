@@ -7,8 +7,7 @@ use Rattle.version.proofs.merge.merged_leaders.Goals as goal
 pub returns-then-leading-eq0 : goal.returns-then-leading-eq0
 unfolding merged_leaders
 returns-then-leading-eq0 c =
-    let i = c in
-    rw (← i.named-leading.ensures, eq-eqb _ _ i.if-leading-eq0.true) c.present_writers.ensures
+    rw (← c.named-leading.ensures, eq-eqb _ _ c.if-leading-eq0.true) c.present_writers.ensures
 
 pub returns : goal.returns
 unfolding merged_leaders

@@ -9,16 +9,13 @@ use Rattle.version.proofs.moved.number_of.Goals as goal
 
 pub version_issue-requires : goal.version_issue-requires
 version_issue-requires c =
-    let s = c in
-    let a = s.args in
+    let a = c.args in
     rw c.key_at-version.ensures
-    (issue_in (length a.words.now) a.z a.at s.requires.area a.k s.requires.k_lt_keys)
+    (issue_in (length a.words.now) a.z a.at c.requires.area a.k c.requires.k_lt_keys)
 
 pub returns : goal.returns
 unfolding read_version
 returns c =
-    let v = c in
-    let s = v in
-    let a = s.args in
-    rw (place_at_lem a.z a.words.now a.at a.k s.requires.k_lt_keys)
-    (c.version_issue.ensures ∙ ap (read_word_of a.words.now) v.key_at-version.ensures)
+    let a = c.args in
+    rw (place_at_lem a.z a.words.now a.at a.k c.requires.k_lt_keys)
+    (c.version_issue.ensures ∙ ap (read_word_of a.words.now) c.key_at-version.ensures)

@@ -10,27 +10,17 @@ use Rattle.version.proofs.moved.would_stay.Goals as goal
 pub returns : goal.returns
 unfolding stays_by_of stays_other_by
 returns c =
-    let first = c in
-    let behind = first in
-    let covers = behind in
-    let n = covers in
-    let m = n in
-    let theirs = m in
-    let mine = theirs in
-    let pasts = mine in
-    let lead = pasts in
-    let s = lead in
-    let a = s.args in
+    let a = c.args in
     let z = a.z in
     let x = read_place z a.words.now a.a a.k in
     let y = read_place z a.words.now a.b a.k in
     let merged = leaders_merged z.writers a.k x y in record {
-      first = kept-is z.writers z.keys x y _ _ _ _ _ _ merged first.is_kept-first.ensures
-          mine.number_of-mine.ensures theirs.number_of-theirs.ensures m.leaders_of-m.ensures
-          lead.leading-leaders.ensures (covers.covering-covers.ensures ∙
-          pasts.compare_pasts-standing.ensures.covers);
+      first = kept-is z.writers z.keys x y _ _ _ _ _ _ merged c.is_kept-first.ensures
+          c.number_of-mine.ensures c.number_of-theirs.ensures c.leaders_of-m.ensures
+          c.leading-leaders.ensures (c.covering-covers.ensures ∙
+          c.compare_pasts-standing.ensures.covers);
       second = kept-is z.writers z.keys y x _ _ _ _ _ _ merged c.is_kept-second.ensures
-          theirs.number_of-theirs.ensures mine.number_of-mine.ensures n.leaders_of-n.ensures
-          lead.leading-leaders.ensures (behind.covered-behind.ensures ∙
-          pasts.compare_pasts-standing.ensures.covered);
+          c.number_of-theirs.ensures c.number_of-mine.ensures c.leaders_of-n.ensures
+          c.leading-leaders.ensures (c.covered-behind.ensures ∙
+          c.compare_pasts-standing.ensures.covered);
     }
