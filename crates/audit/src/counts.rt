@@ -7,9 +7,10 @@ ghost use Rattle.audit.specs.Parts.{Raised, Lowered, Least};
 use crate::issues::Issue;
 use crate::reading::fold_reads;
 
-// The counts, raised by those of the issue's reads.
-pub fn raise(issue: Issue<'_>, reach: [u32; 16]) -> [u32; 16]
-    ensures { Raised issue.entry.w (read_reach issue.entry.words.now issue.entry.i) reach result }
+// Raises the counts by those of the issue's reads.
+pub fn raise(issue: Issue<'_>, reach: &mut [u32; 16])
+    ensures { Raised issue.entry.w (read_reach issue.entry.words.now issue.entry.i)
+        reach.old reach.new }
 {
     let words = issue.words;
     let w = issue.w;
@@ -18,8 +19,8 @@ pub fn raise(issue: Issue<'_>, reach: [u32; 16]) -> [u32; 16]
         reach,
         |reach, read|
             requires { (w ≤ 16) × (read.counts + w ≤ length words.now) }
-            ensures { Raised w (clock_at words.entry.now read.counts) reach result }
-        { merged(reach, words, read.counts, w) },
+            ensures { Raised w (clock_at words.entry.now read.counts) reach.old reach.new }
+        { merge(reach, words, read.counts, w) },
     )
 }
 
@@ -29,30 +30,32 @@ pub fn least_counts(issue: Issue<'_>) -> [u32; 16]
 {
     let words = issue.words;
     let w = issue.w;
+    let mut least = [u32::MAX; 16];
     fold_reads(
         issue,
-        [u32::MAX; 16],
+        &mut least,
         |least, read|
             requires { (w ≤ 16) × (read.counts + w ≤ length words.now) }
-            ensures { Lowered w (clock_at words.entry.now read.counts) least result }
-        { lowered(least, words, read.counts, w) },
-    )
+            ensures { Lowered w (clock_at words.entry.now read.counts) least.old least.new }
+        { lower(least, words, read.counts, w) },
+    );
+    least
 }
 
 // Each count becomes the larger of itself and that of the clock at an index.
-fn merged(reach: [u32; 16], words: &[u32], at: usize, w: usize) -> [u32; 16]
+fn merge(reach: &mut [u32; 16], words: &[u32], at: usize, w: usize)
     requires { (w ≤ 16) × (at + w ≤ length words.now) }
-    ensures { Raised w (clock_at words.now at) reach result }
+    ensures { Raised w (clock_at words.now at) reach.old reach.new }
 {
-    combined(reach, words, at, w, |count, other| count.max(other))
+    combine(reach, words, at, w, |count, other| count.max(other))
 }
 
 // No count stays above that of the clock at an index, unless that is 0, and none rises.
-fn lowered(least: [u32; 16], words: &[u32], at: usize, w: usize) -> [u32; 16]
+fn lower(least: &mut [u32; 16], words: &[u32], at: usize, w: usize)
     requires { (w ≤ 16) × (at + w ≤ length words.now) }
-    ensures { Lowered w (clock_at words.now at) least result }
+    ensures { Lowered w (clock_at words.now at) least.old least.new }
 {
-    combined(least, words, at, w, least_of)
+    combine(least, words, at, w, least_of)
 }
 
 // The smaller of two counts, or the first where the second is 0.
@@ -62,22 +65,21 @@ fn least_of(least: u32, count: u32) -> u32
     if count == 0 { least } else { least.min(count) }
 }
 
-// The counts, each put together with that of the clock at an index.
-fn combined<F: Fn(u32, u32) -> u32>(
-    counts: [u32; 16],
+// Puts each count together with that of the clock at an index.
+fn combine<F: Fn(u32, u32) -> u32>(
+    counts: &mut [u32; 16],
     words: &[u32],
     at: usize,
     w: usize,
     join: F,
-) -> [u32; 16]
+)
     requires in_bounds { (w ≤ 16) × (at + w ≤ length words.now) }
     requires callable { F.IsAlwaysCallable join }
     ensures { (u : ℕ) → u < w
-        → F.post join (get_or counts u 0) (get_or words.now (at + u) 0) (get_or result u 0) }
+        → F.post join (get_or counts.old u 0) (get_or words.now (at + u) 0)
+        (get_or counts.new u 0) }
 {
-    let mut new = counts;
     for u in 0..w {
-        new[u] = join(counts[u], words[at + u]);
+        counts[u] = join(counts[u], words[at + u]);
     }
-    new
 }

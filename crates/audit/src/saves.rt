@@ -16,7 +16,13 @@ pub fn keys_read(issue: Issue<'_>) -> u32
     requires { KeysLow issue.words.now issue.i }
     ensures { KeysAmong issue.entry.words.now issue.entry.i result }
 {
-    fold_reads(issue, 0, |keys, read| with_item(keys, read.key))
+    let mut keys = 0;
+    fold_reads(
+        issue,
+        &mut keys,
+        |keys, read| *keys = with_item(*keys, read.key),
+    );
+    keys
 }
 
 // Whether each read of the issue counts up to every issue before issue j that saved its key.

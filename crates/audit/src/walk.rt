@@ -36,25 +36,26 @@ fn is_snapshot(issue: Issue<'_>, prior: [u32; 16]) -> bool
     if issue.words[7 + 4 * issue.i + 3] == 0 {
         return true;
     }
-    walk_back(issue, keys_read(issue), prior, raise(issue, [0; 16]))
+    let mut reach = [0; 16];
+    raise(issue, &mut reach);
+    walk_back(issue, keys_read(issue), prior, &mut reach)
 }
 
 // The walk from the issue before this one back to the first. Once the counts reach all that is
 // left, none of them is raised any more.
-fn walk_back(issue: Issue<'_>, keys: u32, prior: [u32; 16], start: [u32; 16]) -> bool
+fn walk_back(issue: Issue<'_>, keys: u32, prior: [u32; 16], reach: &mut [u32; 16]) -> bool
     requires readable { Readable issue.words.now }
     requires among { KeysAmong issue.words.now issue.i keys }
     requires ranked { Ranked issue.words.now issue.w issue.i prior }
     ensures { let i = issue.entry.i in
-        result ≡ walk issue.entry.words.now i i (clock_at start 0) }
+        result ≡ walk issue.entry.words.now i i (clock_at reach.old 0) }
 {
     let mut ranks = prior;
-    let mut reach = start;
     for j in (0..issue.i).rev() {
-        if reach_all(&ranks, &reach, issue.w, j + 1) {
+        if reach_all(&ranks, reach, issue.w, j + 1) {
             return rest_counted(issue, j + 1, keys, &mut ranks);
         }
-        if !visit(issue, j, keys, &mut ranks, &mut reach) {
+        if !visit(issue, j, keys, &mut ranks, reach) {
             return false;
         }
     }
@@ -97,6 +98,6 @@ fn visit(
     if !saves_fine(issue, earlier, keys) {
         return false;
     }
-    *reach = raise(issue.at(j), *reach);
+    raise(issue.at(j), reach);
     true
 }

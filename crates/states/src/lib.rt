@@ -19,6 +19,16 @@ pub enum Row {
     Forecast = 7,
 }
 
+impl From<Row> for u32 {
+    // The row's number.
+    fn from(row: Row) -> u32
+        ensures number { result ≡ row_number row }
+        ensures bound { result < 8 }
+    {
+        row as u32
+    }
+}
+
 // The states of a run, in the order of the table's columns. They and the marks are plain numbers,
 // since they are words of a buffer that other programs write too.
 pub const FREE_STATE: u32 = 0;
@@ -65,11 +75,11 @@ pub fn is_allowed(row: Row, state: u32) -> bool
     requires { state < 3 }
     ensures { result ≡ allowed (row_number row) state }
 {
-    let at = (row as u32 * 3 + state) as usize;
+    let at = (u32::from(row) * 3 + state) as usize;
     ALLOWED[at] == 1
 }
 
-// The rows, states and marks above are those of the definitions.
+// The rows, states and marks above are those of the definitions; u32::from gives a row's number.
 pub fn numbers()
     ensures open { row_number Row.Open ≡ open_row_of }
     ensures prepare { row_number Row.Prepare ≡ prepare_row }

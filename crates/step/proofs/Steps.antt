@@ -1,12 +1,13 @@
--- What step comes to on a buffer in form: step-refused, by its cause; step-broken; step-done.
+-- What step comes to on a buffer in form: step-refused, by its cause; turned_answer, by a trial's;
+-- step-broken; step-done.
 -- Assumes nothing.
 use mathlib.Core.Path.{◌≡◌, refl, sym, ap, ◌∙◌}
 use mathlib.Core.Bool.{cond, So, ◌&&◌}
 use mathlib.Core.Logic.{◌≢◌}
 use mathlib.Core.List.{List, [], ◌∷◌}
-use Prim.Native.Nat.{ℕ, ◌<◌, ◌^◌, ◌≤◌}
+use Prim.Native.Nat.{ℕ, ◌<◌, ◌^◌}
 use lib.Bits.{bit_and}
-use lib.ListN.{set, length}
+use lib.ListN.{set}
 use Rattle.words.specs.Tests.{any_below}
 use Rattle.masks.specs.Mask.{test_bit, mask_below, without}
 use Rattle.sizes.specs.declared.Counts.{Counts}
@@ -17,20 +18,19 @@ use Rattle.model.specs.Step.{step_reads, step_fetch, step_pull, step_moved, step
 use Rattle.model.specs.Calls.{step, rule_of}
 use Rattle.layout.specs.Reading.{store_of}
 use Rattle.layout.specs.Buffer.{written, in_form}
-use Rattle.layout.specs.Calls.{leaves}
+use Rattle.layout.specs.Calls.{on, call_on, leaves}
 use Rattle.layout.proofs.RunUpdates.{put-state}
 use Rattle.form.proofs.Known.{form-again, Ends, ends-refused, ends-done}
 use Rattle.trial.specs.declared.Visit.{Visit}
 use Rattle.trial.specs.declared.Trial.{Trial}
-use Rattle.trial.specs.Trials.{Finds}
+use Rattle.trial.specs.Trials.{Finds, tried, tried_of}
+use Rattle.trial.proofs.Cases.{refused_as}
 use Rattle.trial.proofs.Trials.{visit-known}
 use Rattle.trial.proofs.Finds.{found-counts, found-run, found-taken, found-pulled, found-read, found-reads, moved-mask, moved-some, moved_none}
 use Rattle.step.proofs.Divisions.{from-snapshot, from-cache, from-master}
-use native.Mathlib.Omega.{arith}
-use Rattle.answers.specs.Answers.{max_answer}
-use Rattle.std.specs.Prelude.{Result, Ok, Err}
+use Rattle.std.specs.Prelude.{Result, Err}
 use Rattle.answers.specs.declared.refusal.Refusal.{Refusal}
-use Rattle.step.specs.declared.Stepped.{Stepped}
+use Rattle.answers.specs.Refusals.{refusal_number}
 use Rattle.step.specs.Answers.{stepped_words}
 
 -- What is done where there is no cause.
@@ -49,6 +49,14 @@ step-refused l r j n m F e h =
     let s = store_of l in
     let rule : rule_of (step r j n) s ≡ unless m (act s r j n) = rw e (step_rule_lem r j n s) in
     ends-refused (step r j n) l m (act s r j n) F rule h
+
+-- Where the trial tells a cause, that is the answer.
+pub turned_answer : (l : List ℕ) (r j n x : ℕ) (t : Result (Visit × Trial) Refusal) (e : Refusal)
+    → So (in_form l) → tried t ≡ tried_of (store_of l) r j n x → t ≡ Err e
+    → stepped_words (Err e) ≡ answer (call_on (on (step r j n)) l)
+turned_answer l r j n x t e F told is =
+    let f = refused_as (store_of l) r j n x (refusal_number e) (sym (ap tried is) ∙ told) in
+    (step-refused l r j n (refusal_number e) F f.0 f.1).0
 
 -- ---- by what was found
 

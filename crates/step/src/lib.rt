@@ -37,6 +37,7 @@ pub enum Stepped {
 }
 
 // A job of a run reads its keys, on a branch (CR 10: a line).
+#[tactic(auto, using(crate::proofs::Steps::turned_answer))]
 pub fn step(words: &mut [u32], run: u32, job: u32, line: u32) -> Result<Stepped, Refusal>
     requires { So (in_form words.old) }
     ensures answers { stepped_words result

@@ -84,9 +84,11 @@ pub fn put_bytes(out: &mut [u8], at: usize, bytes: &[u8]) -> usize
         × (take result out.new ≡ take at out.old ++ bytes.now)
         × (out.new ≡ paste out.old at bytes.now (length bytes.now)) }
 {
-    let end = at + bytes.len();
-    out[at..end].copy_from_slice(bytes);
-    end
+    // By copy_from_slice the library would need memmove.
+    for i in 0..bytes.len() {
+        out[at + i] = bytes[i];
+    }
+    at + bytes.len()
 }
 
 // Puts a line's first field after the first at bytes of out.

@@ -27,5 +27,8 @@ pub fn copy_from(words: &mut [u32], dst: usize, from: &[u32], src: usize, n: usi
     ensures { words.new
         ≡ put words.old dst n (λ i. get_or from.now (src + i) 0) }
 {
-    words[dst..dst + n].copy_from_slice(&from[src..src + n]);
+    // By copy_from_slice the library would need memmove.
+    for i in 0..n {
+        words[dst + i] = from[src + i];
+    }
 }

@@ -12,7 +12,6 @@ use Rattle.model.specs.Outcome.{broken_state}
 use Rattle.form.proofs.Known.{form-area}
 use Rattle.status.proofs.Statuses.{spoiled-words}
 use Rattle.trial.proofs.Known.{run_index}
-use Rattle.step.specs.Answers.{stepped_words}
 use Rattle.trial.proofs.Finds.{found-run}
 use Rattle.step.proofs.Steps.{step-broken, step-done}
 use Rattle.step.proofs.act.Goals as goal

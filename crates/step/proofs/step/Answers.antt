@@ -3,7 +3,6 @@
 use Rattle.std.proofs.lemmas.Result.{err_from_is_err_and}
 use Rattle.form.proofs.Known.{form-long}
 use Rattle.trial.proofs.Cases.{refused_as, found_as}
-use Rattle.step.specs.Answers.{stepped_words}
 use Rattle.step.proofs.Steps.{step-refused}
 use Rattle.step.proofs.step.Goals as goal
 

@@ -22,5 +22,7 @@ returns c =
     (λ s h. absurd (omega arith))
     (λ r s t l k h.
     let x = first_at b a.i + r in
-    let q : Lowered a.w (clock_at b (read_at_of b x + 1)) s t = search rules in
+    let u = h.step in
+    let p : Lowered a.w (clock_at b (read_at_of b x + 1)) h.from.now h.to.now = search rules in
+    let q : Lowered a.w (clock_at b (read_at_of b x + 1)) s t = rw (h.before, h.after) at p in
     lower-turn b a.i a.w r s t _ k q (counts-are b x)))

@@ -18,9 +18,11 @@ returns c =
     let a = c.args.issue in
     let b = a.words.now in
     raise-done _ _ _ _ _ _ refl
-    (folds-keep _ (λ r m. Raised a.w (reach_of b a.i r) c.args.reach m) _ _ _
-    c.fold_reads.ensures (raise-start b a.i a.w c.args.reach)
+    (folds-keep _ (λ r m. Raised a.w (reach_of b a.i r) c.args.reach.now m) _ _ _
+    c.fold_reads.ensures (raise-start b a.i a.w c.args.reach.now)
     (λ r s t l k h.
     let x = first_at b a.i + r in
-    let q : Raised a.w (clock_at b (read_at_of b x + 1)) s t = search rules in
-    raise-turn b a.i r a.w c.args.reach s t _ k q (counts-are b x)))
+    let u = h.step in
+    let p : Raised a.w (clock_at b (read_at_of b x + 1)) h.from.now h.to.now = search rules in
+    let q : Raised a.w (clock_at b (read_at_of b x + 1)) s t = rw (h.before, h.after) at p in
+    raise-turn b a.i r a.w c.args.reach.now s t _ k q (counts-are b x)))

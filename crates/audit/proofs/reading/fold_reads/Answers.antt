@@ -17,9 +17,9 @@ returns-in_default g c =
     absurd (handed-end c.args.issue c.loop-r._r _ c.loop-r-test.true c.loop-r.invariant.place _
     c.read_from.ensures c.in_default.is)
 
-pub step-value-requires : goal.step-value-requires
+pub step-requires : goal.step-requires
 unfolding number_at
-step-value-requires g c =
+step-requires g c =
     let e = handed-is c.args.issue c.loop-r._r _ c.loop-r-test.true c.loop-r.invariant.place _
     c.read_from.ensures _ c.in-Some.is in
     rw e (c.requires.callable _ _ (c.loop-r._r, c.loop-r-test.true, refl))
@@ -32,7 +32,14 @@ loop-r-preserved g c =
     c.read_from.ensures _ c.in-Some.is in
     record {
       place = rw e (read-onward a.words.now a.i c.loop-r._r);
-      folded = folds-more _ _ _ _ _ c.loop-r.invariant.folded (rw e at c.step-value.ensures);
+      folded =
+          folds-more _ _ _ _ _ c.loop-r.invariant.folded (record {
+            from = _;
+            to = _;
+            before = refl;
+            step = rw e at c.step.ensures;
+            after = refl;
+          });
     }
 
 pub returns : goal.returns

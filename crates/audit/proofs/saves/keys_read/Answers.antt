@@ -18,5 +18,7 @@ returns c =
     (folds-keep _ (λ r m. Among b a.i r m) _ _ _ c.fold_reads.ensures
     (λ s h. absurd (omega arith))
     (λ r s t l k h.
-    let q : t ≡ with_bit s (key_of b (first_at b a.i + r)) = search rules in
+    let u = h.step in
+    let p : h.to.now ≡ with_bit h.from.now (key_of b (first_at b a.i + r)) = search rules in
+    let q : t ≡ with_bit s (key_of b (first_at b a.i + r)) = rw (h.before, h.after) at p in
     keys-turn b a.i r s _ t k refl q))

@@ -63,7 +63,7 @@ returns c =
     let l : c.args.j < issues_in a.words.now = omega
     (arith, R.1, a.in_order.1, a.in_order.0.header.issues) in
     let e = c.at.ensures in
-    let S : Raised a.w (read_reach a.words.now c.args.j) c.args.reach.now c.raise.result =
+    let S : Raised a.w (read_reach a.words.now c.args.j) c.args.reach.now c.raise.new.reach =
     rw (e.0, e.1, e.3) at c.raise.ensures in
     record {
       reach_value =

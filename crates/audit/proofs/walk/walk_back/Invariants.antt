@@ -11,4 +11,4 @@ abbrev pub invariant-loop-j : goal.invariant-loop-j
 invariant-loop-j l =
     Ranked l.issue.words.now l.issue.w l.j l.ranks
     × (walk l.issue.words.now l.issue.i l.j (clock_at l.reach 0)
-    ≡ walk l.issue.words.now l.issue.i l.issue.i (clock_at l.fn.start 0))
+    ≡ walk l.issue.words.now l.issue.i l.issue.i (clock_at l.fn.reach 0))
